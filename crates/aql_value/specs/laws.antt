@@ -1,0 +1,4 @@
+pub mod Falls
+pub mod Keyed
+pub mod Ranks
+pub mod Strict

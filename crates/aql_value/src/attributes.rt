@@ -1,0 +1,105 @@
+ghost use Rattle.std.specs.Prelude.{◌≡◌, [], OnOk, OnErr};
+ghost use Rattle.aql_value.specs.View.{tree_of};
+ghost use Rattle.aql_value.specs.Attributes.{with_attribute, attribute};
+ghost use Rattle.aql_value.specs.Fields.{fields_in};
+ghost use Rattle.aql_value.specs.Place.{IsPlace};
+
+use crate::texts::recall_utf8;
+use crate::values::{Member, recall_well_formed};
+use crate::{Members, OutOfMemory, Text, Value};
+use std::alloc::Global;
+use std::cmp::Ordering;
+
+impl Members {
+    ghost use Rattle.std.specs.Prelude.{length, option_map, slice_get};
+
+    /// No attributes.
+    pub fn new(alloc: Global) -> Members
+        ensures { result ≡ [] }
+    {
+        Members {
+            entries: Vec::new(alloc),
+        }
+    }
+
+    /// How many attributes there are.
+    pub fn len(&self) -> usize
+        ensures { result ≡ length self.now }
+    {
+        self.entries.len()
+    }
+
+    /// The name at a place in the order of the names, counted from 0; `None` exactly where there
+    /// is no such place.
+    pub fn name(&self, at: usize) -> Option<&Text>
+        ensures { option_map (λ t. t.now) result ≡ option_map (λ f. f.0) (slice_get self.now at) }
+    {
+        match self.entries.get(at) {
+            Some(entry) => Some(&entry.name),
+            None => None,
+        }
+    }
+
+    /// The value at a place in the order of the names, counted from 0; `None` exactly where there
+    /// is no such place.
+    pub fn value_at(&self, at: usize) -> Option<&Value>
+        ensures { option_map (λ v. tree_of v.now) result ≡ option_map (λ f. f.1) (slice_get self.now at) }
+    {
+        match self.entries.get(at) {
+            Some(entry) => Some(&entry.value),
+            None => None,
+        }
+    }
+
+    /// The value of a name; `None` exactly where there is no attribute of this name.
+    pub fn value(&self, name: &str) -> Option<&Value>
+        ensures { option_map (λ v. tree_of v.now) result ≡ attribute name.now self.now }
+    {
+        match place_of(&self.entries, name) {
+            Ok(at) => Some(&self.entries[at].value),
+            Err(_) => None,
+        }
+    }
+
+    /// Sets an attribute, in place of the one of this name if there is one. Where memory runs out
+    /// all stays as it was.
+    pub fn set(&mut self, name: Text, value: Value) -> Result<(), OutOfMemory>
+        ensures ok { OnOk result (self.new ≡ with_attribute name (tree_of value) self.old) }
+        ensures err { OnErr result (self.new ≡ self.old) }
+    {
+        recall_well_formed(&value);
+        recall_utf8(&name);
+        set_in(&mut self.entries, name, value)
+    }
+}
+
+// The place of a name, or the place where it would be put.
+fn place_of(entries: &[Member], name: &str) -> Result<usize, usize>
+    ensures { IsPlace result name.now (fields_in entries.now) }
+{
+    for (i, entry) in entries.iter().enumerate() {
+        match entry.name.as_str().cmp(name) {
+            Ordering::Less => {}
+            Ordering::Equal => return Ok(i),
+            Ordering::Greater => return Err(i),
+        }
+    }
+    Err(entries.len())
+}
+
+fn set_in(entries: &mut Vec<Member>, name: Text, value: Value) -> Result<(), OutOfMemory>
+    ensures ok { OnOk result
+        (fields_in entries.new.items ≡ with_attribute name (tree_of value) (fields_in entries.old.items)) }
+    ensures err { OnErr result (entries.new.items ≡ entries.old.items) }
+{
+    match place_of(entries, name.as_str()) {
+        Ok(at) => {
+            entries[at].value = value;
+            Ok(())
+        }
+        Err(at) => {
+            entries.insert(at, Member { name, value })?;
+            Ok(())
+        }
+    }
+}

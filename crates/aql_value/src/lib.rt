@@ -1,0 +1,24 @@
+//! Values of AQL: their types, their order, their JSON text and the conversions between their kinds.
+#![tactic(auto)]
+
+mod attributes;
+mod convert;
+mod copying;
+mod keys;
+mod lists;
+mod memory;
+mod order;
+mod reading;
+mod texts;
+mod values;
+mod writing;
+
+pub use convert::truthy;
+pub use copying::copy;
+pub use lists::{CollNo, CollNos, DocNo, Names, Seq, Vars};
+pub use memory::OutOfMemory;
+pub use order::{cmp, order_is_total};
+pub use reading::{JsonFault, from_json_line, text_is_read_back};
+pub use texts::Text;
+pub use values::{Items, Members, Value, recall_well_formed};
+pub use writing::write_json;

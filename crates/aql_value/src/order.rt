@@ -1,0 +1,101 @@
+ghost use Rattle.std.specs.Prelude.{◌≡◌};
+ghost use Rattle.aql_value.specs.Tree.{array_of, object_of};
+ghost use Rattle.aql_value.specs.View.{tree_of};
+ghost use Rattle.aql_value.specs.Fields.{compare_entry};
+ghost use Rattle.aql_value.specs.Order.{Compares, kind};
+ghost use Rattle.aql_value.specs.Compare.{compare, compare_items, compare_fields};
+ghost use Rattle.aql_value.specs.TotalOrder.{BelowIsTotal, BelowIsTransitive};
+ghost use Rattle.aql_value.specs.LeastName.{ObjectsCompareAtLeastName};
+
+use crate::values::Member;
+use crate::{Items, Members, Value};
+use std::cmp::Ordering;
+
+/// How `a` stands to `b` in the order of AQL's values (AQL fundamentals, Type and value order):
+/// null < bools < numbers < texts < arrays < objects, and within a kind by that kind's own rule.
+/// `Equal` means identical.
+pub fn cmp(a: &Value, b: &Value) -> Ordering
+    ensures order { Compares result (tree_of a.now) (tree_of b.now) }
+    ensures value { result ≡ compare (tree_of a.now) (tree_of b.now) }
+{
+    order(a, b)
+}
+
+/// The law of the order: of two values exactly one of less, identical and greater holds; less is
+/// transitive; and objects compare at the least attribute at which they differ, where a missing
+/// attribute is below null.
+pub fn order_is_total()
+    ensures total { BelowIsTotal }
+    ensures transitive { BelowIsTransitive }
+    ensures objects { ObjectsCompareAtLeastName }
+{}
+
+#[cycle(ordering)]
+pub(crate) fn order(a: &Value, b: &Value) -> Ordering
+    ensures { result ≡ compare (tree_of a.now) (tree_of b.now) }
+{
+    match (a, b) {
+        (Value::Bool(x), Value::Bool(y)) => x.cmp(y),
+        (Value::Num(x), Value::Num(y)) => x.cmp(y),
+        (Value::Text(x), Value::Text(y)) => x.as_str().cmp(y.as_str()),
+        (Value::List(x), Value::List(y)) => order_items(x, y),
+        (Value::Object(x), Value::Object(y)) => order_members(x, y),
+        _ => kind_of(a).cmp(&kind_of(b)),
+    }
+}
+
+fn kind_of(value: &Value) -> u8
+    ensures { result ≡ kind (tree_of value.now) }
+{
+    match value {
+        Value::Null => 0,
+        Value::Bool(_) => 1,
+        Value::Num(_) => 2,
+        Value::Text(_) => 3,
+        Value::List(_) => 4,
+        Value::Object(_) => 5,
+    }
+}
+
+#[cycle(ordering)]
+fn order_items(a: &Items, b: &Items) -> Ordering
+    ensures { result ≡ compare_items (array_of a.now) (array_of b.now) }
+{
+    for (i, x) in a.items.iter().enumerate() {
+        match b.items.get(i) {
+            None => return Ordering::Greater,
+            Some(y) => match order(x, y) {
+                Ordering::Equal => {}
+                other => return other,
+            },
+        }
+    }
+    a.items.len().cmp(&b.items.len())
+}
+
+#[cycle(ordering)]
+fn order_members(a: &Members, b: &Members) -> Ordering
+    ensures { result ≡ compare_fields (object_of a.now) (object_of b.now) }
+{
+    for (i, x) in a.entries.iter().enumerate() {
+        match b.entries.get(i) {
+            None => return Ordering::Greater,
+            Some(y) => match order_entry(x, y) {
+                Ordering::Equal => {}
+                other => return other,
+            },
+        }
+    }
+    a.entries.len().cmp(&b.entries.len())
+}
+
+// The object that has the lesser name is the greater one, since the other lacks that attribute.
+#[cycle(ordering)]
+fn order_entry(a: &Member, b: &Member) -> Ordering
+    ensures { result ≡ compare_entry a.now b.now }
+{
+    match b.name.as_str().cmp(a.name.as_str()) {
+        Ordering::Equal => order(&a.value, &b.value),
+        other => other,
+    }
+}

@@ -1,0 +1,150 @@
+ghost use Rattle.std.specs.Prelude.{◌≡◌, []};
+ghost use Rattle.aql_value.specs.View.{tree_of};
+ghost use Rattle.aql_value.specs.WellFormed.{WellFormed};
+
+use crate::texts::recall_utf8;
+use crate::{OutOfMemory, Text};
+use std::alloc::Global;
+use std::marker::Model;
+
+/// A value of AQL (AQL fundamentals, Data types): null, a bool, a whole number of 64 bits with its
+/// sign, a text, an array or an object. Contracts see it as a tree, by `tree_of`.
+#[cycle(value)]
+#[derive(Drop)]
+pub enum Value {
+    Null,
+    Bool(bool),
+    Num(i64),
+    Text(Text),
+    List(Items),
+    Object(Members),
+}
+
+/// The elements of an array, in order. Contracts see the list of their trees.
+#[cycle(value)]
+#[derive(Drop)]
+pub struct Items {
+    pub(crate) items: Vec<Value>,
+}
+
+impl Model for Items {
+    ghost use Rattle.std.specs.Prelude.{List};
+    ghost use Rattle.aql_value.specs.Tree.{Tree, coded_trees};
+
+    ghost Value = { List Tree };
+
+    ghost coded = { coded_trees };
+
+    ghost use Rattle.aql_value.specs.View.{trees_in};
+
+    ghost view = { λ a. trees_in a.items.items };
+
+    ghost use Rattle.aql_value.specs.Sizes.{trees_size};
+    ghost use Rattle.aql_value.specs.Tree.{array_of};
+    ghost use Rattle.aql_value.specs.WellFormed.{ItemsWellFormed};
+
+    ghost invariant = { λ a. ItemsWellFormed (array_of (trees_in a.items.items)) };
+
+    ghost size = { trees_size };
+
+    ghost use Rattle.aql_value.specs.laws.Falls.{items_fall};
+
+    ghost size_decreases = { λ a h. items_fall a.items.items };
+}
+
+#[cycle(value)]
+#[derive(Drop)]
+pub(crate) struct Member {
+    pub(crate) name: Text,
+    pub(crate) value: Value,
+}
+
+/// The attributes of an object, in ascending order of the bytes of their names, each name once.
+/// Contracts see the list of the names with the trees of their values.
+#[cycle(value)]
+#[derive(Drop)]
+pub struct Members {
+    pub(crate) entries: Vec<Member>,
+}
+
+impl Model for Members {
+    ghost use Rattle.std.specs.Prelude.{List, ℕ};
+    ghost use Rattle.aql_value.specs.Tree.{Tree, coded_fields};
+
+    ghost Value = { List (List ℕ × Tree) };
+
+    ghost coded = { coded_fields };
+
+    ghost use Rattle.aql_value.specs.Fields.{fields_in};
+
+    ghost view = { λ a. fields_in a.entries.items };
+
+    ghost use Rattle.aql_value.specs.Sizes.{fields_size};
+    ghost use Rattle.aql_value.specs.Tree.{object_of};
+    ghost use Rattle.aql_value.specs.WellFormed.{FieldsWellFormed};
+
+    ghost invariant = { λ a. FieldsWellFormed (object_of (fields_in a.entries.items)) };
+
+    ghost size = { fields_size };
+
+    ghost use Rattle.aql_value.specs.laws.Falls.{members_fall};
+
+    ghost size_decreases = { λ a h. members_fall a.entries.items };
+}
+
+impl Items {
+    ghost use Rattle.std.specs.Prelude.{◌++◌, ◌∷◌, length, option_map, slice_get, OnOk, OnErr};
+
+    /// The empty array.
+    pub fn new(alloc: Global) -> Items
+        ensures { result ≡ [] }
+    {
+        Items {
+            items: Vec::new(alloc),
+        }
+    }
+
+    /// How many elements the array has.
+    pub fn len(&self) -> usize
+        ensures { result ≡ length self.now }
+    {
+        self.items.len()
+    }
+
+    /// The element at a place, counted from 0; `None` exactly where the array has no such place.
+    pub fn get(&self, at: usize) -> Option<&Value>
+        ensures { option_map (λ v. tree_of v.now) result ≡ slice_get self.now at }
+    {
+        self.items.get(at)
+    }
+
+    /// Appends an element; where memory runs out the array stays as it was.
+    pub fn push(&mut self, item: Value) -> Result<(), OutOfMemory>
+        ensures ok { OnOk result (self.new ≡ self.old ++ tree_of item ∷ []) }
+        ensures err { OnErr result (self.new ≡ self.old) }
+    {
+        recall_well_formed(&item);
+        self.items.push(item)?;
+        Ok(())
+    }
+}
+
+/// Recalls, for a proof, what holds of every value at every depth: its numbers have 64 bits, its
+/// texts and names are in UTF-8, and the names of each object ascend.
+pub fn recall_well_formed(value: &Value)
+    ensures { WellFormed (tree_of value.now) }
+{
+    match value {
+        Value::Num(number) => {
+            let _number = *number;
+        }
+        Value::Text(text) => recall_utf8(text),
+        Value::List(list) => {
+            let _items = &list.items;
+        }
+        Value::Object(members) => {
+            let _entries = &members.entries;
+        }
+        _ => {}
+    }
+}
