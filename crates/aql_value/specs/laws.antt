@@ -2,3 +2,4 @@ pub mod Falls
 pub mod Keyed
 pub mod Ranks
 pub mod Strict
+pub mod Ranges

@@ -13,7 +13,7 @@ mod texts;
 mod values;
 mod writing;
 
-pub use convert::truthy;
+pub use convert::{to_number, truthy};
 pub use copying::copy;
 pub use lists::{CollNo, CollNos, DocNo, Names, Seq, Vars};
 pub use memory::OutOfMemory;
