@@ -38,11 +38,15 @@ tests_part true b e = (refl, e)
 tests_part false b e = absurd (false≢true e)
 
 -- the fact under which `parse` gives a number is the test
-meant : (s ds : List ℕ) (z : ℤ) → without_leading_sign s ≡ ds → IsNumeral 10 (without_leading_sign s) × FitsSigned w64 z → (is_numeral ds && in_range z) ≡ true
-meant s ds z e h = tests_join (is_numeral ds) (in_range z) (test_from_numeral ds (subst (IsNumeral 10) e h.0)) (in_range_from_fits z h.1)
+meant : (s ds : List ℕ) (z : ℤ) → without_leading_sign s ≡ ds
+    → IsNumeral 10 (without_leading_sign s) × FitsSigned w64 z → (is_numeral ds && in_range z) ≡ true
+meant s ds z e h = tests_join (is_numeral ds) (in_range z)
+    (test_from_numeral ds (subst (IsNumeral 10) e h.0)) (in_range_from_fits z h.1)
 
-told : (s ds : List ℕ) (z : ℤ) → without_leading_sign s ≡ ds → (is_numeral ds && in_range z) ≡ true → IsNumeral 10 (without_leading_sign s) × FitsSigned w64 z
-told s ds z e h = let parts = tests_part (is_numeral ds) (in_range z) h in (subst (IsNumeral 10) (sym e) (numeral_from_test ds parts.0), fits_from_in_range z parts.1)
+told : (s ds : List ℕ) (z : ℤ) → without_leading_sign s ≡ ds → (is_numeral ds && in_range z) ≡ true
+    → IsNumeral 10 (without_leading_sign s) × FitsSigned w64 z
+told s ds z e h = let parts = tests_part (is_numeral ds) (in_range z) h in
+    (subst (IsNumeral 10) (sym e) (numeral_from_test ds parts.0), fits_from_in_range z parts.1)
 
 from_true : (b : Bool) (z d : ℤ) → b ≡ true → z ≡ cond b z d
 from_true true z d e = refl
@@ -54,13 +58,17 @@ from_false false z d h = refl
 
 -- what `parse` gives is the number of the text, and 0 is it where `parse` refuses
 pub number_read : (s : List ℕ) → (slice_index s 0 == 43) ≡ false
-    → IsNumeral 10 (without_leading_sign s) × FitsSigned w64 (signed_digits_value 10 s) → signed_digits_value 10 s ≡ text_number s
+    → IsNumeral 10 (without_leading_sign s) × FitsSigned w64 (signed_digits_value 10 s)
+    → signed_digits_value 10 s ≡ text_number s
 number_read s e h =
     let z = signed_digits_value 10 s in
-    from_true (is_numeral (without_minus s) && in_range z) z (pos 0) (meant s (without_minus s) z (no_plus s e) h)
+    from_true (is_numeral (without_minus s) && in_range z) z (pos 0)
+    (meant s (without_minus s) z (no_plus s e) h)
 
 pub zero_read : (s : List ℕ) → (slice_index s 0 == 43) ≡ false
-    → (IsNumeral 10 (without_leading_sign s) × FitsSigned w64 (signed_digits_value 10 s) → ⊥) → pos 0 ≡ text_number s
+    → (IsNumeral 10 (without_leading_sign s) × FitsSigned w64 (signed_digits_value 10 s) → ⊥)
+    → pos 0 ≡ text_number s
 zero_read s e h =
     let z = signed_digits_value 10 s in
-    from_false (is_numeral (without_minus s) && in_range z) z (pos 0) (λ t. h (told s (without_minus s) z (no_plus s e) t))
+    from_false (is_numeral (without_minus s) && in_range z) z (pos 0)
+    (λ t. h (told s (without_minus s) z (no_plus s e) t))

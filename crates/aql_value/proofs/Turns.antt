@@ -27,11 +27,13 @@ abbrev pub fields_before : List Field → Fields → Fields
 fields_before [] gs = gs
 fields_before (f ∷ fs) gs = field f.0 f.1 (fields_before fs gs)
 
-trees_last : (ts : List Tree) (t : Tree) (us : Trees) → trees_before ts (tree t us) ≡ trees_before (ts ++ t ∷ []) us
+trees_last : (ts : List Tree) (t : Tree) (us : Trees)
+    → trees_before ts (tree t us) ≡ trees_before (ts ++ t ∷ []) us
 trees_last [] t us = refl
 trees_last (x ∷ ts) t us = ap (tree x) (trees_last ts t us)
 
-fields_last : (fs : List Field) (f : Field) (gs : Fields) → fields_before fs (field f.0 f.1 gs) ≡ fields_before (fs ++ f ∷ []) gs
+fields_last : (fs : List Field) (f : Field) (gs : Fields)
+    → fields_before fs (field f.0 f.1 gs) ≡ fields_before (fs ++ f ∷ []) gs
 fields_last [] f gs = refl
 fields_last (x ∷ fs) f gs = ap (field x.0 x.1) (fields_last fs f gs)
 
@@ -43,27 +45,35 @@ pub fields_all : (fs : List Field) → fields_before fs no_fields ≡ object_of 
 fields_all [] = refl
 fields_all (f ∷ fs) = ap (field f.0 f.1) (fields_all fs)
 
-trees_more : (ts : List Tree) (t : Tree) (w : Option Trees) → option_map (trees_before ts) (option_map (tree t) w) ≡ option_map (trees_before (ts ++ t ∷ [])) w
+trees_more : (ts : List Tree) (t : Tree) (w : Option Trees)
+    → option_map (trees_before ts) (option_map (tree t) w) ≡ option_map (trees_before (ts ++ t ∷ [])) w
 trees_more ts t None = refl
 trees_more ts t (Some us) = ap Some (trees_last ts t us)
 
-fields_more : (fs : List Field) (f : Field) (w : Option Fields) → option_map (fields_before fs) (option_map (field f.0 f.1) w) ≡ option_map (fields_before (fs ++ f ∷ [])) w
+fields_more : (fs : List Field) (f : Field) (w : Option Fields)
+    → option_map (fields_before fs) (option_map (field f.0 f.1) w)
+    ≡ option_map (fields_before (fs ++ f ∷ [])) w
 fields_more fs f None = refl
 fields_more fs f (Some gs) = ap Some (fields_last fs f gs)
 
 -- one more item has been turned
 pub item_turned : (ts : List Tree) (v : JsonValue) (vs : List JsonValue) (t : Tree) → whole (view v) ≡ Some t
-    → option_map (trees_before ts) (whole_items (items_view (v ∷ vs))) ≡ option_map (trees_before (ts ++ t ∷ [])) (whole_items (items_view vs))
+    → option_map (trees_before ts) (whole_items (items_view (v ∷ vs)))
+    ≡ option_map (trees_before (ts ++ t ∷ [])) (whole_items (items_view vs))
 item_turned ts v vs t e = rw e (trees_more ts t (whole_items (items_view vs)))
 
-pub item_not_turned : (ts : List Tree) (v : JsonValue) (vs : List JsonValue) → whole (view v) ≡ None → option_map (trees_before ts) (whole_items (items_view (v ∷ vs))) ≡ None
+pub item_not_turned : (ts : List Tree) (v : JsonValue) (vs : List JsonValue) → whole (view v) ≡ None
+    → option_map (trees_before ts) (whole_items (items_view (v ∷ vs))) ≡ None
 item_not_turned ts v vs e = rw e refl
 
-pub member_turned : (fs : List Field) (e : Entry) (es : List Entry) (k : List ℕ) (t : Tree) → string_bytes e.0 ≡ k → whole (view e.1) ≡ Some t
-    → option_map (fields_before fs) (whole_members (members_view (e ∷ es))) ≡ option_map (fields_before (fs ++ (k, t) ∷ [])) (whole_members (members_view es))
+pub member_turned : (fs : List Field) (e : Entry) (es : List Entry) (k : List ℕ) (t : Tree)
+    → string_bytes e.0 ≡ k → whole (view e.1) ≡ Some t
+    → option_map (fields_before fs) (whole_members (members_view (e ∷ es)))
+    ≡ option_map (fields_before (fs ++ (k, t) ∷ [])) (whole_members (members_view es))
 member_turned fs e es k t n h = rw (h, n) (fields_more fs (k, t) (whole_members (members_view es)))
 
-pub member_not_turned : (fs : List Field) (e : Entry) (es : List Entry) → whole (view e.1) ≡ None → option_map (fields_before fs) (whole_members (members_view (e ∷ es))) ≡ None
+pub member_not_turned : (fs : List Field) (e : Entry) (es : List Entry) → whole (view e.1) ≡ None
+    → option_map (fields_before fs) (whole_members (members_view (e ∷ es))) ≡ None
 member_not_turned fs e es h = rw h refl
 
 -- ---- names
@@ -78,11 +88,14 @@ abbrev pub ValuesWellFormed : List Field → Type 0
 ValuesWellFormed [] = Unit {0}
 ValuesWellFormed (f ∷ fs) = WellFormed f.1 × ValuesWellFormed fs × IsUtf8 f.0
 
-pub values_more : (fs : List Field) (f : Field) → ValuesWellFormed fs → WellFormed f.1 → IsUtf8 f.0 → ValuesWellFormed (fs ++ f ∷ [])
+pub values_more : (fs : List Field) (f : Field) → ValuesWellFormed fs → WellFormed f.1 → IsUtf8 f.0
+    → ValuesWellFormed (fs ++ f ∷ [])
 values_more [] f h w u = (w, tt, u)
 values_more (x ∷ fs) f h w u = (h.0, values_more fs f h.1 w u, h.2)
 
-below_names : (k : String Global) (f : List ℕ) (fs : List Field) (es : List Entry) → f ≡ string_bytes k → names fs ≡ keys es → AllByRecursion (λ y. string_cmp k y ≡ Less) (keys_of es) → IsBelowNames f (object_of fs)
+below_names : (k : String Global) (f : List ℕ) (fs : List Field) (es : List Entry) → f ≡ string_bytes k
+    → names fs ≡ keys es → AllByRecursion (λ y. string_cmp k y ≡ Less) (keys_of es)
+    → IsBelowNames f (object_of fs)
 below_names k f [] es n e h = tt
 below_names k f (g ∷ fs) [] n e h = absurd cc
 below_names k f (g ∷ fs) (x ∷ es) n e h =
@@ -92,7 +105,8 @@ below_names k f (g ∷ fs) (x ∷ es) n e h =
       below_names k f fs es n rest h.1,
     )
 
-pub well_from_keys : (fs : List Field) (es : List Entry) → names fs ≡ keys es → IsStrictlySortedBy string_cmp (keys_of es) → ValuesWellFormed fs → FieldsWellFormed (object_of fs)
+pub well_from_keys : (fs : List Field) (es : List Entry) → names fs ≡ keys es
+    → IsStrictlySortedBy string_cmp (keys_of es) → ValuesWellFormed fs → FieldsWellFormed (object_of fs)
 unfolding IsStrictlySortedBy
 well_from_keys [] es e s w = tt
 well_from_keys (f ∷ fs) [] e s w = absurd cc
@@ -105,10 +119,12 @@ well_from_keys (f ∷ fs) (x ∷ es) e s w =
       w.2,
     )
 
-pub fields_pushed : (ms : List Member) (m : Member) → fields_in (ms ++ m ∷ []) ≡ fields_in ms ++ (m.name, tree_of m.value) ∷ []
+pub fields_pushed : (ms : List Member) (m : Member)
+    → fields_in (ms ++ m ∷ []) ≡ fields_in ms ++ (m.name, tree_of m.value) ∷ []
 fields_pushed [] m = refl
 fields_pushed (x ∷ ms) m = ap (λ fs. (x.name, tree_of x.value) ∷ fs) (fields_pushed ms m)
 
-pub names_pushed : (fs : List Field) (k : List ℕ) (t : Tree) (e : Entry) (es : List Entry) → string_bytes e.0 ≡ k → names (fs ++ (k, t) ∷ []) ++ keys es ≡ names fs ++ keys (e ∷ es)
+pub names_pushed : (fs : List Field) (k : List ℕ) (t : Tree) (e : Entry) (es : List Entry)
+    → string_bytes e.0 ≡ k → names (fs ++ (k, t) ∷ []) ++ keys es ≡ names fs ++ keys (e ∷ es)
 names_pushed [] k t e es n = ap (λ x. x ∷ keys es) (sym n)
 names_pushed (f ∷ fs) k t e es n = ap (λ xs. f.0 ∷ xs) (names_pushed fs k t e es n)

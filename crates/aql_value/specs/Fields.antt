@@ -1,4 +1,4 @@
--- The attributes of an object as the definitions see them.
+-- The attributes that an object of the program stands for.
 use Rattle.std.specs.Prelude.{ℕ, List, map}
 use Rattle.std.specs.declared.cmp.Ordering.{Ordering}
 use Rattle.std.specs.Ordering.{nat_cmp, ordering_then}
@@ -12,4 +12,5 @@ abbrev pub fields_in : List Member → List (List ℕ × Tree)
 fields_in ms = map (λ m. (m.name, tree_of m.value)) ms
 
 abbrev pub compare_entry : Member → Member → Ordering
-compare_entry m n = ordering_then (slice_cmp nat_cmp n.name m.name) (compare (tree_of m.value) (tree_of n.value))
+compare_entry m n = ordering_then (slice_cmp nat_cmp n.name m.name)
+    (compare (tree_of m.value) (tree_of n.value))

@@ -12,11 +12,10 @@ pub mod Place
 pub mod Json
 pub mod Writes
 pub mod Whole
-pub mod Faults
+pub mod JsonLine
 pub mod Turned
 pub mod Hashed
 pub mod RoundTrip
-pub mod LeastName
 pub mod Parts
 pub mod Convert
 pub mod Database

@@ -1,4 +1,4 @@
--- The tree that a value stands for.
+-- The tree that a value of the program stands for. Every contract speaks of a value by it.
 use Rattle.std.specs.Prelude.{List, map}
 use Rattle.aql_value.specs.Tree.{Tree, null, boolean, number, text, array, object, array_of, object_of}
 use Rattle.aql_value.specs.declared.values.Value.{Value}

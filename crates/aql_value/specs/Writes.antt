@@ -1,4 +1,4 @@
--- What a call that writes leaves; for private clauses.
+-- What a private call that writes leaves: the text appended, or a part of it where memory ran out.
 use Rattle.std.specs.Prelude.{◌≡◌, List, ℕ, ◌++◌, ◌∷◌, Result, OnOk, OnErr}
 use Rattle.json.specs.Print.{quoted}
 use Rattle.aql_value.specs.Json.{comma_if, json_text}

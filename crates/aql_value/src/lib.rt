@@ -22,3 +22,6 @@ pub use reading::{JsonFault, from_json_line, text_is_read_back};
 pub use texts::Text;
 pub use values::{Items, Members, Value, recall_well_formed};
 pub use writing::write_json;
+
+#[cfg(test)]
+mod tests;

@@ -4,8 +4,7 @@ ghost use Rattle.aql_value.specs.View.{tree_of};
 ghost use Rattle.aql_value.specs.Fields.{compare_entry};
 ghost use Rattle.aql_value.specs.Order.{Compares, kind};
 ghost use Rattle.aql_value.specs.Compare.{compare, compare_items, compare_fields};
-ghost use Rattle.aql_value.specs.TotalOrder.{BelowIsTotal, BelowIsTransitive};
-ghost use Rattle.aql_value.specs.LeastName.{ObjectsCompareAtLeastName};
+ghost use Rattle.aql_value.specs.TotalOrder.{BelowIsTotal, BelowIsTransitive, ObjectsCompareAtLeastName};
 
 use crate::values::Member;
 use crate::{Items, Members, Value};

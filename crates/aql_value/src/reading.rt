@@ -1,36 +1,53 @@
-// A line of JSON as a value.
-ghost use Rattle.std.specs.Prelude.{◌≡◌, ◌≤◌, ◌↔◌, Some, None, MatchResult, IfOk, IfErr, IsTrue};
+ghost use Rattle.std.specs.Prelude.{◌≡◌, ◌≤◌, ◌↔◌, ◌⊎◌, Some, None, Ok, Err, MatchResult, IfOk, IfErr, IsTrue};
 ghost use Rattle.serde_json.specs.Data.{depth, items_depth, members_depth};
 ghost use Rattle.serde_json.specs.View.{view, items_view, members_view};
-ghost use Rattle.aql_value.specs.View.{tree_of};
 ghost use Rattle.aql_value.specs.Tree.{array_of, object_of};
+ghost use Rattle.aql_value.specs.View.{tree_of};
 ghost use Rattle.aql_value.specs.Whole.{whole, whole_items, whole_members};
-ghost use Rattle.aql_value.specs.Faults.{FaultOf, ValueOf};
+ghost use Rattle.aql_value.specs.JsonLine.{json_line};
+ghost use Rattle.aql_value.specs.RoundTrip.{TextIsCompact, TextReadsBack};
 ghost use Rattle.aql_value.specs.Turned.{FaultIs};
+ghost use Rattle.aql_value.specs.declared.reading.JsonFault.TheVariants.{Memory};
 
 use crate::texts::recall_utf8;
 use crate::values::{Member, recall_well_formed};
 use crate::{Items, Members, OutOfMemory, Text, Value};
 use serde_json::Map;
 use std::alloc::{AllocError, AllocFailed, Global};
+use thiserror::Error;
 
-// Why a line gives no value.
-#[derive(Debug, Clone, Copy, PartialEq, Eq, Drop)]
+/// The deepest nesting of arrays and objects that a line may have.
+const DEEPEST: u8 = 64;
+
+/// Why a line of JSON gives no value. Where several hold, the first of these is answered.
+#[derive(Debug, Clone, Copy, PartialEq, Eq, Drop, Error)]
 pub enum JsonFault {
+    /// `serde_json` reads no value from the line; one that nests deeper than 127 is such a line.
+    #[error("not JSON")]
     NotJson,
+    /// The arrays and objects of the value that `serde_json` reads nest deeper than 64.
+    #[error("nested too deep")]
     TooDeep,
+    /// The value that `serde_json` reads holds a number that is no whole number from -2^63 to
+    /// 2^63 - 1, is written with an exponent, or is `-0`.
+    #[error("number not whole")]
     NotWhole,
+    /// Memory ran out.
+    #[error("out of memory")]
     Memory,
 }
 
+/// The value that a line of JSON writes. Blanks around it are skipped, and of a name that an object
+/// repeats the last value counts.
 pub fn from_json_line(alloc: Global, line: &[u8]) -> Result<Value, JsonFault>
-    ensures { MatchResult result (λ v. ValueOf (tree_of v) line.now) (λ e. FaultOf e line.now) }
+    ensures value { IfOk result (λ v. json_line line.now ≡ Ok (tree_of v)) }
+    ensures fault { IfErr result (λ e. (e ≡ Memory) ⊎ (json_line line.now ≡ Err e)) }
 {
     match serde_json::Value::from_slice(alloc, line) {
         Ok(json) => {
-            if nests_within(&json, 64) {
+            if nests_within(&json, DEEPEST) {
                 match turned(alloc, &json) {
-                    Ok(v) => Ok(v),
+                    Ok(value) => Ok(value),
                     Err(Unturned::NotWhole) => Err(JsonFault::NotWhole),
                     Err(Unturned::Memory) => Err(JsonFault::Memory),
                 }
@@ -45,6 +62,13 @@ pub fn from_json_line(alloc: Global, line: &[u8]) -> Result<Value, JsonFault>
         },
     }
 }
+
+/// Two laws of the canonical JSON: it is the compact text that `serde_json` writes, and reading it
+/// gives the value back.
+pub fn text_is_read_back()
+    ensures compact { TextIsCompact }
+    ensures back { TextReadsBack }
+{}
 
 #[cycle(nesting)]
 fn nests_within(json: &serde_json::Value, room: u8) -> bool
@@ -81,6 +105,7 @@ fn members_nest_within(members: &Map<String, serde_json::Value>, room: u8) -> bo
     true
 }
 
+// Why data gives no value.
 #[derive(Clone, Copy, PartialEq, Eq, Drop)]
 enum Unturned {
     NotWhole,
@@ -119,7 +144,9 @@ impl From<AllocError> for Unturned {
 
 #[cycle(turning)]
 fn turned(alloc: Global, json: &serde_json::Value) -> Result<Value, Unturned>
-    ensures { MatchResult result (λ v. whole (view json.now) ≡ Some (tree_of v)) (λ e. FaultIs e (whole (view json.now) ≡ None)) }
+    ensures { MatchResult result
+        (λ v. whole (view json.now) ≡ Some (tree_of v))
+        (λ e. FaultIs e (whole (view json.now) ≡ None)) }
 {
     match json {
         serde_json::Value::Null => Ok(Value::Null),
@@ -136,7 +163,9 @@ fn turned(alloc: Global, json: &serde_json::Value) -> Result<Value, Unturned>
 
 #[cycle(turning)]
 fn turned_items(alloc: Global, items: &Vec<serde_json::Value>) -> Result<Items, Unturned>
-    ensures { MatchResult result (λ v. whole_items (items_view items.now.items) ≡ Some (array_of v)) (λ e. FaultIs e (whole_items (items_view items.now.items) ≡ None)) }
+    ensures { MatchResult result
+        (λ v. whole_items (items_view items.now.items) ≡ Some (array_of v))
+        (λ e. FaultIs e (whole_items (items_view items.now.items) ≡ None)) }
 {
     let mut out = Items::new(alloc);
     for item in items {
@@ -150,7 +179,9 @@ fn turned_members(
     alloc: Global,
     members: &Map<String, serde_json::Value>,
 ) -> Result<Members, Unturned>
-    ensures { MatchResult result (λ v. whole_members (members_view members.now.entries) ≡ Some (object_of v)) (λ e. FaultIs e (whole_members (members_view members.now.entries) ≡ None)) }
+    ensures { MatchResult result
+        (λ v. whole_members (members_view members.now.entries) ≡ Some (object_of v))
+        (λ e. FaultIs e (whole_members (members_view members.now.entries) ≡ None)) }
 {
     let mut entries = Vec::new(alloc);
     for (key, member) in members.iter() {
@@ -162,11 +193,3 @@ fn turned_members(
     }
     Ok(Members { entries })
 }
-
-ghost use Rattle.aql_value.specs.RoundTrip.{TextIsCompact, TextReadsBack};
-
-// The canonical text is the compact text of `serde_json`, and is read back as its value.
-pub fn text_is_read_back()
-    ensures compact { TextIsCompact }
-    ensures back { TextReadsBack }
-{}

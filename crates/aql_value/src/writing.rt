@@ -10,75 +10,14 @@ ghost use Rattle.aql_value.specs.Writes.{Writes, member_text};
 use crate::values::Member;
 use crate::{Items, Members, OutOfMemory, Text, Value};
 
-fn put(bytes: &[u8], out: &mut Vec<u8>) -> Result<(), OutOfMemory>
-    ensures { Writes result out.old.items out.new.items bytes.now }
-{
-    out.extend_from_slice(bytes)?;
-    Ok(())
-}
-
-fn write_number(n: i64, out: &mut Vec<u8>) -> Result<(), OutOfMemory>
-    ensures { Writes result out.old.items out.new.items (signed_decimal n) }
-{
-    let mut buffer = itoa::Buffer::new();
-    put(buffer.format(n).as_bytes(), out)
-}
-
-#[tactic(auto, unfolding(json::specs::Print::escape_byte))]
-fn write_byte(b: u8, out: &mut Vec<u8>) -> Result<(), OutOfMemory>
-    ensures { Writes result out.old.items out.new.items (escape_byte b) }
-{
-    match b {
-        b'"' | b'\\' => put(&[b'\\', b], out),
-        8 => put(b"\\b", out),
-        9 => put(b"\\t", out),
-        10 => put(b"\\n", out),
-        12 => put(b"\\f", out),
-        13 => put(b"\\r", out),
-        _ => {
-            if b < 32 {
-                put(
-                    &[
-                        b'\\',
-                        b'u',
-                        b'0',
-                        b'0',
-                        hex_digit(b / 16),
-                        hex_digit(b % 16),
-                    ],
-                    out,
-                )
-            } else {
-                put(&[b], out)
-            }
-        }
-    }
-}
-
-fn hex_digit(n: u8) -> u8
-    requires { n < 16 }
-    ensures { result ≡ digit_char n }
-{
-    if n < 10 { b'0' + n } else { b'a' + (n - 10) }
-}
-
-fn write_quoted(text: &Text, out: &mut Vec<u8>) -> Result<(), OutOfMemory>
-    ensures { Writes result out.old.items out.new.items (quoted text.now) }
-{
-    put(b"\"", out)?;
-    for b in text.as_str().as_bytes() {
-        write_byte(*b, out)?;
-    }
-    put(b"\"", out)
-}
-
-// Appends the canonical JSON of `v`; where memory runs out, `out` is left as it was.
-pub fn write_json(v: &Value, out: &mut Vec<u8>) -> Result<(), OutOfMemory>
-    ensures ok { OnOk result (out.new.items ≡ out.old.items ++ json_text (tree_of v.now)) }
+/// Appends the canonical JSON of a value: no blanks, attributes in the order of their names, numbers
+/// in decimal. Where memory runs out, `out` is left as it was.
+pub fn write_json(value: &Value, out: &mut Vec<u8>) -> Result<(), OutOfMemory>
+    ensures ok { OnOk result (out.new.items ≡ out.old.items ++ json_text (tree_of value.now)) }
     ensures err { OnErr result (out.new.items ≡ out.old.items) }
 {
     let before = out.len();
-    match write_value(v, out) {
+    match write_value(value, out) {
         Ok(()) => Ok(()),
         Err(e) => {
             out.truncate(before);
@@ -144,4 +83,67 @@ fn write_member(later: bool, member: &Member, out: &mut Vec<u8>) -> Result<(), O
     write_quoted(&member.name, out)?;
     put(b":", out)?;
     write_value(&member.value, out)
+}
+
+fn put(bytes: &[u8], out: &mut Vec<u8>) -> Result<(), OutOfMemory>
+    ensures { Writes result out.old.items out.new.items bytes.now }
+{
+    out.extend_from_slice(bytes)?;
+    Ok(())
+}
+
+fn write_number(n: i64, out: &mut Vec<u8>) -> Result<(), OutOfMemory>
+    ensures { Writes result out.old.items out.new.items (signed_decimal n) }
+{
+    let mut buffer = itoa::Buffer::new();
+    put(buffer.format(n).as_bytes(), out)
+}
+
+// One byte of a text, escaped where JSON asks it.
+#[tactic(auto, unfolding(json::specs::Print::escape_byte))]
+fn write_byte(b: u8, out: &mut Vec<u8>) -> Result<(), OutOfMemory>
+    ensures { Writes result out.old.items out.new.items (escape_byte b) }
+{
+    match b {
+        b'"' | b'\\' => put(&[b'\\', b], out),
+        8 => put(b"\\b", out),
+        9 => put(b"\\t", out),
+        10 => put(b"\\n", out),
+        12 => put(b"\\f", out),
+        13 => put(b"\\r", out),
+        _ => {
+            if b < 32 {
+                put(
+                    &[
+                        b'\\',
+                        b'u',
+                        b'0',
+                        b'0',
+                        hex_digit(b / 16),
+                        hex_digit(b % 16),
+                    ],
+                    out,
+                )
+            } else {
+                put(&[b], out)
+            }
+        }
+    }
+}
+
+fn hex_digit(n: u8) -> u8
+    requires { n < 16 }
+    ensures { result ≡ digit_char n }
+{
+    if n < 10 { b'0' + n } else { b'a' + (n - 10) }
+}
+
+fn write_quoted(text: &Text, out: &mut Vec<u8>) -> Result<(), OutOfMemory>
+    ensures { Writes result out.old.items out.new.items (quoted text.now) }
+{
+    put(b"\"", out)?;
+    for b in text.as_str().as_bytes() {
+        write_byte(*b, out)?;
+    }
+    put(b"\"", out)
 }

@@ -55,7 +55,8 @@ apart (array x) (array y) h = absurd (omega arith)
 apart (object x) (object y) h = absurd (omega arith)
 apart s t h = h
 
-chain_booleans : (a b c : Bool) → (a ≡ false) × (b ≡ true) → (b ≡ false) × (c ≡ true) → (a ≡ false) × (c ≡ true)
+chain_booleans : (a b c : Bool) → (a ≡ false) × (b ≡ true) → (b ≡ false) × (c ≡ true)
+    → (a ≡ false) × (c ≡ true)
 chain_booleans a b c p q = (p.0, q.1)
 
 mutual
@@ -77,7 +78,8 @@ mutual
   items_chain (tree t ts) (tree u us) (tree v vs) (inl p) (inl q) = inl (chain t u v p q)
   items_chain (tree t ts) (tree u us) (tree v vs) (inl p) (inr q) = inl (subst (Below t) q.0 p)
   items_chain (tree t ts) (tree u us) (tree v vs) (inr p) (inl q) = inl (subst (λ x. Below x v) (sym p.0) q)
-  items_chain (tree t ts) (tree u us) (tree v vs) (inr p) (inr q) = inr (p.0 ∙ q.0, items_chain ts us vs p.1 q.1)
+  items_chain (tree t ts) (tree u us) (tree v vs) (inr p) (inr q) =
+      inr (p.0 ∙ q.0, items_chain ts us vs p.1 q.1)
 
   fields_chain : (fs gs hs : Fields) → FieldsBelow fs gs → FieldsBelow gs hs → FieldsBelow fs hs
   fields_chain no_fields no_fields hs p q = absurd p
@@ -85,18 +87,28 @@ mutual
   fields_chain no_fields (field l u gs) (field m v hs) p q = tt
   fields_chain (field k t fs) no_fields hs p q = absurd p
   fields_chain (field k t fs) (field l u gs) no_fields p q = absurd q
-  fields_chain (field k t fs) (field l u gs) (field m v hs) (inl p) (inl q) = inl (nat_list_cmp_total.trans m l k q p)
-  fields_chain (field k t fs) (field l u gs) (field m v hs) (inl p) (inr q) = inl (subst (λ x. BytesBelow x k) q.0 p)
-  fields_chain (field k t fs) (field l u gs) (field m v hs) (inr p) (inl q) = inl (subst (BytesBelow m) (sym p.0) q)
-  fields_chain (field k t fs) (field l u gs) (field m v hs) (inr (d, inl p)) (inr (e, inl q)) = inr (d ∙ e, inl (chain t u v p q))
-  fields_chain (field k t fs) (field l u gs) (field m v hs) (inr (d, inl p)) (inr (e, inr q)) = inr (d ∙ e, inl (subst (Below t) q.0 p))
-  fields_chain (field k t fs) (field l u gs) (field m v hs) (inr (d, inr p)) (inr (e, inl q)) = inr (d ∙ e, inl (subst (λ x. Below x v) (sym p.0) q))
-  fields_chain (field k t fs) (field l u gs) (field m v hs) (inr (d, inr p)) (inr (e, inr q)) = inr (d ∙ e, inr (p.0 ∙ q.0, fields_chain fs gs hs p.1 q.1))
+  fields_chain (field k t fs) (field l u gs) (field m v hs) (inl p) (inl q) =
+      inl (nat_list_cmp_total.trans m l k q p)
+  fields_chain (field k t fs) (field l u gs) (field m v hs) (inl p) (inr q) =
+      inl (subst (λ x. BytesBelow x k) q.0 p)
+  fields_chain (field k t fs) (field l u gs) (field m v hs) (inr p) (inl q) =
+      inl (subst (BytesBelow m) (sym p.0) q)
+  fields_chain (field k t fs) (field l u gs) (field m v hs) (inr (d, inl p)) (inr (e, inl q)) =
+      inr (d ∙ e, inl (chain t u v p q))
+  fields_chain (field k t fs) (field l u gs) (field m v hs) (inr (d, inl p)) (inr (e, inr q)) =
+      inr (d ∙ e, inl (subst (Below t) q.0 p))
+  fields_chain (field k t fs) (field l u gs) (field m v hs) (inr (d, inr p)) (inr (e, inl q)) =
+      inr (d ∙ e, inl (subst (λ x. Below x v) (sym p.0) q))
+  fields_chain (field k t fs) (field l u gs) (field m v hs) (inr (d, inr p)) (inr (e, inr q)) =
+      inr (d ∙ e, inr (p.0 ∙ q.0, fields_chain fs gs hs p.1 q.1))
 
 one : (o : Ordering) (s t : Tree) → Compares o s t → ExactlyOne s t
-one Less s t h = inl (h, (λ e. not_itself t (subst (λ x. Below x t) e h)), λ k. not_itself s (chain s t s h k))
-one Equal s t h = inr (inl ((λ k. not_itself t (subst (λ x. Below x t) h k)), h, λ k. not_itself t (subst (Below t) h k)))
-one Greater s t h = inr (inr ((λ k. not_itself s (chain s t s k h)), (λ e. not_itself t (subst (Below t) e h)), h))
+one Less s t h = inl
+    (h, (λ e. not_itself t (subst (λ x. Below x t) e h)), λ k. not_itself s (chain s t s h k))
+one Equal s t h = inr
+    (inl ((λ k. not_itself t (subst (λ x. Below x t) h k)), h, λ k. not_itself t (subst (Below t) h k)))
+one Greater s t h = inr
+    (inr ((λ k. not_itself s (chain s t s k h)), (λ e. not_itself t (subst (Below t) e h)), h))
 
 pub total : BelowIsTotal
 total s t = one (compare s t) s t (tree_ranks s t)

@@ -5,11 +5,13 @@ use Rattle.aql_value.proofs.order.+ordering.Goals as goal
 pub order_items-returns : goal.order_items-returns
 order_items-returns t c =
     let end : length c.a.inside.items.items ≡ c.loop-i.i = grind arith in
-    let done = items_ended c.a.inside.items.items c.b.inside.items.items c.loop-i.i end c.loop-i.invariant.1 in
+    let done =
+    items_ended c.a.inside.items.items c.b.inside.items.items c.loop-i.i end c.loop-i.invariant.1 in
     rw (← c.a.view_is, ← c.b.view_is) (grind (arith, done))
 
 pub order_members-returns : goal.order_members-returns
 order_members-returns t c =
     let end : length c.a.inside.entries.items ≡ c.loop-i.i = grind arith in
-    let done = members_ended c.a.inside.entries.items c.b.inside.entries.items c.loop-i.i end c.loop-i.invariant.1 in
+    let done =
+    members_ended c.a.inside.entries.items c.b.inside.entries.items c.loop-i.i end c.loop-i.invariant.1 in
     rw (← c.a.view_is, ← c.b.view_is) (grind (arith, done))

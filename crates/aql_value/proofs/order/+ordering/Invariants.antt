@@ -16,10 +16,12 @@ decreases-order_members l = goal.size-order_members l
 
 abbrev pub invariant-order_items-loop-i : goal.invariant-order_items-loop-i
 invariant-order_items-loop-i l =
-    (rest_of_items l.a-inside.items.items l.b-inside.items.items l.i ≡ rest_of_items l.a-inside.items.items l.b-inside.items.items 0)
+    (rest_of_items l.a-inside.items.items l.b-inside.items.items l.i
+    ≡ rest_of_items l.a-inside.items.items l.b-inside.items.items 0)
     × (l.i ≤ length l.b-inside.items.items)
 
 abbrev pub invariant-order_members-loop-i : goal.invariant-order_members-loop-i
 invariant-order_members-loop-i l =
-    (rest_of_members l.a-inside.entries.items l.b-inside.entries.items l.i ≡ rest_of_members l.a-inside.entries.items l.b-inside.entries.items 0)
+    (rest_of_members l.a-inside.entries.items l.b-inside.entries.items l.i
+    ≡ rest_of_members l.a-inside.entries.items l.b-inside.entries.items 0)
     × (l.i ≤ length l.b-inside.entries.items)

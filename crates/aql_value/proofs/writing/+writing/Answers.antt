@@ -10,8 +10,10 @@ use Rattle.aql_value.proofs.writing.+writing.Goals as goal
 pub write_items-returns : goal.write_items-returns
 write_items-returns t c =
     let seen = ap trees_in c.deref-item-items.ensures.value ∙ c.list.view_is in
-    let e = items_end c.deref-item-items.result.now c.loop-i.i c.loop-i.out.items _ (nat_lt 0 c.loop-i.i) c.loop-i-test.false c.loop-i.invariant.0 in
-    finish c.put-2.result c.args.out.now.items c.loop-i.out.items c.put-2.new.out.items (93 ∷ []) (json_text (array (array_of c.args.list.now))) c.put-2.ensures
+    let e = items_end c.deref-item-items.result.now c.loop-i.i c.loop-i.out.items _
+    (nat_lt 0 c.loop-i.i) c.loop-i-test.false c.loop-i.invariant.0 in
+    finish c.put-2.result c.args.out.now.items c.loop-i.out.items c.put-2.new.out.items (93 ∷ [])
+    (json_text (array (array_of c.args.list.now))) c.put-2.ensures
     (e ∙ ap (λ ts. c.args.out.now.items ++ json_text (array (array_of ts))) seen) c.loop-i.invariant.1
 
 pub write_members-returns-in_err-write_member : goal.write_members-returns-in_err-write_member
@@ -22,6 +24,8 @@ write_members-returns-in_err-write_member t c =
 pub write_members-returns : goal.write_members-returns
 write_members-returns t c =
     let seen = ap fields_in c.deref-member-items.ensures.value ∙ c.members.view_is in
-    let e = members_end c.deref-member-items.result.now c.loop-i.i c.loop-i.out.items _ (nat_lt 0 c.loop-i.i) c.loop-i-test.false c.loop-i.invariant.0 in
-    finish c.put-2.result c.args.out.now.items c.loop-i.out.items c.put-2.new.out.items (125 ∷ []) (json_text (object (object_of c.args.members.now))) c.put-2.ensures
+    let e = members_end c.deref-member-items.result.now c.loop-i.i c.loop-i.out.items _
+    (nat_lt 0 c.loop-i.i) c.loop-i-test.false c.loop-i.invariant.0 in
+    finish c.put-2.result c.args.out.now.items c.loop-i.out.items c.put-2.new.out.items (125 ∷ [])
+    (json_text (object (object_of c.args.members.now))) c.put-2.ensures
     (e ∙ ap (λ fs. c.args.out.now.items ++ json_text (object (object_of fs))) seen) c.loop-i.invariant.1

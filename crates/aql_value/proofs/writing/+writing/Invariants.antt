@@ -8,10 +8,12 @@ use Rattle.aql_value.proofs.writing.+writing.Given as goal
 
 abbrev pub invariant-write_items-loop-i : goal.invariant-write_items-loop-i
 invariant-write_items-loop-i l =
-    (l.out.items ++ items_text (nat_lt 0 l.i) (array_of (trees_in (drop l.i l.item-items))) ≡ l.fn.out.items ++ json_text (array (array_of (trees_in l.item-items))))
+    (l.out.items ++ items_text (nat_lt 0 l.i) (array_of (trees_in (drop l.i l.item-items))) ≡ l.fn.out.items
+    ++ json_text (array (array_of (trees_in l.item-items))))
     × Extends l.fn.out.items l.out.items
 
 abbrev pub invariant-write_members-loop-i : goal.invariant-write_members-loop-i
 invariant-write_members-loop-i l =
-    (l.out.items ++ fields_text (nat_lt 0 l.i) (object_of (fields_in (drop l.i l.member-items))) ≡ l.fn.out.items ++ json_text (object (object_of (fields_in l.member-items))))
+    (l.out.items ++ fields_text (nat_lt 0 l.i) (object_of (fields_in (drop l.i l.member-items)))
+    ≡ l.fn.out.items ++ json_text (object (object_of (fields_in l.member-items))))
     × Extends l.fn.out.items l.out.items

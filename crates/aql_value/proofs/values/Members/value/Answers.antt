@@ -9,12 +9,19 @@ use Rattle.aql_value.proofs.values.Members.value.Goals as goal
 
 pub returns-in-Ok : goal.returns-in-Ok
 returns-in-Ok c =
-    let p = subst (λ es. IsPlace (Ok c.in-Ok.at) c.args.name.now (fields_in es)) c.deref.ensures.value c.in-Ok.ensures in
-    let h = attribute_at c.args.name.now c.self.inside.entries.items c.in-Ok.at c.index.result.now (place_within c.self.inside.entries.items c.in-Ok.at p.0) p.1 p.2 in
-    ap (λ (m : Member). Some (tree_of m.value)) c.index.ensures ∙ sym h ∙ ap (attribute c.args.name.now) c.self.view_is
+    let p = subst
+    (λ es. IsPlace (Ok c.in-Ok.at) c.args.name.now
+    (fields_in es)) c.deref.ensures.value c.in-Ok.ensures in
+    let h = attribute_at c.args.name.now c.self.inside.entries.items c.in-Ok.at c.index.result.now
+    (place_within c.self.inside.entries.items c.in-Ok.at p.0) p.1 p.2 in
+    ap (λ (m : Member). Some (tree_of m.value)) c.index.ensures ∙ sym h
+    ∙ ap (attribute c.args.name.now) c.self.view_is
 
 pub returns-in-Err : goal.returns-in-Err
 returns-in-Err c =
-    let p = subst (λ es. IsPlace (Err c.in-Err.field-0) c.args.name.now (fields_in es)) c.deref.ensures.value c.in-Err.ensures in
-    let h = attribute_absent c.args.name.now (fields_in c.self.inside.entries.items) c.in-Err.field-0 c.self.invariant p.1 p.2 in
+    let p = subst
+    (λ es. IsPlace (Err c.in-Err.field-0) c.args.name.now
+    (fields_in es)) c.deref.ensures.value c.in-Err.ensures in
+    let h = attribute_absent c.args.name.now
+    (fields_in c.self.inside.entries.items) c.in-Err.field-0 c.self.invariant p.1 p.2 in
     sym h ∙ ap (attribute c.args.name.now) c.self.view_is

@@ -1,0 +1,26 @@
+-- The value that a line of JSON writes, or the first fault of the line. `serde_json` reads no data from it; its
+-- arrays and objects nest deeper than 64; it holds a number that is not whole. The last two are judged on the data
+-- that `serde_json` reads.
+use Rattle.std.specs.Prelude.{ℕ, List, Option, Some, None, Result, Ok, Err, nat_le, if◌then◌else◌}
+use Rattle.std.specs.Str.{is_utf8}
+use Rattle.serde_json.specs.Data.{Data, depth}
+use Rattle.serde_json.specs.Read.{read}
+use Rattle.aql_value.specs.Tree.{Tree}
+use Rattle.aql_value.specs.Whole.{whole}
+use Rattle.aql_value.specs.declared.reading.JsonFault.{JsonFault}
+use Rattle.aql_value.specs.declared.reading.JsonFault.TheVariants.{NotJson, TooDeep, NotWhole}
+
+abbrev pub deepest : ℕ
+deepest = 64
+
+abbrev pub of_whole : Option Tree → Result Tree JsonFault
+of_whole None = Err NotWhole
+of_whole (Some t) = Ok t
+
+abbrev pub of_data : Option Data → Result Tree JsonFault
+of_data None = Err NotJson
+of_data (Some d) = if nat_le (depth d) deepest then of_whole (whole d) else Err TooDeep
+
+-- only a line in UTF-8 is read
+unfoldable pub json_line : List ℕ → Result Tree JsonFault
+json_line line = if is_utf8 line then of_data (read line) else Err NotJson

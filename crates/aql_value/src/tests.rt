@@ -1,0 +1,204 @@
+use super::*;
+use std::alloc::Global;
+use std::cmp::Ordering;
+use std::collections::HashSet;
+use std::process::Abort;
+use std::test::Fail;
+
+fn value_of(alloc: Global, line: &str) -> Result<Value, JsonFault> {
+    from_json_line(alloc, line.as_bytes())
+}
+
+// A line, and the canonical JSON of its value, also of a copy.
+fn reads(rt: &impl Abort, alloc: Global, line: &str, json: &str) -> Result<(), Fail> {
+    let value = value_of(alloc, line)?;
+    let mut out = Vec::new(alloc);
+    write_json(&value, &mut out)?;
+    assert_eq!(rt; out.as_slice(), json.as_bytes(), "{line}");
+    let mut again = Vec::new(alloc);
+    write_json(&copy(alloc, &value)?, &mut again)?;
+    assert_eq!(rt; again.as_slice(), json.as_bytes(), "{line}");
+    Ok(())
+}
+
+fn refuses(rt: &impl Abort, alloc: Global, line: &str, fault: JsonFault) {
+    assert!(rt; value_of(alloc, line).err() == Some(fault), "{line}");
+}
+
+// A line of `depth` nested arrays.
+fn nested(alloc: Global, depth: usize) -> Result<String, Fail> {
+    let mut line = String::new(alloc);
+    for _ in 0..depth {
+        line.push('[')?;
+    }
+    for _ in 0..depth {
+        line.push(']')?;
+    }
+    Ok(line)
+}
+
+#[test]
+fn lines(rt: HostRuntime) -> Result<(), Fail> {
+    let alloc = rt.alloc();
+    reads(
+        &rt,
+        alloc,
+        "{\"b\":1,\"a\":[true,null]}",
+        "{\"a\":[true,null],\"b\":1}",
+    )?;
+    reads(&rt, alloc, " {\"a\" : 1 , \"a\" : 2}\r", "{\"a\":2}")?;
+    reads(&rt, alloc, "[false,{},[],\"\"]", "[false,{},[],\"\"]")?;
+    reads(
+        &rt,
+        alloc,
+        "[9223372036854775807,-9223372036854775808,0]",
+        "[9223372036854775807,-9223372036854775808,0]",
+    )?;
+    reads(
+        &rt,
+        alloc,
+        "\"\\u0001\\b\\t\\n\\f\\r\\\"\\\\\\/\\u001f\\u007f\"",
+        "\"\\u0001\\b\\t\\n\\f\\r\\\"\\\\/\\u001f\u{7f}\"",
+    )?;
+    reads(&rt, alloc, "\"\\u00f1\\ud83d\\ude00\"", "\"ñ😀\"")?;
+    reads(
+        &rt,
+        alloc,
+        "{\"é\":0,\"z\":1,\"Z\":2,\"\":3}",
+        "{\"\":3,\"Z\":2,\"z\":1,\"é\":0}",
+    )?;
+    for line in [
+        "",
+        "[1",
+        "{a:1}",
+        "1 2",
+        "01",
+        "\"\\ud800\"",
+        "nul",
+        "1e999",
+    ] {
+        refuses(&rt, alloc, line, JsonFault::NotJson);
+    }
+    for line in [
+        "1.5",
+        "[-0]",
+        "1e2",
+        "9223372036854775808",
+        "-9223372036854775809",
+        "1.0",
+    ] {
+        refuses(&rt, alloc, line, JsonFault::NotWhole);
+    }
+    refuses(&rt, alloc, nested(alloc, 65)?.as_str(), JsonFault::TooDeep);
+    refuses(&rt, alloc, nested(alloc, 127)?.as_str(), JsonFault::TooDeep);
+    refuses(&rt, alloc, nested(alloc, 128)?.as_str(), JsonFault::NotJson);
+    let deepest = nested(alloc, 64)?;
+    reads(&rt, alloc, deepest.as_str(), deepest.as_str())
+}
+
+// Each of these is below the next.
+const ASCENDING: [&str; 18] = [
+    "null",
+    "false",
+    "true",
+    "-9223372036854775808",
+    "-1",
+    "0",
+    "7",
+    "\"\"",
+    "\"a\"",
+    "\"a\\u0000\"",
+    "\"ab\"",
+    "\"b\"",
+    "[]",
+    "[null]",
+    "[false,9]",
+    "{}",
+    "{\"b\":1}",
+    "{\"a\":null}",
+];
+
+#[test]
+fn orders(rt: HostRuntime) -> Result<(), Fail> {
+    let alloc = rt.alloc();
+    for (i, low) in ASCENDING.iter().enumerate() {
+        for (k, high) in ASCENDING.iter().enumerate() {
+            let x = value_of(alloc, low)?;
+            let y = value_of(alloc, high)?;
+            assert!(rt; cmp(&x, &y) == i.cmp(&k), "{low} {high}");
+            assert!(rt; (x == y) == (i == k), "{low} {high}");
+            assert!(rt; (x < y) == (i < k), "{low} {high}");
+        }
+    }
+    let mut values = Vec::new(alloc);
+    let mut distinct = HashSet::new(alloc);
+    for line in ["[2]", "null", "[1,5]", "null"] {
+        values.push(value_of(alloc, line)?)?;
+        distinct.insert(value_of(alloc, line)?)?;
+    }
+    values.sort()?;
+    assert_eq!(rt; distinct.len(), 3);
+    assert_eq!(rt; values.len(), 4);
+    assert!(rt; cmp(&values[0], &Value::Null) == Ordering::Equal);
+    assert!(rt; cmp(&values[3], &value_of(alloc, "[2]")?) == Ordering::Equal);
+    order_is_total();
+    text_is_read_back();
+    Ok(())
+}
+
+#[test]
+fn conversions(rt: HostRuntime) -> Result<(), Fail> {
+    let alloc = rt.alloc();
+    for (line, truth, number) in [
+        ("null", false, 0),
+        ("false", false, 0),
+        ("true", true, 1),
+        ("0", false, 0),
+        ("-7", true, -7),
+        ("\"\"", false, 0),
+        ("\"12\"", true, 12),
+        ("\"-0012\"", true, -12),
+        ("\"-9223372036854775808\"", true, i64::MIN),
+        ("\"9223372036854775808\"", true, 0),
+        ("\"+7\"", true, 0),
+        ("\"-\"", true, 0),
+        ("\"--1\"", true, 0),
+        ("\" 1\"", true, 0),
+        ("\"1x\"", true, 0),
+        ("[]", true, 0),
+        ("[[\"5\"]]", true, 5),
+        ("[1,2]", true, 0),
+        ("{\"a\":3}", true, 0),
+    ] {
+        let value = value_of(alloc, line)?;
+        assert_eq!(rt; truthy(&value), truth, "{line}");
+        assert_eq!(rt; to_number(&value), number, "{line}");
+        recall_well_formed(&value);
+    }
+    Ok(())
+}
+
+#[test]
+fn lists(rt: HostRuntime) -> Result<(), Fail> {
+    let alloc = rt.alloc();
+    let mut names = Names::new(alloc);
+    names.push(Text::new(alloc, "a")?)?;
+    let first = names.get(0).ok_or("no name")?;
+    assert_eq!(rt; first.copy(alloc)?.as_str(), "a");
+    assert_eq!(rt; names.len(), names.as_slice().len());
+    let mut numbers = CollNos::new(alloc);
+    numbers.push(CollNo(3))?;
+    assert!(rt; numbers.get(0) == Some(&CollNo(3)) && numbers.get(1).is_none());
+    let mut items = Items::new(alloc);
+    items.push(Value::Num(4))?;
+    assert!(rt; items.len() == 1 && items.get(0) == Some(&Value::Num(4)) && items.get(1).is_none());
+    let mut members = Members::new(alloc);
+    for (name, number) in [("b", 1), ("a", 2), ("b", 3), ("c", 4)] {
+        members.set(Text::new(alloc, name)?, Value::Num(number))?;
+    }
+    assert_eq!(rt; members.len(), 3);
+    assert!(rt; members.value("b") == Some(&Value::Num(3)) && members.value("d").is_none());
+    assert!(rt; members.name(2).ok_or("no name")?.as_str() == "c" && members.name(3).is_none());
+    assert!(rt; members.value_at(0) == Some(&Value::Num(2)) && members.value_at(3).is_none());
+    Ok(())
+}
