@@ -14,13 +14,13 @@ pub returns-in-Err-NotWhole-clause-fault : goal.returns-in-Err-NotWhole-clause-f
 returns-in-Err-NotWhole-clause-fault c =
     let shallow = c.if-nests_within.ensures.0 refl in
     let unturned : whole (view c.in-Ok.json) ≡ None =
-        rw c.in-Err-NotWhole.field-0-is at c.in-Err-NotWhole.ensures in
+    rw c.in-Err-NotWhole.field-0-is at c.in-Err-NotWhole.ensures in
     inr (part_is _ _ c.in-Ok.ensures.ok.0 c.in-Ok.ensures.ok.1 shallow unturned)
 
 pub returns-in-Ok-clause-fault : goal.returns-in-Ok-clause-fault
 returns-in-Ok-clause-fault c =
     inr (deep_is _ _ c.in-Ok.ensures.ok.0 c.in-Ok.ensures.ok.1
-        (λ h. false≢true (c.if-nests_within.ensures.1 h)))
+    (λ h. false≢true (c.if-nests_within.ensures.1 h)))
 
 pub returns-clause-fault : goal.returns-clause-fault
 returns-clause-fault c =
