@@ -3,3 +3,4 @@ pub mod Keyed
 pub mod Ranks
 pub mod Strict
 pub mod Ranges
+pub mod Lists

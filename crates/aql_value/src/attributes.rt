@@ -51,6 +51,17 @@ impl Members {
         }
     }
 
+    /// The name and the value at a place in the order of the names, counted from 0; `None` exactly
+    /// where there is no such place.
+    pub fn entry(&self, at: usize) -> Option<(&Text, &Value)>
+        ensures { option_map (λ e. (e.0.now, tree_of e.1.now)) result ≡ slice_get self.now at }
+    {
+        match self.entries.get(at) {
+            Some(entry) => Some((&entry.name, &entry.value)),
+            None => None,
+        }
+    }
+
     /// The value of a name; `None` exactly where there is no attribute of this name.
     pub fn value(&self, name: &str) -> Option<&Value>
         ensures { option_map (λ v. tree_of v.now) result ≡ attribute name.now self.now }

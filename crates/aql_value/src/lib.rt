@@ -1,6 +1,7 @@
 //! Values of AQL: their types, their order, their JSON text and the conversions between their kinds.
 #![tactic(auto)]
 
+mod as_text;
 mod attributes;
 mod convert;
 mod copying;
@@ -13,6 +14,7 @@ mod texts;
 mod values;
 mod writing;
 
+pub use as_text::to_text;
 pub use convert::{to_number, truthy};
 pub use copying::copy;
 pub use lists::{CollNo, CollNos, DocNo, Names, Seq, Vars};

@@ -191,7 +191,11 @@ fn lists(rt: HostRuntime) -> Result<(), Fail> {
     assert!(rt; numbers.get(0) == Some(&CollNo(3)) && numbers.get(1).is_none());
     let mut items = Items::new(alloc);
     items.push(Value::Num(4))?;
-    assert!(rt; items.len() == 1 && items.get(0) == Some(&Value::Num(4)) && items.get(1).is_none());
+    assert!(rt;
+        items.as_slice().len() == items.len()
+            && items.get(0) == Some(&Value::Num(4))
+            && items.get(1).is_none()
+    );
     let mut members = Members::new(alloc);
     for (name, number) in [("b", 1), ("a", 2), ("b", 3), ("c", 4)] {
         members.set(Text::new(alloc, name)?, Value::Num(number))?;
@@ -199,6 +203,13 @@ fn lists(rt: HostRuntime) -> Result<(), Fail> {
     assert_eq!(rt; members.len(), 3);
     assert!(rt; members.value("b") == Some(&Value::Num(3)) && members.value("d").is_none());
     assert!(rt; members.name(2).ok_or("no name")?.as_str() == "c" && members.name(3).is_none());
+    let (name, value) = members.entry(1).ok_or("no entry")?;
+    assert!(rt; name.as_str() == "b" && value == &Value::Num(3) && members.entry(3).is_none());
+    assert_eq!(rt; to_text(alloc, &Value::Num(-7))?.as_str(), "-7");
+    assert_eq!(rt;
+        to_text(alloc, &Value::Object(Members::new(alloc)))?.as_str(),
+        "{}"
+    );
     assert!(rt; members.value_at(0) == Some(&Value::Num(2)) && members.value_at(3).is_none());
     Ok(())
 }

@@ -1,5 +1,5 @@
 ghost use Rattle.std.specs.Prelude.{◌≡◌, []};
-ghost use Rattle.aql_value.specs.View.{tree_of};
+ghost use Rattle.aql_value.specs.View.{tree_of, trees_in};
 ghost use Rattle.aql_value.specs.WellFormed.{WellFormed};
 
 use crate::texts::recall_utf8;
@@ -116,6 +116,13 @@ impl Items {
         ensures { option_map (λ v. tree_of v.now) result ≡ slice_get self.now at }
     {
         self.items.get(at)
+    }
+
+    /// The elements, borrowed.
+    pub fn as_slice(&self) -> &[Value]
+        ensures { trees_in result.now ≡ self.now }
+    {
+        self.items.as_slice()
     }
 
     /// Appends an element; where memory runs out the array stays as it was.

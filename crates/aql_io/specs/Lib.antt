@@ -1,0 +1,4 @@
+pub mod Causes
+pub mod Bytes
+pub mod Memory
+pub mod Streams
