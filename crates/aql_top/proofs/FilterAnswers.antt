@@ -1,0 +1,69 @@
+-- The documents that the filter keeps are an answer of its query.
+use Rattle.std.proofs.Common.{◌≡◌, ℕ, ℤ, List, [], ◌∷◌, ◌++◌, map, Bool, true, false, cond, refl, sym, ap, ◌∙◌, subst, bytes_eq, append-nil}
+use Rattle.std.specs.Prelude.{filter, IsPermutation}
+use Rattle.std.specs.List.{AllZip}
+use Rattle.std.proofs.lemmas.List.Sorted.{IsPermutation-refl}
+use Rattle.std.proofs.lemmas.Slice.Eq.{bytes_eq-Decides}
+use Rattle.aql_value.specs.Tree.{Tree, boolean, number}
+use Rattle.aql_value.specs.Parts.{at_name, same}
+use Rattle.aql_value.specs.Database.{documents_named}
+use Rattle.aql_meaning.specs.declared.Ident.TheVariants.{Name}
+use Rattle.aql_meaning.specs.Tree.{variable}
+use Rattle.aql_meaning.specs.Row.{Row, bind, empty_row, value_at}
+use Rattle.aql_meaning.specs.Clauses.{with_documents, kept}
+use Rattle.aql_meaning.specs.Meaning.{Ev, Answer}
+use Rattle.aql_top.specs.Filters.{condition, filter_query, filter_kept}
+use Rattle.aql_top.specs.Forms.{one_collection}
+
+equal_itself : (s : List ℕ) → bytes_eq s s ≡ true
+equal_itself s = (bytes_eq-Decides s s).1 refl
+
+module _ (x c a : List ℕ) (n : ℤ) (documents : List Tree) where
+  -- the rows of documents
+  rows : List Tree → List Row
+  rows ds = map (bind (Name x) empty_row) ds
+
+  tests : List Tree → List Tree
+  tests ds = map (λ d. boolean (same (at_name d a) (number n))) ds
+
+  value_is : (d : Tree) → value_at (bind (Name x) empty_row d) (Name x) ≡ d
+  value_is d = rw (equal_itself x) refl
+
+  given : with_documents (Name x) (documents_named (one_collection c documents) c) (empty_row ∷ []) ≡ rows documents
+  unfolding rows
+  given = rw (equal_itself c) (append-nil _)
+
+  tested : (ds : List Tree) → AllZip (Ev (one_collection c documents) (condition x a n)) (rows ds) (tests ds)
+  unfolding rows tests
+  tested [] = tt
+  tested (d ∷ ds) =
+      let row = bind (Name x) empty_row d in
+      let shown = ap (λ v. boolean (same (at_name v a) (number n))) (sym (value_is d)) in
+      ((at_name (value_at row (Name x)) a, (value_at row (Name x), refl, refl), (number n, refl, shown)), tested ds)
+
+  one_kept : (b : Bool) (d : Tree) (others kept_rows : List Row) (ds : List Tree) → kept_rows ≡ rows ds
+      → cond b (bind (Name x) empty_row d ∷ kept_rows) kept_rows ≡ rows (cond b (d ∷ ds) ds)
+  unfolding rows
+  one_kept true d others kept_rows ds e = ap (λ rs. bind (Name x) empty_row d ∷ rs) e
+  one_kept false d others kept_rows ds e = e
+
+  kept_is : (ds : List Tree) → kept (rows ds) (tests ds) ≡ rows (filter_kept a n ds)
+  unfolding rows tests
+  kept_is [] = refl
+  kept_is (d ∷ ds) = one_kept (same (at_name d a) (number n)) d [] _ (filter_kept a n ds) (kept_is ds)
+
+  returned : (ds : List Tree) → AllZip (Ev (one_collection c documents) (variable (Name x))) (rows ds) ds
+  unfolding rows
+  returned [] = tt
+  returned (d ∷ ds) = (sym (value_is d), returned ds)
+
+  pub filter_answers : Answer (one_collection c documents) (filter_query x c a n) empty_row (filter_kept a n documents)
+  filter_answers = (
+    rows (filter_kept a n documents),
+    (
+      rows documents,
+      subst (λ rs. IsPermutation rs (rows documents)) (sym given) (IsPermutation-refl (rows documents)),
+      (rows (filter_kept a n documents), (tests documents, tested documents, sym (kept_is documents)), refl),
+    ),
+    returned (filter_kept a n documents),
+  )

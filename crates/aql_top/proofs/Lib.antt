@@ -1,0 +1,5 @@
+pub mod Lines
+pub mod Documents
+pub mod FilterTexts
+pub mod Following
+pub mod FilterAnswers

@@ -1,0 +1,4 @@
+pub mod Script
+pub mod Filters
+pub mod Forms
+pub mod Endings

@@ -1,0 +1,11 @@
+//! The top call: all that the program does.
+#![tactic(auto)]
+
+mod answer;
+mod ending;
+mod filter;
+mod parts;
+mod script;
+mod shell;
+
+pub use shell::run_shell;
