@@ -1,6 +1,6 @@
 -- The documents that the filter keeps are an answer of its query.
-use Rattle.std.proofs.Common.{◌≡◌, ℕ, ℤ, List, [], ◌∷◌, ◌++◌, map, Bool, true, false, cond, refl, sym, ap, ◌∙◌, subst, bytes_eq, append-nil}
-use Rattle.std.specs.Prelude.{filter, IsPermutation}
+use Rattle.std.proofs.Common.{◌≡◌, ℕ, ℤ, List, [], ◌∷◌, map, Bool, true, false, cond, refl, sym, ap, subst, bytes_eq, append-nil}
+use Rattle.std.specs.Prelude.{IsPermutation}
 use Rattle.std.specs.List.{AllZip}
 use Rattle.std.proofs.lemmas.List.Sorted.{IsPermutation-refl}
 use Rattle.std.proofs.lemmas.Slice.Eq.{bytes_eq-Decides}
@@ -29,7 +29,8 @@ module _ (x c a : List ℕ) (n : ℤ) (documents : List Tree) where
   value_is : (d : Tree) → value_at (bind (Name x) empty_row d) (Name x) ≡ d
   value_is d = rw (equal_itself x) refl
 
-  given : with_documents (Name x) (documents_named (one_collection c documents) c) (empty_row ∷ []) ≡ rows documents
+  given : with_documents (Name x) (documents_named (one_collection c documents) c) (empty_row ∷ [])
+      ≡ rows documents
   unfolding rows
   given = rw (equal_itself c) (append-nil _)
 
@@ -38,8 +39,10 @@ module _ (x c a : List ℕ) (n : ℤ) (documents : List Tree) where
   tested [] = tt
   tested (d ∷ ds) =
       let row = bind (Name x) empty_row d in
-      let shown = ap (λ v. boolean (same (at_name v a) (number n))) (sym (value_is d)) in
-      ((at_name (value_at row (Name x)) a, (value_at row (Name x), refl, refl), (number n, refl, shown)), tested ds)
+      let shown = ap (λ v. boolean (same (at_name v a) (number n))) (sym (value_is d)) in (
+        (at_name (value_at row (Name x)) a, (value_at row (Name x), refl, refl), (number n, refl, shown)),
+        tested ds,
+      )
 
   one_kept : (b : Bool) (d : Tree) (others kept_rows : List Row) (ds : List Tree) → kept_rows ≡ rows ds
       → cond b (bind (Name x) empty_row d ∷ kept_rows) kept_rows ≡ rows (cond b (d ∷ ds) ds)
@@ -57,7 +60,8 @@ module _ (x c a : List ℕ) (n : ℤ) (documents : List Tree) where
   returned [] = tt
   returned (d ∷ ds) = (sym (value_is d), returned ds)
 
-  pub filter_answers : Answer (one_collection c documents) (filter_query x c a n) empty_row (filter_kept a n documents)
+  pub filter_answers : Answer (one_collection c documents) (filter_query x c a n) empty_row
+      (filter_kept a n documents)
   filter_answers = (
     rows (filter_kept a n documents),
     (

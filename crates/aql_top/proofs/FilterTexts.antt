@@ -25,8 +25,10 @@ parts (x ∷ []) (c ∷ []) (a ∷ b ∷ bs) digits p q r l = elim r [ ]
 parts (x ∷ []) (c ∷ b ∷ bs) a digits p q r l = elim q [ ]
 parts (x ∷ b ∷ bs) c a digits p q r l = elim p [ ]
 parts (x ∷ []) (c ∷ []) (a ∷ []) digits p q r l =
-    let size : length (digits ++ (codes " RETURN " ++ x ∷ [])) ≡ length digits + 9 = length-append digits (codes " RETURN " ++ x ∷ []) in
-    let count : length (filter_text (x ∷ []) (c ∷ []) (a ∷ []) digits) - 9 - 25 ≡ length digits = omega (arith, size) in
+    let size : length (digits ++ (codes " RETURN " ++ x ∷ [])) ≡ length digits + 9 =
+    length-append digits (codes " RETURN " ++ x ∷ []) in
+    let count : length (filter_text (x ∷ []) (c ∷ []) (a ∷ []) digits) - 9 - 25 ≡ length digits =
+    omega (arith, size) in
     record {
       long = omega (arith, size);
       variable = refl;
@@ -47,7 +49,11 @@ no_line_feed : (x c a digits line : List ℕ) → IsName x → line ++ 10 ∷ []
 no_line_feed [] c a digits line p e = elim p [ ]
 no_line_feed (x ∷ b ∷ bs) c a digits line p e = elim p [ ]
 no_line_feed (x ∷ []) c a digits line p e =
-    let before = codes "FOR " ++ (x ∷ [] ++ (codes " IN " ++ (c ++ (codes " FILTER " ++ (x ∷ [] ++ (codes "." ++ (a ++ (codes " == " ++ (digits ++ codes " RETURN "))))))))) in
+    let before = codes "FOR " ++
+    (x ∷ [] ++
+    (codes " IN " ++
+    (c ++ (codes " FILTER "
+    ++ (x ∷ [] ++ (codes "." ++ (a ++ (codes " == " ++ (digits ++ codes " RETURN "))))))))) in
     let ends : filter_text (x ∷ []) c a digits ≡ before ++ x ∷ [] = simp append_assoc in
     let same : 10 ≡ x = last_same line before 10 x (e ∙ ends) in
     omega (arith, p.0)
@@ -65,9 +71,11 @@ line_is text line x c a n f cut = ended f.end f.at_most_a_line_feed f.written cu
         absurd (no_line_feed x c a f.digits line f.variable_named
         (sym h ∙ w ∙ ap (λ t. filter_text x c a f.digits ++ t) e ∙ append-nil _))
     ended end (inr e) w (inl h) =
-        append_cancel_right line (filter_text x c a f.digits) (10 ∷ []) (sym h ∙ w ∙ ap (λ t. filter_text x c a f.digits ++ t) e)
+        append_cancel_right line (filter_text x c a f.digits) (10 ∷ [])
+        (sym h ∙ w ∙ ap (λ t. filter_text x c a f.digits ++ t) e)
     ended end (inl e) w (inr h) = sym h.0 ∙ w ∙ ap (λ t. filter_text x c a f.digits ++ t) e ∙ append-nil _
-    ended end (inr e) w (inr h) = absurd (h.1 (filter_text x c a f.digits) (w ∙ ap (λ t. filter_text x c a f.digits ++ t) e))
+    ended end (inr e) w (inr h) =
+        absurd (h.1 (filter_text x c a f.digits) (w ∙ ap (λ t. filter_text x c a f.digits ++ t) e))
 
 -- what holds of the line of a filter
 pub line_parts : (text line x c a : List ℕ) (n : ℤ) (f : IsFilter c text x a n) → IsName c

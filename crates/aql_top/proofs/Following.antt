@@ -1,8 +1,7 @@
 -- The documents of a script, line by line.
-use Rattle.std.proofs.Common.{◌≡◌, ◌≢◌, ◌≤◌, ◌<◌, ℕ, ◌+◌, List, [], ◌∷◌, ◌++◌, Bool, true, false, Option, Some, None, length, codes, bytes_eq, refl, sym, ap, ap₂, ◌∙◌, subst, append_assoc, append-nil, arith, length-append, length-drop, zero, suc, drop, if◌then◌else◌, option_map}
+use Rattle.std.proofs.Common.{◌≡◌, ◌≤◌, ◌<◌, ℕ, ◌+◌, List, [], ◌∷◌, ◌++◌, Bool, true, false, Option, Some, None, length, codes, bytes_eq, refl, sym, ap, ap₂, ◌∙◌, subst, append_assoc, append-nil, arith, length-append, length-drop, zero, suc, drop, if◌then◌else◌, option_map}
 use Rattle.std.specs.Prelude.{◌==◌}
 use Rattle.std.proofs.lemmas.List.{append_cancel_left}
-use Rattle.std.proofs.lemmas.Slice.Eq.{bytes_eq-Decides}
 use Rattle.std.proofs.lemmas.Bool.{false≢true}
 use Rattle.aql_value.specs.Tree.{Tree}
 use Rattle.aql_top.specs.Script.{first_line, line_document, Next, Follow, IsName, IsScript}
@@ -90,7 +89,8 @@ pub one_more : (name : List ℕ) (held : List Tree) (body rest line behind : Lis
     → first_line rest ≡ Some (line, behind) → Next name held line d
     → HoldsFrom name held body rest → HoldsFrom name (held ++ d ∷ []) body behind
 one_more name held body rest line behind d e n h = record {
-  sound = λ documents query f. subst (λ ds. Follow name [] ds query body) (sym (append_assoc held (d ∷ []) documents))
+  sound = λ documents query f. subst (λ ds. Follow name [] ds query body)
+      (sym (append_assoc held (d ∷ []) documents))
       (h.sound (d ∷ documents) query (line, behind, e, n, f));
   complete = λ documents query f.
       let o = h.complete documents query f in
@@ -111,7 +111,8 @@ same_body bytes head rest name given documents query e n f =
 
 shorter : (t : Bool) (found : Option (List ℕ × List ℕ)) (b n : ℕ) (line rest bytes : List ℕ)
     → ((l r : List ℕ) → Line (l, r) ≡ found → length l < n)
-    → Line (line, rest) ≡ (if t then Line ([], bytes) else option_map (λ p. (b ∷ p.0, p.1)) found) → length line < suc n
+    → Line (line, rest) ≡ (if t then Line ([], bytes) else option_map (λ p. (b ∷ p.0, p.1)) found)
+    → length line < suc n
 shorter true found b n line rest bytes f h =
     let empty : line ≡ [] = same_front _ _ _ _ h in rw empty (omega arith)
 shorter false None b n line rest bytes f h = absurd (cc)
@@ -121,7 +122,8 @@ shorter false (Some p) b n line rest bytes f h =
     rw longer (omega (arith, within))
 
 -- a line is shorter than the bytes that it begins
-pub line_within : (bytes line rest : List ℕ) → Line (line, rest) ≡ first_line bytes → length line < length bytes
+pub line_within : (bytes line rest : List ℕ) → Line (line, rest) ≡ first_line bytes
+    → length line < length bytes
 line_within [] line rest e = absurd (cc)
 line_within (b ∷ bytes) line rest e =
     shorter (b == 10) (first_line bytes) b (length bytes) line rest bytes (line_within bytes) e
@@ -191,6 +193,7 @@ one_script bytes n m ds es q r f g =
     let heads = same_front _ _ _ _ (sym f.head ∙ g.head) in
     let bodies = same_back _ _ _ _ (sym f.head ∙ g.head) in
     let names = append_cancel_left (codes "%document ") n m heads in
-    let other = subst (λ x. Follow x [] es r f.body) (sym names) (subst (λ b. Follow m [] es r b) (sym bodies) g.lines) in
+    let other = subst (λ x. Follow x [] es r f.body) (sym names)
+    (subst (λ b. Follow m [] es r b) (sym bodies) g.lines) in
     let same = one_reading n [] ds es q r f.body f.lines other in
     (names, same.0, same.1)

@@ -1,5 +1,5 @@
 -- The first line of bytes, by the place of its line feed.
-use Rattle.std.proofs.Common.{◌≡◌, ℕ, ◌+◌, ◌<◌, List, [], ◌∷◌, Bool, true, false, Option, Some, None, option_map, take, drop, length, get_or, suc, zero, refl, ap, arith}
+use Rattle.std.proofs.Common.{◌≡◌, ℕ, ◌+◌, ◌<◌, List, [], ◌∷◌, true, false, Some, None, option_map, take, drop, length, get_or, suc, zero, refl, ap, arith}
 use Rattle.std.specs.Prelude.{◌==◌}
 use Rattle.std.proofs.lemmas.Bool.{false_from_ne_true}
 use Rattle.aql_top.specs.Script.{first_line}
@@ -13,7 +13,8 @@ line_here (b ∷ bytes) (suc at) l h e =
     let off : (b == 10) ≡ false = false_from_ne_true _ (h 0 (omega arith)) in
     let within : at < length bytes = omega arith in
     let next : suc at + 1 ≡ suc (at + 1) = omega arith in
-    rw (off, next) (ap (option_map (λ p. (b ∷ p.0, p.1))) (line_here bytes at within (λ k m. h (suc k) (omega arith)) e))
+    rw (off, next)
+    (ap (option_map (λ p. (b ∷ p.0, p.1))) (line_here bytes at within (λ k m. h (suc k) (omega arith)) e))
 
 pub no_line : (bytes : List ℕ) → ((k : ℕ) → k < length bytes → (get_or bytes k 0 == 10) ≡ true → ⊥)
     → None ≡ first_line bytes

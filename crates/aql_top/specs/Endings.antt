@@ -1,5 +1,5 @@
 -- How a run ends, and what each ending says of the words, the source, the output and the error output.
-use Rattle.std.specs.Prelude.{◌≡◌, ℕ, ◌⊎◌, List, [], ◌∷◌, ◌++◌, codes, IfSome, Option}
+use Rattle.std.specs.Prelude.{ℕ, ◌⊎◌, List, [], ◌∷◌, ◌++◌, codes, IfSome, Option}
 use Rattle.std.specs.Io.KnownBytes.{Appends, Keeps, IsAtEnd}
 use Rattle.aql_io.specs.Bytes.{AppendsPrefix}
 use Rattle.aql_io.specs.Causes.{Rose}
@@ -60,4 +60,5 @@ Writes _ input before after = Keeps before after
 -- what was written to the error output: the line, or the front of it where that output failed
 abbrev pub Tells : Ending → Option (List ℕ) → Option (List ℕ) → ℕ → ℕ → Type 0
 Tells ending before after faults faults' =
-    Appends before after (line_of ending) ⊎ (AppendsPrefix before after (line_of ending) × Rose faults faults')
+    Appends before after (line_of ending)
+    ⊎ (AppendsPrefix before after (line_of ending) × Rose faults faults')

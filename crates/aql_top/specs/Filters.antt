@@ -11,12 +11,13 @@ use Rattle.aql_value.specs.Tree.{Tree, number}
 use Rattle.aql_value.specs.Parts.{at_name, same}
 use Rattle.aql_meaning.specs.declared.BinOp.TheVariants.{Eq}
 use Rattle.aql_meaning.specs.declared.Ident.TheVariants.{Name}
-use Rattle.aql_meaning.specs.Tree.{ExprTree, literal, variable, access, chain, no_steps, name_then, no_links, link_then, ClauseTree, for_each, keep_if, no_clauses, clause_then, QueryTree, query}
+use Rattle.aql_meaning.specs.Tree.{ExprTree, literal, variable, access, chain, no_steps, name_then, no_links, link_then, for_each, keep_if, no_clauses, clause_then, QueryTree, query}
 use Rattle.aql_top.specs.Script.{IsName}
 
 -- `x.a == n`
 abbrev pub condition : List ℕ → List ℕ → ℤ → ExprTree
-condition x a n = chain (access (variable (Name x)) (name_then a no_steps)) (link_then Eq (literal (number n)) no_links)
+condition x a n = chain (access (variable (Name x)) (name_then a no_steps))
+    (link_then Eq (literal (number n)) no_links)
 
 -- the tree of the query
 abbrev pub filter_query : List ℕ → List ℕ → List ℕ → ℤ → QueryTree
@@ -28,7 +29,8 @@ filter_query x c a n =
 -- its text without the line feed
 abbrev pub filter_text : List ℕ → List ℕ → List ℕ → List ℕ → List ℕ
 filter_text x c a digits =
-    codes "FOR " ++ (x ++ (codes " IN " ++ (c ++ (codes " FILTER " ++ (x ++ (codes "." ++ (a ++ (codes " == " ++
+    codes "FOR " ++
+    (x ++ (codes " IN " ++ (c ++ (codes " FILTER " ++ (x ++ (codes "." ++ (a ++ (codes " == " ++
     (digits ++ (codes " RETURN " ++ x))))))))))
 
 -- the text is this query over the collection c

@@ -43,7 +43,8 @@ keyed name fields key id = None
 -- the document that an object becomes in the collection of a name
 abbrev pub document_of : List ℕ → Tree → Option Tree
 document_of name (object fs) =
-    keyed name (fields_list fs) (attribute (codes "_key") (fields_list fs)) (attribute (codes "_id") (fields_list fs))
+    keyed name (fields_list fs) (attribute (codes "_key") (fields_list fs))
+    (attribute (codes "_id") (fields_list fs))
 document_of name t = None
 
 abbrev pub of_json : List ℕ → Result Tree JsonFault → Option Tree
@@ -61,7 +62,8 @@ key_of d = at_name d (codes "_key")
 -- the first line, and what stands behind its line feed; none where there is no line feed
 abbrev pub first_line : List ℕ → Option (List ℕ × List ℕ)
 first_line [] = None
-first_line (b ∷ bytes) = if b == 10 then Some ([], bytes) else option_map (λ p. (b ∷ p.0, p.1)) (first_line bytes)
+first_line (b ∷ bytes) =
+    if b == 10 then Some ([], bytes) else option_map (λ p. (b ∷ p.0, p.1)) (first_line bytes)
 
 -- the line writes the document, with a key that none of the held ones has
 abbrev pub Next : List ℕ → List Tree → List ℕ → Tree → Type 0

@@ -9,3 +9,6 @@ mod script;
 mod shell;
 
 pub use shell::run_shell;
+
+#[cfg(test)]
+mod tests;
