@@ -1,0 +1,10 @@
+pub mod Runs
+pub mod Tables
+pub mod Words
+pub mod Classes
+pub mod Separators
+pub mod Names
+pub mod Digits
+pub mod Quotes
+pub mod Readings
+pub mod Cuts

@@ -1,0 +1,8 @@
+pub mod Signs
+pub mod Vocabulary
+pub mod Numbers
+pub mod Texts
+pub mod Tokens
+pub mod Faults
+pub mod Reading
+pub mod Steps

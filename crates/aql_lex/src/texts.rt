@@ -1,0 +1,148 @@
+ghost use Rattle.std.specs.Prelude.{◌≡◌, ◌≤◌, ◌<◌, ◌∷◌, ◌==◌, true, length, drop, IfOk, IfSome};
+ghost use Rattle.std.specs.Prelude.{IsUtf8, option_map, slice_index};
+ghost use Rattle.std.specs.Char.{digit_value};
+ghost use Rattle.std.specs.Char.Utf16.{is_high_surrogate};
+ghost use Rattle.aql_lex.specs.Signs.{is_quote};
+ghost use Rattle.aql_lex.specs.Texts.{sign_escape, code_unit, second_half, escape, unit_escape};
+ghost use Rattle.aql_lex.specs.Steps.{Takes, EndsInAscii, Leaves};
+ghost use Rattle.std.specs.Option.{SomeIff};
+
+use crate::signs::first;
+use crate::steps::Step;
+use crate::{LexKind, TokenKind};
+use aql_value::{OutOfMemory, Text};
+use std::alloc::Global;
+
+fn sign_escape(sign: u8) -> Option<char>
+    ensures { result ≡ sign_escape sign }
+{
+    match sign {
+        b'"' | b'\'' | b'/' | b'\\' => Some(char::from(sign)),
+        b'b' => Some('\u{8}'),
+        b'f' => Some('\u{c}'),
+        b'n' => Some('\n'),
+        b'r' => Some('\r'),
+        b't' => Some('\t'),
+        _ => None,
+    }
+}
+
+fn hexadecimal(sign: u8) -> Option<u32>
+    ensures value { SomeIff result (digit_value sign < 16) (digit_value sign) }
+    ensures ascii { IfSome result (λ n. (n < 16) × (sign < 128)) }
+{
+    char::from(sign).to_digit(16)
+}
+
+// The number that four hexadecimal digits write.
+fn code_unit(text: &[u8]) -> Option<u32>
+    ensures value { code_unit text.now ≡ option_map (λ unit. (unit, drop 4 text.now)) result }
+    ensures small { IfSome result (λ unit. unit < 65536) }
+    ensures ascii { IfSome result (λ _. EndsInAscii text.now 4) }
+{
+    match text {
+        [a, b, c, d, ..] => {
+            let (a, b) = (hexadecimal(*a)?, hexadecimal(*b)?);
+            let (c, d) = (hexadecimal(*c)?, hexadecimal(*d)?);
+            Some(((a * 16 + b) * 16 + c) * 16 + d)
+        }
+        _ => None,
+    }
+}
+
+// Behind the first half of a pair of surrogates: the character of both halves, if the second half
+// stands here, in six bytes.
+fn second_half(first: u32, text: &[u8]) -> Option<char>
+    requires { is_high_surrogate first ≡ true }
+    ensures value { second_half first text.now ≡ option_map (λ c. (c, drop 6 text.now)) result }
+    ensures ascii { IfSome result (λ _. EndsInAscii text.now 6) }
+{
+    match text {
+        [b'\\', b'u', digits @ ..] => {
+            let second = code_unit(digits)?;
+            if second < 0xdc00 || second >= 0xe000 {
+                return None;
+            }
+            char::from_u32(0x10000 + (first - 0xd800) * 0x400 + (second - 0xdc00))
+        }
+        _ => None,
+    }
+}
+
+// Behind `\u`: the character, and in how many bytes it is written.
+fn unit_escape(text: &[u8]) -> Option<(char, usize)>
+    ensures value { unit_escape (code_unit text.now)
+        ≡ option_map (λ p. (p.0, drop p.1 text.now)) result }
+    ensures ascii { IfSome result (λ p. EndsInAscii text.now p.1) }
+{
+    let unit = code_unit(text)?;
+    if unit < 0xd800 || unit >= 0xe000 {
+        return Some((char::from_u32(unit)?, 4));
+    }
+    if unit >= 0xdc00 {
+        return None;
+    }
+    let (_, rest) = text.split_at(4);
+    Some((second_half(unit, rest)?, 10))
+}
+
+// Behind a backslash: the character, and in how many bytes it is written.
+fn escape_len(text: &[u8]) -> Option<(char, usize)>
+    ensures value { escape text.now ≡ option_map (λ p. (p.0, drop p.1 text.now)) result }
+    ensures ascii { IfSome result (λ p. EndsInAscii text.now p.1) }
+{
+    match text {
+        [b'u', unit @ ..] => {
+            let (character, len) = unit_escape(unit)?;
+            Some((character, len + 1))
+        }
+        [sign, ..] => Some((sign_escape(*sign)?, 1)),
+        [] => None,
+    }
+}
+
+// The character that is written behind a backslash, and what is left behind it.
+fn escape(text: &str) -> Option<(char, &str)>
+    ensures value { escape text.now ≡ option_map (λ p. (p.0, p.1.now)) result }
+    ensures utf8 { IfSome result (λ p. IsUtf8 p.1.now) }
+    ensures shorter { IfSome result (λ p. length p.1.now < length text.now) }
+{
+    let (character, len) = escape_len(text.as_bytes())?;
+    let (_, rest) = text.split_at(len);
+    Some((character, rest))
+}
+
+// The text token or the fault behind an opening quote, which `text` begins with.
+pub(crate) fn text_step<'a>(
+    alloc: Global,
+    text: &'a str,
+    quote: char,
+    inner: &'a str,
+) -> Result<Step<'a>, OutOfMemory>
+    requires quote { is_quote quote ≡ true }
+    requires split { text.now ≡ quote ∷ inner.now }
+    ensures takes { IfOk result (λ step. Takes text.now step) }
+    ensures leaves { IfOk result (λ step. Leaves text.now step) }
+{
+    let mut value = String::new(alloc);
+    let mut left = inner;
+    while let Some((character, after)) = first(left) {
+        if character == quote {
+            let value = Text::new(alloc, value.as_str())?;
+            return Ok(Step::Token(TokenKind::Text(value), after));
+        }
+        if character == '\\' {
+            match escape(after) {
+                Some((meant, rest)) => {
+                    value.push(meant)?;
+                    left = rest;
+                }
+                None => return Ok(Step::Fault(LexKind::BadEscape, left)),
+            }
+        } else {
+            value.push(character)?;
+            left = after;
+        }
+    }
+    Ok(Step::Fault(LexKind::OpenString, text))
+}
