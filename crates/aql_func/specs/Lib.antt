@@ -1,0 +1,17 @@
+pub mod Operators
+pub mod Like
+pub mod Names
+pub mod Named
+pub mod Functions
+pub mod Arguments
+pub mod Lists
+pub mod Aggregates
+pub mod Texts
+pub mod Objects
+pub mod Signatures
+pub mod Seen
+pub mod Sifted
+pub mod Places
+pub mod Joined
+pub mod Pieces
+pub mod Chosen

@@ -1,25 +1,70 @@
--- What each clause makes of the list of rows, where the values of its expressions at the rows are given
--- (high-level operations, FOR and FILTER).
-use Rattle.std.specs.Prelude.{List, [], ◌∷◌, ◌++◌, map, cond}
+-- What each clause makes of a list of rows, where the values of its expressions at the rows are given, in
+-- the same order (AQL's high-level operations: FOR, FILTER, LET, SORT, LIMIT, RETURN). The definitions know
+-- no tree, so that whatever else works on rows can be said in the same words.
+use Rattle.std.specs.Prelude.{ℕ, ◌≡◌, List, [], ◌∷◌, ◌++◌, map, zip, take, drop, Bool, true, false, cond, IsPermutation, IsSortedBy}
+use Rattle.std.specs.Ordering.{is_lt, ordering_then}
+use Rattle.std.specs.declared.cmp.Ordering.{Ordering}
+use Rattle.std.specs.declared.cmp.Ordering.TheVariants.{Equal}
 use Rattle.aql_value.specs.Tree.{Tree}
 use Rattle.aql_value.specs.Parts.{elements}
+use Rattle.aql_value.specs.Compare.{compare}
 use Rattle.aql_value.specs.Truth.{truth}
-use Rattle.aql_meaning.specs.declared.Ident.{Ident}
+use Rattle.aql_func.specs.Arguments.{argument}
+use Rattle.aql_func.specs.Lists.{firsts}
+use Rattle.aql_tree.specs.declared.syntax.Ident.{Ident}
 use Rattle.aql_meaning.specs.Row.{Row, bind}
 
--- FOR over an array: each row with each element of its value, in order
+-- FOR over an array: each row with each element of its value, in order; nothing where it is no array
 abbrev pub with_elements : Ident → List Row → List Tree → List Row
 with_elements x [] values = []
 with_elements x (row ∷ rows) [] = []
 with_elements x (row ∷ rows) (v ∷ values) = map (bind x row) (elements v) ++ with_elements x rows values
 
--- FOR over a collection: the pairs of row and document; any permutation of them is allowed
+-- FOR over a collection: any permutation of these pairs of row and document
 abbrev pub with_documents : Ident → List Tree → List Row → List Row
 with_documents x documents [] = []
 with_documents x documents (row ∷ rows) = map (bind x row) documents ++ with_documents x documents rows
 
--- FILTER: the rows whose value is true-like, in order
-abbrev pub kept : List Row → List Tree → List Row
+-- FILTER: those whose value is true-like, in order
+abbrev pub kept : {X : Type 0} → List X → List Tree → List X
 kept [] values = []
-kept (row ∷ rows) [] = []
-kept (row ∷ rows) (v ∷ values) = cond (truth v) (row ∷ kept rows values) (kept rows values)
+kept (x ∷ xs) [] = []
+kept (x ∷ xs) (v ∷ values) = cond (truth v) (x ∷ kept xs values) (kept xs values)
+
+-- LET: each row with its value
+abbrev pub bound : Ident → List Row → List Tree → List Row
+bound x [] values = []
+bound x (row ∷ rows) [] = []
+bound x (row ∷ rows) (v ∷ values) = bind x row v ∷ bound x rows values
+
+-- LIMIT: at most `count` rows, behind the first `offset`
+abbrev pub limited : ℕ → ℕ → List Row → List Row
+limited offset count rows = take count (drop offset rows)
+
+-- RETURN: the values of all rows; with DISTINCT each value at its first place alone
+abbrev pub returned : Bool → List Tree → List Tree
+returned distinct values = cond distinct (firsts values) values
+
+-- two values of one key; `true` stands for DESC
+abbrev pub key_cmp : Bool → Tree → Tree → Ordering
+key_cmp false k l = compare k l
+key_cmp true k l = compare l k
+
+-- two lists of values compare key by key: the first key that differs decides
+abbrev pub keys_cmp : List Bool → List Tree → List Tree → Ordering
+keys_cmp [] keys others = Equal
+keys_cmp (descending ∷ directions) keys others =
+    ordering_then (key_cmp descending (argument keys 0) (argument others 0))
+    (keys_cmp directions (drop 1 keys) (drop 1 others))
+
+-- a row with the values of its keys
+abbrev pub Keyed : Type 0
+Keyed = List Tree × Row
+
+abbrev pub comes_before : List Bool → Keyed → Keyed → Bool
+comes_before directions a b = is_lt (keys_cmp directions a.0 b.0)
+
+-- SORT: any permutation of the rows in which no row has lesser keys than the row before it
+abbrev pub Sorted : List Bool → List (List Tree) → List Row → List Row → Type 0
+Sorted directions keys rows out = (sorted : List Keyed) × IsPermutation (zip keys rows) sorted
+    × IsSortedBy (comes_before directions) sorted × (out ≡ map (λ (keyed : Keyed). keyed.1) sorted)

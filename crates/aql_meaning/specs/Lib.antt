@@ -1,5 +1,15 @@
-pub mod Tree
 pub mod Row
+pub mod Expressions
 pub mod Clauses
+pub mod Groups
+pub mod Paths
+pub mod Options
+pub mod Visible
+pub mod Value
 pub mod Meaning
+pub mod Plain
+pub mod Uses
+pub mod Places
+pub mod Theorems
 pub mod laws
+pub mod worked

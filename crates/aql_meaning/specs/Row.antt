@@ -1,9 +1,9 @@
--- Rows: the variables that are set, with their values. A clause makes rows of rows (AQL fundamentals, Query basics).
-use Rattle.std.specs.Prelude.{List, Bool, false, cond, ◌==◌, ◌||◌, bytes_eq, Option, Some, None, unwrap_or, is_some}
-use Rattle.std.specs.List.{list_any}
+-- Rows: a value for each variable that a query has set so far (AQL's high-level operations hand rows of
+-- variables from clause to clause). A variable is a name as it is written, or a number.
+use Rattle.std.specs.Prelude.{List, [], ◌∷◌, Bool, false, cond, ◌==◌, bytes_eq, Option, Some, None, unwrap_or}
 use Rattle.aql_value.specs.Tree.{Tree, null}
-use Rattle.aql_meaning.specs.declared.Ident.{Ident}
-use Rattle.aql_meaning.specs.declared.Ident.TheVariants.{Name, Num}
+use Rattle.aql_tree.specs.declared.syntax.Ident.{Ident}
+use Rattle.aql_tree.specs.declared.syntax.Ident.TheVariants.{Name, Num}
 
 abbrev pub same_ident : Ident → Ident → Bool
 same_ident (Name a) (Name b) = bytes_eq a b
@@ -15,6 +15,7 @@ same_ident (Num a) (Name b) = false
 abbrev pub Row : Type 0
 Row = Ident → Option Tree
 
+-- the row without variables
 abbrev pub empty_row : Row
 empty_row x = None
 
@@ -22,10 +23,17 @@ empty_row x = None
 abbrev pub bind : Ident → Row → Tree → Row
 bind x row v y = cond (same_ident x y) (Some v) (row y)
 
--- null for a variable that the row does not have
+-- the row with v at x, where there is such a variable
+abbrev pub bind_maybe : Option Ident → Row → Tree → Row
+bind_maybe None row v = row
+bind_maybe (Some x) row v = bind x row v
+
+-- the row with each value at its variable; null where there are more variables than values
+abbrev pub bind_all : List Ident → List Tree → Row → Row
+bind_all [] vs row = row
+bind_all (x ∷ xs) [] row = bind_all xs [] (bind x row null)
+bind_all (x ∷ xs) (v ∷ vs) row = bind_all xs vs (bind x row v)
+
+-- the value of a variable; null for one that the row does not have
 abbrev pub value_at : Row → Ident → Tree
 value_at row x = unwrap_or (row x) null
-
--- whether x is a variable of this query or of the start row
-abbrev pub sees : Row → List Ident → Ident → Bool
-sees start vars x = list_any (same_ident x) vars || is_some (start x)

@@ -4,11 +4,11 @@ use Rattle.std.specs.Prelude.{IsPermutation}
 use Rattle.std.specs.List.{AllZip}
 use Rattle.std.proofs.lemmas.List.Sorted.{IsPermutation-refl}
 use Rattle.std.proofs.lemmas.Slice.Eq.{bytes_eq-Decides}
-use Rattle.aql_value.specs.Tree.{Tree, boolean, number}
+use Rattle.aql_value.specs.Tree.{Tree, null, boolean, number}
 use Rattle.aql_value.specs.Parts.{at_name, same}
 use Rattle.aql_value.specs.Database.{documents_named}
-use Rattle.aql_meaning.specs.declared.Ident.TheVariants.{Name}
-use Rattle.aql_meaning.specs.Tree.{variable}
+use Rattle.aql_tree.specs.declared.syntax.Ident.TheVariants.{Name}
+use Rattle.aql_tree.specs.Tree.{variable}
 use Rattle.aql_meaning.specs.Row.{Row, bind, empty_row, value_at}
 use Rattle.aql_meaning.specs.Clauses.{with_documents, kept}
 use Rattle.aql_meaning.specs.Meaning.{Ev, Answer}
@@ -34,13 +34,17 @@ module _ (x c a : List ℕ) (n : ℤ) (documents : List Tree) where
   unfolding rows
   given = rw (equal_itself c) (append-nil _)
 
-  tested : (ds : List Tree) → AllZip (Ev (one_collection c documents) (condition x a n)) (rows ds) (tests ds)
+  tested : (ds : List Tree) → AllZip (Ev (one_collection c documents) (condition x a n) null) (rows ds) (tests ds)
   unfolding rows tests
   tested [] = tt
   tested (d ∷ ds) =
       let row = bind (Name x) empty_row d in
       let shown = ap (λ v. boolean (same (at_name v a) (number n))) (sym (value_is d)) in (
-        (at_name (value_at row (Name x)) a, (value_at row (Name x), refl, refl), (number n, refl, shown)),
+        (
+          at_name (value_at row (Name x)) a,
+          (value_at row (Name x), refl, refl),
+          (boolean (same (at_name (value_at row (Name x)) a) (number n)), (number n, refl, refl), shown),
+        ),
         tested ds,
       )
 
@@ -55,7 +59,7 @@ module _ (x c a : List ℕ) (n : ℤ) (documents : List Tree) where
   kept_is [] = refl
   kept_is (d ∷ ds) = one_kept (same (at_name d a) (number n)) d [] _ (filter_kept a n ds) (kept_is ds)
 
-  returned : (ds : List Tree) → AllZip (Ev (one_collection c documents) (variable (Name x))) (rows ds) ds
+  returned : (ds : List Tree) → AllZip (Ev (one_collection c documents) (variable (Name x)) null) (rows ds) ds
   unfolding rows
   returned [] = tt
   returned (d ∷ ds) = (sym (value_is d), returned ds)
@@ -64,10 +68,12 @@ module _ (x c a : List ℕ) (n : ℤ) (documents : List Tree) where
       (filter_kept a n documents)
   filter_answers = (
     rows (filter_kept a n documents),
+    filter_kept a n documents,
     (
       rows documents,
       subst (λ rs. IsPermutation rs (rows documents)) (sym given) (IsPermutation-refl (rows documents)),
       (rows (filter_kept a n documents), (tests documents, tested documents, sym (kept_is documents)), refl),
     ),
     returned (filter_kept a n documents),
+    refl,
   )

@@ -5,13 +5,13 @@
 -- with one space at each gap and at most one line feed at the end. The variable x and the attribute a are one
 -- lower-case letter each, c is the collection, and the number is one or more digits with a value below 2 ^ 63.
 -- The file is replaced once the program parses every query.
-use Rattle.std.specs.Prelude.{◌≡◌, ◌<◌, ◌^◌, ◌⊎◌, ℤ, pos, ℕ, List, [], ◌∷◌, ◌++◌, codes, filter}
+use Rattle.std.specs.Prelude.{◌≡◌, false, ◌<◌, ◌^◌, ◌⊎◌, ℤ, pos, ℕ, List, [], ◌∷◌, ◌++◌, codes, filter}
 use Rattle.std.specs.Str.Parse.{IsNumeral, digits_value}
 use Rattle.aql_value.specs.Tree.{Tree, number}
 use Rattle.aql_value.specs.Parts.{at_name, same}
-use Rattle.aql_meaning.specs.declared.BinOp.TheVariants.{Eq}
-use Rattle.aql_meaning.specs.declared.Ident.TheVariants.{Name}
-use Rattle.aql_meaning.specs.Tree.{ExprTree, literal, variable, access, chain, no_steps, name_then, no_links, link_then, for_each, keep_if, no_clauses, clause_then, QueryTree, query}
+use Rattle.aql_func.specs.declared.operators.BinOp.TheVariants.{Eq}
+use Rattle.aql_tree.specs.declared.syntax.Ident.TheVariants.{Name}
+use Rattle.aql_tree.specs.Tree.{ExprTree, literal, variable, access, chain, no_steps, name_then, no_links, link_then, for_each, keep_if, no_clauses, clause_then, QueryTree, query}
 use Rattle.aql_top.specs.Script.{IsName}
 
 -- `x.a == n`
@@ -22,9 +22,9 @@ condition x a n = chain (access (variable (Name x)) (name_then a no_steps))
 -- the tree of the query
 abbrev pub filter_query : List ℕ → List ℕ → List ℕ → ℤ → QueryTree
 filter_query x c a n =
-    query
+    query []
     (clause_then (for_each (Name x) (variable (Name c))) (clause_then (keep_if (condition x a n)) no_clauses))
-    (variable (Name x))
+    false (variable (Name x))
 
 -- its text without the line feed
 abbrev pub filter_text : List ℕ → List ℕ → List ℕ → List ℕ → List ℕ

@@ -3,7 +3,7 @@ use Rattle.std.specs.Prelude.{◌≡◌, ℕ, ℤ, ◌≤◌, List, [], ◌∷�
 use Rattle.aql_value.specs.Tree.{Tree}
 use Rattle.aql_value.specs.Json.{json_text}
 use Rattle.aql_value.specs.Database.{Database}
-use Rattle.aql_meaning.specs.Tree.{QueryTree}
+use Rattle.aql_tree.specs.Tree.{QueryTree}
 use Rattle.aql_meaning.specs.Row.{empty_row}
 use Rattle.aql_meaning.specs.Meaning.{Answer}
 use Rattle.aql_top.specs.Script.{IsScript}

@@ -1,6 +1,6 @@
 -- What a line of JSON gives, from what was read of it.
-use Rattle.std.proofs.Common.{◌≡◌, ◌≤◌, if◌then◌else◌, ℕ, List, Option, Some, None, Ok, Err, Bool, true, false, refl, nat_le, arith}
-use Rattle.std.specs.Prelude.{Result, IsUtf8}
+use Rattle.std.proofs.Common.{◌≡◌, ◌≤◌, if◌then◌else◌, ℕ, List, Some, None, Ok, Err, true, false, refl, nat_le, arith}
+use Rattle.std.specs.Prelude.{IsUtf8}
 use Rattle.std.specs.Str.{is_utf8}
 use Rattle.std.proofs.lemmas.Str.{is_utf8-from_IsUtf8, IsUtf8-from_is_utf8}
 use Rattle.serde_json.specs.Data.{Data, depth}

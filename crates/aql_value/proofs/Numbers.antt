@@ -1,10 +1,9 @@
 -- What `parse` reads, as the number of a text.
-use Rattle.std.proofs.Common.{◌≡◌, ◌≢◌, ℕ, ◌<◌, ℤ, pos, List, [], ◌∷◌, length, Bool, true, false, cond, refl, sym, ap, subst, ◌∙◌, arith}
+use Rattle.std.proofs.Common.{◌≡◌, ◌≢◌, ℕ, ℤ, pos, List, [], ◌∷◌, length, Bool, true, false, cond, refl, sym, subst, arith}
 use Rattle.std.proofs.lemmas.Bool.{false≢true}
-use Rattle.std.specs.Prelude.{Result, Ok, Err, drop, FitsSigned, ◌&&◌, ◌==◌, slice_index}
+use Rattle.std.specs.Prelude.{FitsSigned, ◌&&◌, ◌==◌, slice_index}
 use Rattle.std.specs.Int.{w64}
-use Rattle.std.specs.Result.{OkIff}
-use Rattle.std.specs.Str.Parse.{IsNumeral, ParsesSigned, without_leading_sign, starts_with_minus, signed_digits_value}
+use Rattle.std.specs.Str.Parse.{IsNumeral, without_leading_sign, signed_digits_value}
 use Rattle.std.proofs.lemmas.Str.Parse.{numerals_by_value, tells_all_ascii_digits}
 use Rattle.aql_value.specs.Tree.{array_of}
 use Rattle.aql_value.specs.View.{trees_in}

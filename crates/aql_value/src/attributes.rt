@@ -62,6 +62,13 @@ impl Members {
         }
     }
 
+    /// The attributes in the order of their names, borrowed.
+    pub fn as_slice(&self) -> &[Member]
+        ensures { fields_in result.now ≡ self.now }
+    {
+        &self.entries
+    }
+
     /// The value of a name; `None` exactly where there is no attribute of this name.
     pub fn value(&self, name: &str) -> Option<&Value>
         ensures { option_map (λ v. tree_of v.now) result ≡ attribute name.now self.now }

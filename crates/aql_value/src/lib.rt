@@ -22,7 +22,7 @@ pub use memory::OutOfMemory;
 pub use order::{cmp, order_is_total};
 pub use reading::{JsonFault, from_json_line, text_is_read_back};
 pub use texts::Text;
-pub use values::{Items, Members, Value, recall_well_formed};
+pub use values::{Items, Member, Members, Value, recall_well_formed};
 pub use writing::write_json;
 
 #[cfg(test)]

@@ -52,11 +52,12 @@ impl Model for Items {
     ghost size_decreases = { λ a h. items_fall a.items.items };
 }
 
+/// One attribute of an object.
 #[cycle(value)]
 #[derive(Drop)]
-pub(crate) struct Member {
-    pub(crate) name: Text,
-    pub(crate) value: Value,
+pub struct Member {
+    pub name: Text,
+    pub value: Value,
 }
 
 /// The attributes of an object, in ascending order of the bytes of their names, each name once.

@@ -1,6 +1,6 @@
 -- The test of 64 bits is the fact.
-use Rattle.std.proofs.Common.{◌≡◌, ◌<◌, ◌≤◌, ℤ, pos, negsuc, true, refl, sym, ◌∙◌, arith}
-use Rattle.std.specs.Prelude.{FitsSigned, ◌&&◌}
+use Rattle.std.proofs.Common.{◌≡◌, ◌<◌, ◌≤◌, ℤ, pos, negsuc, true, sym, ◌∙◌, arith}
+use Rattle.std.specs.Prelude.{FitsSigned}
 use Rattle.std.specs.Int.{w64}
 use Rattle.std.proofs.lemmas.Bool.{ltb-true, leb-true, lt-ltb, le-leb}
 use Rattle.std.proofs.Math.Bool.{and-true}

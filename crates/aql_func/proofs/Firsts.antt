@@ -1,0 +1,155 @@
+-- The keys of a set of values are the first of each value; and what a set finds.
+use Rattle.std.proofs.Common.{◌≡◌, ℕ, ◌+◌, List, [], ◌∷◌, ◌++◌, Bool, true, false, cond, ◌||◌, filter, take, refl, sym, ap, subst, ◌∙◌, append-nil, not, true≢false}
+use mathlib.Core.Bool.{beq}
+use Rattle.std.specs.List.{list_any}
+use Rattle.std.specs.declared.cmp.Ordering.{Ordering}
+use Rattle.std.specs.declared.cmp.Ordering.TheVariants.{Less, Equal, Greater}
+use Rattle.std.specs.Ordering.{is_eq, on, eq_by_cmp, ordering_reverse}
+use Rattle.std.specs.Cmp.{Equal-is}
+use Rattle.std.proofs.lemmas.List.{map-append}
+use Rattle.std.proofs.lemmas.List.Elements.{filter-append}
+use Rattle.indexmap.specs.IndexSet.{insert_key}
+use Rattle.aql_value.specs.declared.values.Value.{Value}
+use Rattle.aql_value.specs.Tree.{Tree}
+use Rattle.aql_value.specs.View.{tree_of, trees_in}
+use Rattle.aql_value.specs.Compare.{compare}
+use Rattle.aql_value.specs.Parts.{same, is_in}
+use Rattle.aql_value.specs.laws.Keyed.{same_from_equal}
+use Rattle.aql_value.specs.laws.Strict.{compare_total}
+use Rattle.aql_func.specs.Lists.{firsts, added}
+
+pub same_is : (s t : Tree) → same s t ≡ true → s ≡ t
+same_is s t e = same_from_equal s t ((Equal-is (compare s t)).0 e)
+
+turned : (o : Ordering) → is_eq (ordering_reverse o) ≡ is_eq o
+turned Less = refl
+turned Equal = refl
+turned Greater = refl
+
+pub same_flip : (s t : Tree) → same s t ≡ same t s
+same_flip s t = ap is_eq (compare_total.antisymm s t) ∙ turned (compare t s)
+
+-- t goes last, unless it is there
+abbrev pub noted : List Tree → Tree → List Tree
+noted ks t = cond (is_in ks t) ks (ks ++ t ∷ [])
+
+pub any_tree : (v : Value) (ks : List Value) → list_any (λ k. is_eq (compare (tree_of v) (tree_of k))) ks ≡ is_in (trees_in ks) (tree_of v)
+any_tree v [] = refl
+any_tree v (k ∷ ks) = ap (λ b. is_eq (compare (tree_of v) (tree_of k)) || b) (any_tree v ks)
+
+either : (b : Bool) (ks : List Value) (v : Value) → trees_in (cond b ks (ks ++ v ∷ [])) ≡ cond b (trees_in ks) (trees_in ks ++ tree_of v ∷ [])
+either true ks v = refl
+either false ks v = map-append tree_of ks (v ∷ [])
+
+pub keys_noted : (ks : List Value) (v : Value) → trees_in (insert_key (on tree_of (eq_by_cmp compare)) ks v) ≡ noted (trees_in ks) (tree_of v)
+keys_noted ks v = either _ ks v ∙ ap (λ b. cond b (trees_in ks) (trees_in ks ++ tree_of v ∷ [])) (any_tree v ks)
+
+abbrev others : Tree → List Tree → List Tree
+others u ts = filter (λ x. not (same u x)) ts
+
+in_others : (u t : Tree) → same u t ≡ false → (ts : List Tree) → is_in (others u ts) t ≡ is_in ts t
+in_others u t h [] = refl
+in_others u t h (x ∷ xs) = by (same u x) refl (same t x) refl (in_others u t h xs)
+  where
+    by : (b : Bool) → same u x ≡ b → (d : Bool) → same t x ≡ d → is_in (others u xs) t ≡ is_in xs t
+        → is_in (cond (not b) (x ∷ others u xs) (others u xs)) t ≡ d || is_in xs t
+    by true p true q ih = absurd (let e = same_is t x q in let f = ap (same u) e in cc)
+    by true p false q ih = ih
+    by false p d q ih = rw q (ap (λ r. d || r) ih)
+
+pub in_firsts : (ts : List Tree) (t : Tree) → is_in (firsts ts) t ≡ is_in ts t
+in_firsts [] t = refl
+in_firsts (u ∷ us) t = by (same t u) refl (in_firsts us t)
+  where
+    by : (d : Bool) → same t u ≡ d → is_in (firsts us) t ≡ is_in us t → d || is_in (others u (firsts us)) t ≡ d || is_in us t
+    by true q ih = refl
+    by false q ih = in_others u t (same_flip u t ∙ q) (firsts us) ∙ ih
+
+others_push : (u t : Tree) (d : Bool) → same u t ≡ d → (ts : List Tree) → others u (ts ++ t ∷ []) ≡ cond d (others u ts) (others u ts ++ t ∷ [])
+others_push u t d e ts = filter-append (λ x. not (same u x)) ts (t ∷ []) ∙ by d e
+  where
+    by : (d : Bool) → same u t ≡ d → others u ts ++ cond (not (same u t)) (t ∷ []) [] ≡ cond d (others u ts) (others u ts ++ t ∷ [])
+    by true e = rw e (append-nil (others u ts))
+    by false e = rw e refl
+
+noted_others : (u t : Tree) (xs : List Tree) → u ∷ others u (noted xs t) ≡ noted (u ∷ others u xs) t
+noted_others u t xs = by (same u t) refl (is_in xs t) refl
+  where
+    by : (d : Bool) → same u t ≡ d → (b : Bool) → is_in xs t ≡ b
+        → u ∷ others u (cond b xs (xs ++ t ∷ [])) ≡ cond (same t u || is_in (others u xs) t) (u ∷ others u xs) ((u ∷ others u xs) ++ t ∷ [])
+    by true p true q = rw (same_flip t u ∙ p) refl
+    by true p false q = rw (same_flip t u ∙ p) (ap (λ l. u ∷ l) (others_push u t true p xs))
+    by false p true q = rw (same_flip t u ∙ p) (rw (in_others u t p xs ∙ q) refl)
+    by false p false q = rw (same_flip t u ∙ p) (rw (in_others u t p xs ∙ q) (ap (λ l. u ∷ l) (others_push u t false p xs)))
+
+pub firsts_push : (ts : List Tree) (t : Tree) → firsts (ts ++ t ∷ []) ≡ noted (firsts ts) t
+firsts_push [] t = refl
+firsts_push (u ∷ us) t = ap (λ l. u ∷ others u l) (firsts_push us t) ∙ noted_others u t (firsts us)
+
+-- what the set finds is in the list that it was made from
+pub in_keys : (ks vs : List Value) (v : Value) → trees_in ks ≡ firsts (trees_in vs) → list_any (on tree_of (eq_by_cmp compare) v) ks ≡ is_in (trees_in vs) (tree_of v)
+in_keys ks vs v e = any_tree v ks ∙ ap (λ l. is_in l (tree_of v)) e ∙ in_firsts (trees_in vs) (tree_of v)
+
+pub sift_yes : (b c : Bool) → beq b c ≡ true → (d : Bool) → b ≡ d → cond c d (not d) ≡ true
+sift_yes b c e d f = subst (λ x. cond c x (not x) ≡ true) f (by b c e)
+  where
+    by : (b c : Bool) → beq b c ≡ true → cond c b (not b) ≡ true
+    by true true e = refl
+    by true false e = absurd (true≢false (sym e))
+    by false true e = absurd (true≢false (sym e))
+    by false false e = refl
+
+pub sift_no : (b c : Bool) → beq b c ≡ false → (d : Bool) → b ≡ d → cond c d (not d) ≡ false
+sift_no b c e d f = subst (λ x. cond c x (not x) ≡ false) f (by b c e)
+  where
+    by : (b c : Bool) → beq b c ≡ false → cond c b (not b) ≡ false
+    by true true e = absurd (true≢false e)
+    by true false e = refl
+    by false true e = refl
+    by false false e = absurd (true≢false e)
+
+-- the values sifted so far
+pub sift_more : (p : Tree → Bool) (xs : List Value) (i : ℕ) (v : Value) (out : List Tree) → trees_in (take (i + 1) xs) ≡ trees_in (take i xs) ++ tree_of v ∷ []
+    → out ≡ filter p (trees_in (take i xs)) → cond (p (tree_of v)) (out ++ tree_of v ∷ []) out ≡ filter p (trees_in (take (i + 1) xs))
+sift_more p xs i v out e f = rw e (rw f (sym (filter-append p (trees_in (take i xs)) (tree_of v ∷ []) ∙ by (p (tree_of v)) (filter p (trees_in (take i xs))))))
+  where
+    by : (b : Bool) (l : List Tree) → l ++ cond b (tree_of v ∷ []) [] ≡ cond b (l ++ tree_of v ∷ []) l
+    by true l = refl
+    by false l = append-nil l
+
+-- one more value where it is new; and what was seen then
+pub once_more : (ks : List Value) (out : List Tree) (v : Value) (x : Tree) (b : Bool) → tree_of v ≡ x
+    → ((t : Tree) → is_in (trees_in ks) t ≡ is_in out t) → b ≡ not (list_any (on tree_of (eq_by_cmp compare) v) ks)
+    → added true out x ≡ cond b (out ++ x ∷ []) out
+once_more ks out v x b e h p = by (is_in out x) (sym (h x)) ∙ ap (λ d. cond d (out ++ x ∷ []) out) (sym (p ∙ ap not (any_tree v ks ∙ ap (is_in (trees_in ks)) e)))
+  where
+    by : (d : Bool) → d ≡ is_in (trees_in ks) x → cond d out (out ++ x ∷ []) ≡ cond (not (is_in (trees_in ks) x)) (out ++ x ∷ []) out
+    by true e = rw (sym e) refl
+    by false e = rw (sym e) refl
+
+is_in_push : (ts : List Tree) (x t : Tree) → is_in (ts ++ x ∷ []) t ≡ is_in ts t || same t x
+is_in_push [] x t = or_false (same t x)
+  where
+    or_false : (b : Bool) → b || false ≡ b
+    or_false true = refl
+    or_false false = refl
+is_in_push (u ∷ us) x t = ap (λ b. same t u || b) (is_in_push us x t) ∙ grouped (same t u) (is_in us t) (same t x)
+  where
+    grouped : (a b c : Bool) → a || (b || c) ≡ (a || b) || c
+    grouped true b c = refl
+    grouped false b c = refl
+
+pub seen_more : (ks : List Value) (out : List Tree) (v : Value) (x : Tree) → tree_of v ≡ x
+    → ((t : Tree) → is_in (trees_in ks) t ≡ is_in out t)
+    → (t : Tree) → is_in (trees_in (insert_key (on tree_of (eq_by_cmp compare)) ks v)) t ≡ is_in (added true out x) t
+seen_more ks out v x e h t =
+    ap (λ l. is_in l t) (keys_noted ks v ∙ ap (noted (trees_in ks)) e) ∙ by (is_in (trees_in ks) x) (h x)
+  where
+    by : (b : Bool) → b ≡ is_in out x → is_in (cond b (trees_in ks) (trees_in ks ++ x ∷ [])) t ≡ is_in (cond (is_in out x) out (out ++ x ∷ [])) t
+    by true p = rw (sym p) (h t)
+    by false p = rw (sym p) (is_in_push (trees_in ks) x t ∙ ap (λ b. b || same t x) (h t) ∙ sym (is_in_push out x t))
+
+-- `contains` of a slice
+pub held : (v : Value) (vs : List Value) → list_any (λ y. on tree_of (eq_by_cmp compare) y v) vs ≡ is_in (trees_in vs) (tree_of v)
+held v [] = refl
+held v (x ∷ xs) = ap (λ b. b || list_any (λ y. on tree_of (eq_by_cmp compare) y v) xs) (same_flip (tree_of x) (tree_of v)) ∙ ap (λ b. same (tree_of v) (tree_of x) || b) (held v xs)

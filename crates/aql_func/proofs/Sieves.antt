@@ -1,0 +1,52 @@
+-- Sieving list by list is being in all, or in none, of the lists.
+use Rattle.std.proofs.Common.{◌≡◌, List, [], ◌∷◌, ◌++◌, Bool, true, false, cond, ◌&&◌, ◌||◌, not, filter, refl, ap, sym, ◌∙◌}
+use Rattle.std.specs.Prelude.{flat_map}
+use Rattle.std.specs.List.{list_all, list_any}
+use Rattle.aql_value.specs.Tree.{Tree}
+use Rattle.aql_value.specs.Parts.{is_in}
+use Rattle.aql_func.specs.Lists.{in_all, in_none}
+use Rattle.aql_func.specs.Sifted.{sift, sieve}
+
+all_kept : (ts : List Tree) → filter (λ t. true) ts ≡ ts
+all_kept [] = refl
+all_kept (t ∷ ts) = ap (λ l. t ∷ l) (all_kept ts)
+
+both_tests : (p q : Tree → Bool) (ts : List Tree) → filter q (filter p ts) ≡ filter (λ t. p t && q t) ts
+both_tests p q [] = refl
+both_tests p q (t ∷ ts) = by (p t) (both_tests p q ts)
+  where
+    by : (b : Bool) → filter q (filter p ts) ≡ filter (λ t. p t && q t) ts
+        → filter q (cond b (t ∷ filter p ts) (filter p ts)) ≡ cond (b && q t) (t ∷ filter (λ t. p t && q t) ts) (filter (λ t. p t && q t) ts)
+    by true h = ap (λ l. cond (q t) (t ∷ l) l) h
+    by false h = h
+
+alike_tests : (p q : Tree → Bool) → ((t : Tree) → p t ≡ q t) → (ts : List Tree) → filter p ts ≡ filter q ts
+alike_tests p q h [] = refl
+alike_tests p q h (t ∷ ts) = ap (λ b. cond b (t ∷ filter p ts) (filter p ts)) (h t) ∙ ap (λ l. cond (q t) (t ∷ l) l) (alike_tests p q h ts)
+
+pub sieve_all : (others : List (List Tree)) (ts : List Tree) → sieve true others ts ≡ in_all others ts
+sieve_all [] ts = sym (all_kept ts)
+sieve_all (us ∷ others) ts = sieve_all others (sift true us ts) ∙ both_tests (is_in us) (λ t. list_all (λ us. is_in us t) others) ts
+
+neither : (a b : Bool) → not a && not b ≡ not (a || b)
+neither true b = refl
+neither false b = refl
+
+pub sieve_none : (others : List (List Tree)) (ts : List Tree) → sieve false others ts ≡ in_none others ts
+sieve_none [] ts = sym (all_kept ts)
+sieve_none (us ∷ others) ts =
+    sieve_none others (sift false us ts)
+    ∙ both_tests (λ t. not (is_in us t)) (λ t. not (list_any (λ us. is_in us t) others)) ts
+    ∙ alike_tests _ _ (λ t. neither (is_in us t) (list_any (λ us. is_in us t) others)) ts
+
+pub gathered_push : (lists : List (List Tree)) (ts : List Tree) → flat_map (λ (l : List Tree). l) (lists ++ ts ∷ []) ≡ flat_map (λ (l : List Tree). l) lists ++ ts
+gathered_push [] ts = nil ts
+  where
+    nil : (l : List Tree) → l ++ [] ≡ l
+    nil [] = refl
+    nil (x ∷ xs) = ap (λ r. x ∷ r) (nil xs)
+gathered_push (l ∷ lists) ts = ap (λ r. l ++ r) (gathered_push lists ts) ∙ sym (assoc l (flat_map (λ (l : List Tree). l) lists) ts)
+  where
+    assoc : (a b c : List Tree) → (a ++ b) ++ c ≡ a ++ (b ++ c)
+    assoc [] b c = refl
+    assoc (x ∷ xs) b c = ap (λ r. x ∷ r) (assoc xs b c)

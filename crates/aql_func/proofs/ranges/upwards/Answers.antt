@@ -1,0 +1,23 @@
+use Rattle.std.proofs.Common.{◌≡◌, ◌∷◌, ◌++◌, ap, sym, ◌∙◌, append_assoc, arith}
+use Rattle.std.specs.Prelude.{pos, ◌+ℤ◌, ◌<ℤ◌}
+use Rattle.std.specs.Int.{w64}
+use mir.Val.{to_z, of_z}
+use Rattle.std.proofs.lemmas.Int.{ints}
+use Rattle.aql_value.specs.Tree.{number}
+use Rattle.aql_func.specs.Operators.{numbers, range_length}
+use Rattle.aql_func.proofs.Counted.{next_up}
+use Rattle.aql_func.proofs.ranges.upwards.Goals as goal
+
+pub loop-next-preserved : goal.loop-next-preserved
+loop-next-preserved c =
+    let next = to_z w64 c.loop-next.next-bits in
+    let high = to_z w64 (of_z w64 c.args.high) in
+    let t = c.loop-next-test.true in
+    let l : next <ℤ high = grind (arith, ints) in
+    let more = to_z w64 (of_z w64 (next +ℤ pos 1)) in
+    let r : more ≡ next +ℤ pos 1 = omega (arith, ints) in
+    record {
+      within = omega (arith, ints);
+      numbers = ap (λ o. o ++ numbers (pos 1) more (range_length more high)) c.in_ok-push.ensures.ok ∙ append_assoc c.loop-next.out _ _
+          ∙ ap (λ l. c.loop-next.out ++ l) (ap (λ z. number next ∷ numbers (pos 1) z (range_length z high)) r ∙ sym (next_up next high l)) ∙ c.loop-next.invariant.numbers;
+    }

@@ -1,0 +1,17 @@
+use Rattle.std.proofs.Common.{cond, map, drop, ap, ◌∙◌}
+use Rattle.std.specs.List.{list_all}
+use Rattle.aql_value.specs.Tree.{null}
+use Rattle.aql_value.specs.View.{trees_in}
+use Rattle.aql_value.specs.Parts.{elements, list}
+use Rattle.aql_func.specs.Arguments.{is_array}
+use Rattle.aql_func.specs.Functions.{call, head}
+use Rattle.aql_func.specs.Lists.{distinct}
+use Rattle.aql_func.specs.declared.names.FuncName.TheVariants.{Intersection}
+use Rattle.aql_func.proofs.Sieves.{sieve_all}
+use Rattle.aql_func.proofs.sets.intersection.Goals as goal
+
+pub returns : goal.returns
+returns c =
+    let lists = map elements (trees_in c.as_slice.result.now) in
+    c.in_ok-sieved.ensures ∙ ap (λ ts. cond (list_all is_array (trees_in c.as_slice.result.now)) (list (distinct ts)) null) (sieve_all (drop 1 lists) (head lists))
+    ∙ ap (call Intersection) c.as_slice.ensures

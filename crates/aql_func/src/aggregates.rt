@@ -1,0 +1,123 @@
+// The aggregates of an array's elements.
+ghost use Rattle.std.specs.Prelude.{◌≡◌, IfOk, unwrap_or};
+ghost use Rattle.aql_value.specs.Tree.{null};
+ghost use Rattle.aql_value.specs.View.{tree_of, trees_in};
+ghost use Rattle.aql_func.specs.Aggregates as spec;
+ghost use Rattle.aql_func.specs.Functions.{call};
+ghost use Rattle.aql_func.specs.Seen.{given};
+
+use crate::FuncName;
+use crate::arguments::{array_at, is_null};
+use aql_value::{Items, OutOfMemory, Value, cmp, copy};
+use std::alloc::Global;
+
+pub(crate) fn min(alloc: Global, args: &Items) -> Result<Value, OutOfMemory>
+    ensures { IfOk result (λ v. tree_of v ≡ call FuncName.Min args.now) }
+{
+    match array_at(args, 0) {
+        None => Ok(Value::Null),
+        Some(list) => Ok(copied_or_null(alloc, least(list.as_slice()))?),
+    }
+}
+
+pub(crate) fn max(alloc: Global, args: &Items) -> Result<Value, OutOfMemory>
+    ensures { IfOk result (λ v. tree_of v ≡ call FuncName.Max args.now) }
+{
+    match array_at(args, 0) {
+        None => Ok(Value::Null),
+        Some(list) => Ok(copied_or_null(alloc, greatest(list.as_slice()))?),
+    }
+}
+
+fn copied_or_null(alloc: Global, value: Option<&Value>) -> Result<Value, OutOfMemory>
+    ensures { IfOk result (λ v. tree_of v ≡ unwrap_or (given value.entry) null) }
+{
+    match value {
+        Some(value) => Ok(copy(alloc, value)?),
+        None => Ok(Value::Null),
+    }
+}
+
+// The least of the values that aren't null.
+fn least(values: &[Value]) -> Option<&Value>
+    ensures { given result ≡ spec.best spec.lesser (trees_in values.now) }
+{
+    let mut best = None;
+    let mut at = values.len();
+    while at > 0 {
+        at -= 1;
+        best = lesser(&values[at], best);
+    }
+    best
+}
+
+// The greatest of the values that aren't null.
+fn greatest(values: &[Value]) -> Option<&Value>
+    ensures { given result ≡ spec.best spec.greater (trees_in values.now) }
+{
+    let mut best = None;
+    let mut at = values.len();
+    while at > 0 {
+        at -= 1;
+        best = greater(&values[at], best);
+    }
+    best
+}
+
+fn lesser<'a>(value: &'a Value, best: Option<&'a Value>) -> Option<&'a Value>
+    ensures { given result ≡ spec.preferred spec.lesser (tree_of value.now) (given best.entry) }
+{
+    if is_null(value) {
+        return best;
+    }
+    match best {
+        Some(other) => if cmp(other, value).is_lt() {
+            Some(other)
+        } else {
+            Some(value)
+        },
+        None => Some(value),
+    }
+}
+
+fn greater<'a>(value: &'a Value, best: Option<&'a Value>) -> Option<&'a Value>
+    ensures { given result ≡ spec.preferred spec.greater (tree_of value.now) (given best.entry) }
+{
+    if is_null(value) {
+        return best;
+    }
+    match best {
+        Some(other) => if cmp(value, other).is_lt() {
+            Some(other)
+        } else {
+            Some(value)
+        },
+        None => Some(value),
+    }
+}
+
+pub(crate) fn sum(args: &Items) -> Value
+    ensures { tree_of result ≡ call FuncName.Sum args.now }
+{
+    match array_at(args, 0) {
+        None => Value::Null,
+        Some(list) => sum_of(list.as_slice()),
+    }
+}
+
+fn sum_of(values: &[Value]) -> Value
+    ensures { tree_of result ≡ spec.sum_of (trees_in values.now) }
+{
+    let mut total = 0i128;
+    for value in values {
+        match value {
+            Value::Null => {}
+            Value::Num(n) => total += i128::from(*n),
+            _ => return Value::Null,
+        }
+    }
+    match i64::try_from(total) {
+        Ok(total) => Value::Num(total),
+        Err(_) => Value::Null,
+    }
+}

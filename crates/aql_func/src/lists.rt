@@ -1,0 +1,249 @@
+// Lists of values: copies, parts, order and distinct values.
+ghost use Rattle.std.specs.Prelude.{◌++◌, ◌≡◌, drop, false, IfOk, OnOk, take, true};
+ghost use Rattle.aql_value.specs.View.{trees_in};
+ghost use Rattle.aql_func.specs.Lists as spec;
+ghost use Rattle.aql_func.specs.Places.{up_to_place};
+ghost use Rattle.aql_func.specs.Seen.{given};
+ghost use Rattle.aql_func.specs.Sifted.{sift};
+
+use aql_value::{Items, OutOfMemory, Value, copy, to_number};
+use indexmap::IndexSet;
+use std::alloc::Global;
+
+// These values as an array.
+pub(crate) fn array_of(alloc: Global, values: Vec<Value>) -> Result<Items, OutOfMemory>
+    ensures { IfOk result (λ w. w ≡ trees_in values.items) }
+{
+    let mut out = Items::new(alloc);
+    for value in values {
+        out.push(value)?;
+    }
+    Ok(out)
+}
+
+// An array of equal values.
+pub(crate) fn copied(alloc: Global, values: &[Value]) -> Result<Items, OutOfMemory>
+    ensures { IfOk result (λ w. w ≡ trees_in values.now) }
+{
+    let mut out = Vec::new(alloc);
+    append(alloc, &mut out, values)?;
+    Ok(array_of(alloc, out)?)
+}
+
+// Puts copies at the end.
+pub(crate) fn append(
+    alloc: Global,
+    out: &mut Vec<Value>,
+    values: &[Value],
+) -> Result<(), OutOfMemory>
+    ensures { OnOk result (trees_in out.new.items ≡ trees_in out.old.items ++ trees_in values.now) }
+{
+    for value in values {
+        out.push(copy(alloc, value)?)?;
+    }
+    Ok(())
+}
+
+pub(crate) fn sort(values: &mut Vec<Value>) -> Result<(), OutOfMemory>
+    ensures { OnOk result (trees_in values.new.items ≡ spec.ascending (trees_in values.old.items)) }
+{
+    values.sort()?;
+    Ok(())
+}
+
+// The distinct values, each at its first place.
+pub(crate) fn distinct_set(alloc: Global, values: &[Value]) -> Result<IndexSet<Value>, OutOfMemory>
+    ensures { IfOk result (λ w. trees_in w.keys ≡ spec.firsts (trees_in values.now)) }
+{
+    let mut seen = IndexSet::new(alloc);
+    for value in values {
+        seen.insert(copy(alloc, value)?)?;
+    }
+    Ok(seen)
+}
+
+pub(crate) fn firsts(alloc: Global, values: &[Value]) -> Result<Vec<Value>, OutOfMemory>
+    ensures { IfOk result (λ w. trees_in w.items ≡ spec.firsts (trees_in values.now)) }
+{
+    let mut out = Vec::new(alloc);
+    for value in distinct_set(alloc, values)? {
+        out.push(value)?;
+    }
+    Ok(out)
+}
+
+pub(crate) fn distinct(alloc: Global, values: &[Value]) -> Result<Items, OutOfMemory>
+    ensures { IfOk result (λ w. w ≡ spec.distinct (trees_in values.now)) }
+{
+    let mut out = firsts(alloc, values)?;
+    sort(&mut out)?;
+    Ok(array_of(alloc, out)?)
+}
+
+pub(crate) fn sorted(alloc: Global, values: &[Value]) -> Result<Items, OutOfMemory>
+    ensures { IfOk result (λ w. w ≡ spec.ascending (trees_in values.now)) }
+{
+    let mut out = Vec::new(alloc);
+    append(alloc, &mut out, values)?;
+    sort(&mut out)?;
+    Ok(array_of(alloc, out)?)
+}
+
+// The values that are in the other list, where `present` says so, and else those that are not.
+pub(crate) fn sifted(
+    alloc: Global,
+    values: &[Value],
+    other: &[Value],
+    present: bool,
+) -> Result<Vec<Value>, OutOfMemory>
+    ensures { IfOk result
+        (λ w. trees_in w.items ≡ sift present (trees_in other.now) (trees_in values.now)) }
+{
+    let set = distinct_set(alloc, other)?;
+    let mut out = Vec::new(alloc);
+    for value in values {
+        if set.contains(value) == present {
+            out.push(copy(alloc, value)?)?;
+        }
+    }
+    Ok(out)
+}
+
+// Where a number points in a list of this size.
+pub(crate) fn place_from(size: usize, number: i64) -> usize
+    ensures { result ≡ spec.place_from size number }
+{
+    match usize::try_from(number) {
+        Ok(place) => place,
+        Err(_) => size.saturating_sub(number.unsigned_abs() as usize),
+    }
+}
+
+// How many a number asks for.
+pub(crate) fn how_many(number: i64) -> usize
+    ensures { result ≡ spec.how_many number }
+{
+    match usize::try_from(number) {
+        Ok(count) => count,
+        Err(_) => 0,
+    }
+}
+
+pub(crate) fn front<T>(items: &[T], count: usize) -> &[T]
+    ensures { result.now ≡ take count items.now }
+{
+    if count < items.len() {
+        &items[..count]
+    } else {
+        items
+    }
+}
+
+pub(crate) fn behind<T>(items: &[T], start: usize) -> &[T]
+    ensures { result.now ≡ drop start items.now }
+{
+    if start < items.len() {
+        &items[start..]
+    } else {
+        &items[..0]
+    }
+}
+
+pub(crate) fn at_most<'a, T>(items: &'a [T], count: Option<&Value>) -> &'a [T]
+    ensures { result.now ≡ spec.at_most (given count.entry) items.now }
+{
+    match count {
+        Some(count) => front(items, how_many(to_number(count))),
+        None => items,
+    }
+}
+
+pub(crate) fn last_of<T>(items: &[T], count: usize) -> &[T]
+    ensures { result.now ≡ spec.last_of count items.now }
+{
+    behind(items, items.len().saturating_sub(count))
+}
+
+fn up_to(values: &[Value], count: i64) -> &[Value]
+    ensures { trees_in result.now ≡ spec.up_to count (trees_in values.now) }
+{
+    front(values, places_up_to(values.len(), count))
+}
+
+fn places_up_to(size: usize, count: i64) -> usize
+    ensures { result ≡ up_to_place size count }
+{
+    match usize::try_from(count) {
+        Ok(count) => count,
+        Err(_) => size.saturating_sub(count.unsigned_abs() as usize),
+    }
+}
+
+pub(crate) fn slice<'a>(values: &'a [Value], start: i64, count: Option<&Value>) -> &'a [Value]
+    ensures { trees_in result.now ≡ spec.slice start (given count.entry) (trees_in values.now) }
+{
+    let rest = behind(values, place_from(values.len(), start));
+    match count {
+        Some(count) => up_to(rest, to_number(count)),
+        None => rest,
+    }
+}
+
+// Puts the values at the end, with arrays inside opened to a depth.
+fn flatten_into(
+    alloc: Global,
+    values: &[Value],
+    depth: usize,
+    out: &mut Items,
+) -> Result<(), OutOfMemory>
+    ensures { OnOk result (out.new ≡ out.old ++ spec.flat depth (trees_in values.now)) }
+{
+    for value in values {
+        match value {
+            Value::List(list) if depth > 0 => flatten_into(alloc, list.as_slice(), depth - 1, out)?,
+            _ => out.push(copy(alloc, value)?)?,
+        }
+    }
+    Ok(())
+}
+
+pub(crate) fn flat(alloc: Global, values: &[Value], depth: usize) -> Result<Items, OutOfMemory>
+    ensures { IfOk result (λ w. w ≡ spec.flat depth (trees_in values.now)) }
+{
+    let mut out = Items::new(alloc);
+    flatten_into(alloc, values, depth, &mut out)?;
+    Ok(out)
+}
+
+// `more` added to the list, one by one.
+pub(crate) fn all_added(
+    alloc: Global,
+    values: &[Value],
+    more: Vec<Value>,
+) -> Result<Items, OutOfMemory>
+    ensures { IfOk result (λ w. w ≡ spec.all_added false (trees_in values.now) (trees_in more.items)) }
+{
+    let mut out = copied(alloc, values)?;
+    for value in more {
+        out.push(value)?;
+    }
+    Ok(out)
+}
+
+// `more` added to the list, one by one, where the list doesn't have it.
+pub(crate) fn all_added_once(
+    alloc: Global,
+    values: &[Value],
+    more: &[Value],
+) -> Result<Items, OutOfMemory>
+    ensures { IfOk result (λ w. w ≡ spec.all_added true (trees_in values.now) (trees_in more.now)) }
+{
+    let mut seen = distinct_set(alloc, values)?;
+    let mut out = copied(alloc, values)?;
+    for value in more {
+        if seen.insert(copy(alloc, value)?)? {
+            out.push(copy(alloc, value)?)?;
+        }
+    }
+    Ok(out)
+}

@@ -1,0 +1,258 @@
+// Functions of objects.
+ghost use Rattle.std.specs.List.{after_first, before_first};
+ghost use Rattle.std.specs.Prelude.{[], ◌∷◌, ◌≡◌, codes, flat_map, IfOk, IfSome, is_some, List, map, OnOk, ℕ};
+ghost use Rattle.aql_value.specs.Attributes.{attribute};
+ghost use Rattle.aql_value.specs.Parts.{is_in, record_of};
+ghost use Rattle.aql_value.specs.Tree.{object_of, text, Tree};
+ghost use Rattle.aql_value.specs.View.{tree_of, trees_in};
+ghost use Rattle.aql_value.specs.WellFormed.{FieldsWellFormed};
+ghost use Rattle.aql_func.specs.Arguments.{of_object, opened};
+ghost use Rattle.aql_func.specs.Chosen.{chosen_of};
+ghost use Rattle.aql_func.specs.Functions.{call};
+ghost use Rattle.aql_func.specs.Objects as spec;
+
+use crate::FuncName;
+use crate::arguments::{array, object, object_at, text_at};
+use crate::lists::{append, behind, distinct_set};
+use crate::texts::spread;
+use aql_value::{Items, Members, OutOfMemory, Text, Value, copy, recall_well_formed};
+use indexmap::IndexSet;
+use std::alloc::Global;
+
+pub(crate) fn values_of(alloc: Global, members: &Members) -> Result<Items, OutOfMemory>
+    ensures { IfOk result (λ w. w ≡ map (λ (f : List ℕ × Tree). f.1) members.now) }
+{
+    let mut out = Items::new(alloc);
+    for member in members.as_slice() {
+        out.push(copy(alloc, &member.value)?)?;
+    }
+    Ok(out)
+}
+
+fn names_of(alloc: Global, members: &Members) -> Result<Items, OutOfMemory>
+    ensures { IfOk result (λ w. w ≡ map (λ (f : List ℕ × Tree). text f.0) members.now) }
+{
+    let mut out = Items::new(alloc);
+    for member in members.as_slice() {
+        out.push(Value::Text(member.name.copy(alloc)?))?;
+    }
+    Ok(out)
+}
+
+pub(crate) fn attributes(alloc: Global, args: &Items) -> Result<Value, OutOfMemory>
+    ensures { IfOk result (λ v. tree_of v ≡ call FuncName.Attributes args.now) }
+{
+    match object_at(args, 0) {
+        None => Ok(Value::Null),
+        Some(members) => Ok(Value::List(names_of(alloc, members)?)),
+    }
+}
+
+pub(crate) fn values(alloc: Global, args: &Items) -> Result<Value, OutOfMemory>
+    ensures { IfOk result (λ v. tree_of v ≡ call FuncName.Values args.now) }
+{
+    match object_at(args, 0) {
+        None => Ok(Value::Null),
+        Some(members) => Ok(Value::List(values_of(alloc, members)?)),
+    }
+}
+
+pub(crate) fn has(alloc: Global, args: &Items) -> Result<Value, OutOfMemory>
+    ensures { IfOk result (λ v. tree_of v ≡ call FuncName.Has args.now) }
+{
+    let name = text_at(alloc, args, 1)?;
+    match object_at(args, 0) {
+        None => Ok(Value::Null),
+        Some(members) => Ok(Value::Bool(has_attribute(members, name.as_str()))),
+    }
+}
+
+fn has_attribute(members: &Members, name: &str) -> bool
+    ensures { result ≡ is_some (attribute name.now members.now) }
+{
+    members.value(name).is_some()
+}
+
+// Sets all attributes of the second object in the first.
+fn set_all(alloc: Global, out: &mut Members, members: &Members) -> Result<(), OutOfMemory>
+    ensures { OnOk result (out.new ≡ spec.with_all out.old members.now) }
+{
+    for attribute in members.as_slice() {
+        out.set(attribute.name.copy(alloc)?, copy(alloc, &attribute.value)?)?;
+    }
+    Ok(())
+}
+
+pub(crate) fn merge(alloc: Global, args: &Items) -> Result<Value, OutOfMemory>
+    ensures { IfOk result (λ v. tree_of v ≡ call FuncName.Merge args.now) }
+{
+    Ok(merged(alloc, spread(args.as_slice()))?)
+}
+
+fn merged(alloc: Global, values: &[Value]) -> Result<Value, OutOfMemory>
+    ensures { IfOk result (λ v. tree_of v ≡ spec.merged (trees_in values.now)) }
+{
+    let mut out = Members::new(alloc);
+    for value in values {
+        match object(value) {
+            Some(members) => set_all(alloc, &mut out, members)?,
+            None => return Ok(Value::Null),
+        }
+    }
+    Ok(Value::Object(out))
+}
+
+pub(crate) fn unset(alloc: Global, args: &Items) -> Result<Value, OutOfMemory>
+    ensures { IfOk result (λ v. tree_of v ≡ call FuncName.Unset args.now) }
+{
+    match args.get(0) {
+        Some(value) => {
+            let names = named(alloc, behind(args.as_slice(), 1))?;
+            Ok(chosen(alloc, value, &names, false)?)
+        }
+        None => Ok(Value::Null),
+    }
+}
+
+pub(crate) fn keep(alloc: Global, args: &Items) -> Result<Value, OutOfMemory>
+    ensures { IfOk result (λ v. tree_of v ≡ call FuncName.Keep args.now) }
+{
+    match args.get(0) {
+        Some(value) => {
+            let names = named(alloc, behind(args.as_slice(), 1))?;
+            Ok(chosen(alloc, value, &names, true)?)
+        }
+        None => Ok(Value::Null),
+    }
+}
+
+// The values among which an attribute's name is sought: the arguments, with arrays opened.
+fn named(alloc: Global, args: &[Value]) -> Result<Vec<Value>, OutOfMemory>
+    ensures { IfOk result (λ w. trees_in w.items ≡ flat_map opened (trees_in args.now)) }
+{
+    let mut out = Vec::new(alloc);
+    for arg in args {
+        match array(arg) {
+            Some(list) => append(alloc, &mut out, list.as_slice())?,
+            None => out.push(copy(alloc, arg)?)?,
+        }
+    }
+    Ok(out)
+}
+
+// The attributes whose names are among these values, where `present` says so, and else the others.
+fn chosen(
+    alloc: Global,
+    value: &Value,
+    names: &[Value],
+    present: bool,
+) -> Result<Value, OutOfMemory>
+    ensures { IfOk result (λ v. tree_of v ≡ of_object (tree_of value.now)
+        (λ fs. record_of (chosen_of present (trees_in names.now) fs))) }
+{
+    recall_well_formed(value);
+    match value {
+        Value::Object(members) => Ok(Value::Object(chosen_members(
+            alloc, members, names, present,
+        )?)),
+        _ => Ok(Value::Null),
+    }
+}
+
+fn chosen_members(
+    alloc: Global,
+    members: &Members,
+    names: &[Value],
+    present: bool,
+) -> Result<Members, OutOfMemory>
+    requires { FieldsWellFormed (object_of members.now) }
+    ensures { IfOk result (λ w. w ≡ chosen_of present (trees_in names.now) members.now) }
+{
+    let sought = distinct_set(alloc, names)?;
+    let mut out = Members::new(alloc);
+    for member in members.as_slice() {
+        if is_among(alloc, &sought, &member.name)? == present {
+            out.set(member.name.copy(alloc)?, copy(alloc, &member.value)?)?;
+        }
+    }
+    Ok(out)
+}
+
+fn is_among(alloc: Global, names: &IndexSet<Value>, name: &Text) -> Result<bool, OutOfMemory>
+    ensures { IfOk result (λ b. b ≡ is_in (trees_in names.now.keys) (text name.now)) }
+{
+    let name = Value::Text(name.copy(alloc)?);
+    Ok(names.contains(&name))
+}
+
+pub(crate) fn parse_identifier(alloc: Global, args: &Items) -> Result<Value, OutOfMemory>
+    ensures { IfOk result (λ v. tree_of v ≡ call FuncName.ParseIdentifier args.now) }
+{
+    match args.get(0) {
+        Some(value) => Ok(parsed(alloc, value)?),
+        None => Ok(Value::Null),
+    }
+}
+
+fn parsed(alloc: Global, value: &Value) -> Result<Value, OutOfMemory>
+    ensures { IfOk result (λ v. tree_of v ≡ spec.parsed_identifier (tree_of value.now)) }
+{
+    match value {
+        Value::Object(members) => match members.value("_id") {
+            Some(id) => Ok(parsed_text(alloc, id)?),
+            None => Ok(Value::Null),
+        },
+        _ => Ok(parsed_text(alloc, value)?),
+    }
+}
+
+fn parsed_text(alloc: Global, value: &Value) -> Result<Value, OutOfMemory>
+    ensures { IfOk result (λ v. tree_of v ≡ spec.identified (spec.id_of_text (tree_of value.now))) }
+{
+    match value {
+        Value::Text(text) => Ok(identifier(alloc, text.as_str())?),
+        _ => Ok(Value::Null),
+    }
+}
+
+fn identifier(alloc: Global, id: &str) -> Result<Value, OutOfMemory>
+    ensures { IfOk result (λ v. tree_of v ≡ spec.identified (spec.id_of_text (text id.now))) }
+{
+    match sides(id) {
+        Some((collection, key)) => Ok(Value::Object(members_of_id(alloc, collection, key)?)),
+        None => Ok(Value::Null),
+    }
+}
+
+// The two sides of an id text; `None` where a text is none.
+fn sides(id: &str) -> Option<(&str, &str)>
+    ensures found { is_some result ≡ spec.is_id id.now }
+    ensures sides { IfSome result (λ s. (s.0.now ≡ before_first spec.is_slash id.now)
+        × (s.1.now ≡ after_first spec.is_slash id.now)) }
+{
+    match id.split_once('/') {
+        Some((collection, key)) => {
+            if collection.is_empty() || key.is_empty() || key.contains('/') {
+                return None;
+            }
+            Some((collection, key))
+        }
+        None => None,
+    }
+}
+
+fn members_of_id(alloc: Global, collection: &str, key: &str) -> Result<Members, OutOfMemory>
+    ensures { IfOk result (λ m. m ≡ (codes "collection", text collection.now)
+        ∷ (codes "key", text key.now) ∷ []) }
+{
+    let mut out = Members::new(alloc);
+    out.set(
+        Text::new(alloc, "collection")?,
+        Value::Text(Text::new(alloc, collection)?),
+    )?;
+    out.set(
+        Text::new(alloc, "key")?,
+        Value::Text(Text::new(alloc, key)?),
+    )?;
+    Ok(out)
+}

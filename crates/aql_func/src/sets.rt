@@ -1,0 +1,119 @@
+// Functions of several arrays.
+ghost use Rattle.std.specs.List.{list_all};
+ghost use Rattle.std.specs.Prelude.{◌≡◌, drop, flat_map, IfOk, map};
+ghost use Rattle.aql_value.specs.Parts as parts;
+ghost use Rattle.aql_value.specs.Parts.{list};
+ghost use Rattle.aql_value.specs.View.{tree_of, trees_in};
+ghost use Rattle.aql_func.specs.Arguments as given_args;
+ghost use Rattle.aql_func.specs.Arguments.{of_lists};
+ghost use Rattle.aql_func.specs.Functions.{call, head};
+ghost use Rattle.aql_func.specs.Lists as spec;
+ghost use Rattle.aql_func.specs.Sifted.{sieve};
+
+use crate::FuncName;
+use crate::arguments::{array, is_array};
+use crate::lists::{append, array_of, distinct, sifted};
+use aql_value::{Items, OutOfMemory, Value};
+use std::alloc::Global;
+
+fn all_arrays(args: &[Value]) -> bool
+    ensures { result ≡ list_all given_args.is_array (trees_in args.now) }
+{
+    for arg in args {
+        if !is_array(arg) {
+            return false;
+        }
+    }
+    true
+}
+
+// The elements of an array; everything else has none.
+fn elements(value: &Value) -> &[Value]
+    ensures { trees_in result.now ≡ parts.elements (tree_of value.now) }
+{
+    match array(value) {
+        Some(list) => list.as_slice(),
+        None => &[],
+    }
+}
+
+pub(crate) fn intersection(alloc: Global, args: &Items) -> Result<Value, OutOfMemory>
+    ensures { IfOk result (λ v. tree_of v ≡ call FuncName.Intersection args.now) }
+{
+    Ok(sieved(alloc, args.as_slice(), true)?)
+}
+
+pub(crate) fn minus(alloc: Global, args: &Items) -> Result<Value, OutOfMemory>
+    ensures { IfOk result (λ v. tree_of v ≡ call FuncName.Minus args.now) }
+{
+    Ok(sieved(alloc, args.as_slice(), false)?)
+}
+
+// The distinct elements of the first array that are in all the others, where `present` says so, and
+// else those that are in none of them.
+fn sieved(alloc: Global, args: &[Value], present: bool) -> Result<Value, OutOfMemory>
+    ensures { IfOk result (λ v. tree_of v ≡ of_lists (trees_in args.now)
+        (λ lists. list (spec.distinct (sieve present (drop 1 lists) (head lists))))) }
+{
+    if !all_arrays(args) {
+        return Ok(Value::Null);
+    }
+    match args.split_first() {
+        None => Ok(Value::List(Items::new(alloc))),
+        Some((first, others)) => {
+            let left = sieved_through(alloc, elements(first), others, present)?;
+            Ok(Value::List(distinct(alloc, &left)?))
+        }
+    }
+}
+
+fn sieved_through(
+    alloc: Global,
+    values: &[Value],
+    others: &[Value],
+    present: bool,
+) -> Result<Vec<Value>, OutOfMemory>
+    ensures { IfOk result (λ w. trees_in w.items
+        ≡ sieve present (map parts.elements (trees_in others.now)) (trees_in values.now)) }
+{
+    let mut left = Vec::new(alloc);
+    append(alloc, &mut left, values)?;
+    for other in others {
+        left = sifted(alloc, &left, elements(other), present)?;
+    }
+    Ok(left)
+}
+
+pub(crate) fn union(alloc: Global, args: &Items) -> Result<Value, OutOfMemory>
+    ensures { IfOk result (λ v. tree_of v ≡ call FuncName.Union args.now) }
+{
+    let lists = args.as_slice();
+    if !all_arrays(lists) {
+        return Ok(Value::Null);
+    }
+    let out = gathered(alloc, lists)?;
+    Ok(Value::List(array_of(alloc, out)?))
+}
+
+pub(crate) fn union_distinct(alloc: Global, args: &Items) -> Result<Value, OutOfMemory>
+    ensures { IfOk result (λ v. tree_of v ≡ call FuncName.UnionDistinct args.now) }
+{
+    let lists = args.as_slice();
+    if !all_arrays(lists) {
+        return Ok(Value::Null);
+    }
+    let out = gathered(alloc, lists)?;
+    Ok(Value::List(distinct(alloc, &out)?))
+}
+
+// The elements of all the arrays, in order.
+fn gathered(alloc: Global, lists: &[Value]) -> Result<Vec<Value>, OutOfMemory>
+    ensures { IfOk result (λ w. trees_in w.items
+        ≡ flat_map (λ ts. ts) (map parts.elements (trees_in lists.now))) }
+{
+    let mut out = Vec::new(alloc);
+    for list in lists {
+        append(alloc, &mut out, elements(list))?;
+    }
+    Ok(out)
+}

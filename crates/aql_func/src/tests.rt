@@ -1,0 +1,579 @@
+use super::*;
+use aql_value::{Items, OutOfMemory, Value, copy, from_json_line, write_json};
+use std::alloc::Global;
+use std::process::Abort;
+
+// The text of the value of a call; empty where there is no such call.
+fn called(alloc: Global, name: &str, args: &str) -> Result<Vec<u8>, OutOfMemory> {
+    let mut out = Vec::new(alloc);
+    let Some(f) = lookup(name) else {
+        return Ok(out);
+    };
+    let Ok(Value::List(args)) = from_json_line(alloc, args.as_bytes()) else {
+        return Ok(out);
+    };
+    if arity(f).allows(args.len()) {
+        write_json(&call(alloc, f, &args)?, &mut out)?;
+    }
+    Ok(out)
+}
+
+fn is_text(got: &Result<Vec<u8>, OutOfMemory>, want: &str) -> bool {
+    match got {
+        Ok(text) => text.as_slice() == want.as_bytes(),
+        Err(_) => false,
+    }
+}
+
+fn check_calls(rt: &impl Abort, alloc: Global, rows: &[(&str, &str, &str)]) {
+    for (name, args, want) in rows {
+        let got = called(alloc, name, args);
+        assert!(rt; is_text(&got, want), "{name} {args}");
+    }
+}
+
+#[test]
+fn functions_of_types(rt: HostRuntime) {
+    check_calls(
+        &rt,
+        rt.alloc(),
+        &[
+            ("IS_NULL", "[null]", "true"),
+            ("IS_NULL", "[0]", "false"),
+            ("IS_NULL", r#"[""]"#, "false"),
+            ("IS_NULL", "[[]]", "false"),
+            ("IS_NULL", "[{}]", "false"),
+            ("IS_BOOL", "[true]", "true"),
+            ("IS_BOOL", "[false]", "true"),
+            ("IS_BOOL", "[null]", "false"),
+            ("IS_BOOL", "[0]", "false"),
+            ("IS_BOOL", r#"["true"]"#, "false"),
+            ("IS_NUMBER", "[0]", "true"),
+            ("IS_NUMBER", "[-5]", "true"),
+            ("IS_NUMBER", r#"["1"]"#, "false"),
+            ("IS_NUMBER", "[null]", "false"),
+            ("IS_NUMBER", "[[1]]", "false"),
+            ("IS_STRING", r#"[""]"#, "true"),
+            ("IS_STRING", r#"["é"]"#, "true"),
+            ("IS_STRING", "[1]", "false"),
+            ("IS_STRING", "[null]", "false"),
+            ("IS_STRING", r#"[["a"]]"#, "false"),
+            ("IS_ARRAY", "[[]]", "true"),
+            ("IS_ARRAY", "[[1]]", "true"),
+            ("IS_ARRAY", "[{}]", "false"),
+            ("IS_ARRAY", r#"["[]"]"#, "false"),
+            ("IS_ARRAY", "[null]", "false"),
+            ("IS_OBJECT", "[{}]", "true"),
+            ("IS_OBJECT", r#"[{"a":1}]"#, "true"),
+            ("IS_OBJECT", "[[]]", "false"),
+            ("IS_OBJECT", "[null]", "false"),
+            ("IS_OBJECT", r#"["{}"]"#, "false"),
+            ("TYPENAME", "[null]", r#""null""#),
+            ("TYPENAME", "[true]", r#""bool""#),
+            ("TYPENAME", "[-1]", r#""number""#),
+            ("TYPENAME", r#"[""]"#, r#""string""#),
+            ("TYPENAME", "[[]]", r#""array""#),
+            ("TYPENAME", "[{}]", r#""object""#),
+            ("TO_BOOL", "[null]", "false"),
+            ("TO_BOOL", "[0]", "false"),
+            ("TO_BOOL", r#"[""]"#, "false"),
+            ("TO_BOOL", "[[]]", "true"),
+            ("TO_BOOL", "[{}]", "true"),
+            ("TO_BOOL", r#"["false"]"#, "true"),
+            ("TO_BOOL", "[-1]", "true"),
+            ("TO_NUMBER", "[null]", "0"),
+            ("TO_NUMBER", "[true]", "1"),
+            ("TO_NUMBER", r#"["-12"]"#, "-12"),
+            ("TO_NUMBER", r#"["+1"]"#, "0"),
+            ("TO_NUMBER", r#"["9223372036854775808"]"#, "0"),
+            ("TO_NUMBER", "[[7]]", "7"),
+            ("TO_NUMBER", "[[1,2]]", "0"),
+            ("TO_NUMBER", "[{}]", "0"),
+            ("TO_STRING", "[null]", r#""""#),
+            ("TO_STRING", "[true]", r#""true""#),
+            ("TO_STRING", "[-5]", r#""-5""#),
+            ("TO_STRING", r#"["é"]"#, r#""é""#),
+            ("TO_STRING", r#"[[1,"a"]]"#, r#""[1,\"a\"]""#),
+            (
+                "TO_STRING",
+                r#"[{"b":1,"a":null}]"#,
+                r#""{\"a\":null,\"b\":1}""#,
+            ),
+            ("TO_ARRAY", "[null]", "[]"),
+            ("TO_ARRAY", "[[1]]", "[1]"),
+            ("TO_ARRAY", r#"[{"b":1,"a":2}]"#, "[2,1]"),
+            ("TO_ARRAY", r#"["x"]"#, r#"["x"]"#),
+            ("TO_ARRAY", "[false]", "[false]"),
+            ("TO_ARRAY", "[0]", "[0]"),
+            ("NOT_NULL", "[null,null]", "null"),
+            ("NOT_NULL", "[null,0,1]", "0"),
+            ("NOT_NULL", "[false]", "false"),
+            ("NOT_NULL", "[null]", "null"),
+            ("NOT_NULL", "[[],1]", "[]"),
+            ("LENGTH", "[true]", "1"),
+            ("LENGTH", "[false]", "0"),
+            ("LENGTH", "[null]", "0"),
+            ("LENGTH", "[[1,[2,3]]]", "2"),
+            ("LENGTH", r#"[{"a":1,"b":2}]"#, "2"),
+            ("LENGTH", r#"["añ"]"#, "2"),
+            ("LENGTH", "[-12]", "3"),
+            ("LENGTH", r#"[""]"#, "0"),
+            ("COUNT", "[[]]", "0"),
+            ("COUNT", "[true]", "1"),
+            ("COUNT", r#"["日本"]"#, "2"),
+            ("COUNT", "[{}]", "0"),
+            ("COUNT", "[100]", "3"),
+            ("REVERSE", "[[1,[2,3]]]", "[[2,3],1]"),
+            ("REVERSE", r#"["añb"]"#, r#""bña""#),
+            ("REVERSE", "[[]]", "[]"),
+            ("REVERSE", "[5]", "null"),
+            ("REVERSE", "[null]", "null"),
+            ("REVERSE", "[{}]", "null"),
+            ("REVERSE", r#"[""]"#, r#""""#),
+        ],
+    );
+}
+
+#[test]
+fn functions_of_numbers(rt: HostRuntime) {
+    check_calls(
+        &rt,
+        rt.alloc(),
+        &[
+            ("ABS", "[-3]", "3"),
+            ("ABS", "[3]", "3"),
+            ("ABS", "[-9223372036854775808]", "null"),
+            ("ABS", r#"["-7"]"#, "7"),
+            ("ABS", "[null]", "0"),
+            ("ABS", "[[1,2]]", "0"),
+            ("MIN", "[[3,null,1]]", "1"),
+            ("MIN", "[[]]", "null"),
+            ("MIN", "[[null]]", "null"),
+            ("MIN", r#"["x"]"#, "null"),
+            ("MIN", r#"[["a",true,5]]"#, "true"),
+            ("MIN", "[[[],{}]]", "[]"),
+            ("MAX", "[[3,null,1]]", "3"),
+            ("MAX", "[[]]", "null"),
+            ("MAX", "[[null]]", "null"),
+            ("MAX", "[{}]", "null"),
+            ("MAX", r#"[["a",true,5]]"#, r#""a""#),
+            ("MAX", r#"[["é","z"]]"#, r#""é""#),
+            ("SUM", "[[1,null,2]]", "3"),
+            ("SUM", "[[]]", "0"),
+            ("SUM", r#"[[1,"2"]]"#, "null"),
+            ("SUM", "[[9223372036854775807,1,-1]]", "9223372036854775807"),
+            ("SUM", "[[9223372036854775807,1]]", "null"),
+            ("SUM", "[5]", "null"),
+            ("RANGE", "[1,3]", "[1,2,3]"),
+            ("RANGE", "[3,1]", "[3,2,1]"),
+            ("RANGE", r#"["2",[2]]"#, "[2]"),
+            ("RANGE", "[0,1000000]", "null"),
+            ("RANGE", "[null,-1]", "[0,-1]"),
+            (
+                "RANGE",
+                "[-9223372036854775808,9223372036854775807]",
+                "null",
+            ),
+        ],
+    );
+}
+
+#[test]
+fn functions_of_texts(rt: HostRuntime) {
+    check_calls(
+        &rt,
+        rt.alloc(),
+        &[
+            ("CONCAT", r#"["a",null,1,true]"#, r#""a1true""#),
+            ("CONCAT", r#"[["a",2]]"#, r#""a2""#),
+            ("CONCAT", r#"[["a"],["b"]]"#, r#""[\"a\"][\"b\"]""#),
+            ("CONCAT", "[null]", r#""""#),
+            ("CONCAT", "[[]]", r#""""#),
+            ("CONCAT", r#"["é",{"a":1}]"#, r#""é{\"a\":1}""#),
+            ("CONCAT_SEPARATOR", r#"[", ","a",null,"b"]"#, r#""a, b""#),
+            ("CONCAT_SEPARATOR", r#"["-",[1,2,null]]"#, r#""1-2""#),
+            ("CONCAT_SEPARATOR", r#"["-",[]]"#, r#""""#),
+            ("CONCAT_SEPARATOR", r#"[0,"a","b"]"#, r#""a0b""#),
+            (
+                "CONCAT_SEPARATOR",
+                r#"["-",["a"],["b"]]"#,
+                r#""[\"a\"]-[\"b\"]""#,
+            ),
+            ("CONCAT_SEPARATOR", r#"[null,"a","b"]"#, r#""ab""#),
+            ("CONCAT_SEPARATOR", r#"["-","",""]"#, r#""-""#),
+            ("SUBSTRING", r#"["añb",1,1]"#, r#""ñ""#),
+            ("SUBSTRING", r#"["hello",-2]"#, r#""lo""#),
+            ("SUBSTRING", r#"["hello",-9,2]"#, r#""he""#),
+            ("SUBSTRING", r#"["hello",9]"#, r#""""#),
+            ("SUBSTRING", r#"["hello",1,-1]"#, r#""""#),
+            ("SUBSTRING", "[12345,2]", r#""345""#),
+            ("SUBSTRING", r#"["hello",-3,2]"#, r#""ll""#),
+            ("SUBSTRING", r#"["hello",1,0]"#, r#""""#),
+            ("LEFT", r#"["añb",2]"#, r#""añ""#),
+            ("LEFT", r#"["ab",9]"#, r#""ab""#),
+            ("LEFT", r#"["ab",0]"#, r#""""#),
+            ("LEFT", r#"["ab",-1]"#, r#""""#),
+            ("LEFT", "[null,2]", r#""""#),
+            ("LEFT", "[123,2]", r#""12""#),
+            ("RIGHT", r#"["añb",2]"#, r#""ñb""#),
+            ("RIGHT", r#"["ab",9]"#, r#""ab""#),
+            ("RIGHT", r#"["ab",0]"#, r#""""#),
+            ("RIGHT", r#"["ab",-1]"#, r#""""#),
+            ("RIGHT", "[true,2]", r#""ue""#),
+            ("CONTAINS", r#"["abc","bc"]"#, "true"),
+            ("CONTAINS", r#"["abc",""]"#, "true"),
+            ("CONTAINS", r#"["abc","ac"]"#, "false"),
+            ("CONTAINS", "[123,2]", "true"),
+            ("CONTAINS", r#"["","a"]"#, "false"),
+            ("CONTAINS", "[null,null]", "true"),
+            ("STARTS_WITH", r#"["abc","ab"]"#, "true"),
+            ("STARTS_WITH", r#"["abc","bc"]"#, "false"),
+            ("STARTS_WITH", r#"["abc",""]"#, "true"),
+            ("STARTS_WITH", "[123,1]", "true"),
+            ("STARTS_WITH", r#"["a","ab"]"#, "false"),
+            ("STARTS_WITH", r#"["éa","é"]"#, "true"),
+            ("SPLIT", r#"["a,b,,c",","]"#, r#"["a","b","","c"]"#),
+            ("SPLIT", r#"["",""]"#, "[]"),
+            ("SPLIT", r#"["",","]"#, r#"[""]"#),
+            ("SPLIT", r#"["añ",""]"#, r#"["a","ñ"]"#),
+            ("SPLIT", r#"["aaa","aa"]"#, r#"["","a"]"#),
+            ("SPLIT", "[1213,1]", r#"["","2","3"]"#),
+            ("SPLIT", r#"["abc","x"]"#, r#"["abc"]"#),
+        ],
+    );
+}
+
+#[test]
+fn functions_of_arrays(rt: HostRuntime) {
+    check_calls(
+        &rt,
+        rt.alloc(),
+        &[
+            ("FIRST", "[[1,2]]", "1"),
+            ("FIRST", "[[]]", "null"),
+            ("FIRST", r#"["ab"]"#, "null"),
+            ("FIRST", "[[null,1]]", "null"),
+            ("FIRST", "[[[1],2]]", "[1]"),
+            ("LAST", "[[1,2]]", "2"),
+            ("LAST", "[[]]", "null"),
+            ("LAST", "[{}]", "null"),
+            ("LAST", "[[3]]", "3"),
+            ("LAST", r#"[[1,"é"]]"#, r#""é""#),
+            ("NTH", "[[1,2,3],1]", "2"),
+            ("NTH", "[[1],-1]", "null"),
+            ("NTH", "[[1],5]", "null"),
+            ("NTH", r#"["abc",1]"#, "null"),
+            ("NTH", r#"[[1,2],"1"]"#, "2"),
+            ("NTH", "[[1,2],9223372036854775807]", "null"),
+            ("POSITION", "[[1,2],2]", "true"),
+            ("POSITION", r#"[[1,2],"2"]"#, "false"),
+            ("POSITION", "[[],null]", "false"),
+            ("POSITION", "[[null],null]", "true"),
+            ("POSITION", r#"["ab","a"]"#, "null"),
+            ("POSITION", r#"[[[1,{"a":2}]],[1,{"a":2}]]"#, "true"),
+            ("PUSH", "[[1],2]", "[1,2]"),
+            ("PUSH", "[[1],1,true]", "[1]"),
+            ("PUSH", "[[1],1,false]", "[1,1]"),
+            ("PUSH", "[null,1]", "[1]"),
+            ("PUSH", r#"["x",1]"#, "null"),
+            ("PUSH", "[[1],[2]]", "[1,[2]]"),
+            ("PUSH", "[[1],2,1]", "[1,2]"),
+            ("APPEND", "[[1],[1,2],true]", "[1,2]"),
+            ("APPEND", "[[1],[1,2]]", "[1,1,2]"),
+            ("APPEND", "[[1],2]", "[1,2]"),
+            ("APPEND", "[null,[1,1],true]", "[1]"),
+            ("APPEND", "[{},[1]]", "null"),
+            ("APPEND", "[[1],null]", "[1,null]"),
+            ("APPEND", "[[1,1],[2],true]", "[1,1,2]"),
+            ("APPEND", "[null,null]", "[null]"),
+            ("UNIQUE", "[[2,1,2,1]]", "[2,1]"),
+            ("UNIQUE", "[[]]", "[]"),
+            ("UNIQUE", r#"[["1",1,true]]"#, r#"["1",1,true]"#),
+            (
+                "UNIQUE",
+                r#"[[{"a":1,"b":2},{"b":2,"a":1}]]"#,
+                r#"[{"a":1,"b":2}]"#,
+            ),
+            ("UNIQUE", r#"["aa"]"#, "null"),
+            ("UNIQUE", "[[[1],[1]]]", "[[1]]"),
+            ("SORTED", "[[3,1,2,1]]", "[1,1,2,3]"),
+            (
+                "SORTED",
+                r#"[["a",5,null,true,[],{}]]"#,
+                r#"[null,true,5,"a",[],{}]"#,
+            ),
+            ("SORTED", "[[]]", "[]"),
+            ("SORTED", "[1]", "null"),
+            ("SORTED", r#"[["b","a","é","B"]]"#, r#"["B","a","b","é"]"#),
+            ("SORTED_UNIQUE", "[[3,1,3,null]]", "[null,1,3]"),
+            ("SORTED_UNIQUE", "[[]]", "[]"),
+            ("SORTED_UNIQUE", "[[[2],[1],[2]]]", "[[1],[2]]"),
+            ("SORTED_UNIQUE", r#"["ba"]"#, "null"),
+            ("SORTED_UNIQUE", r#"[["b","a","b"]]"#, r#"["a","b"]"#),
+            ("COUNT_DISTINCT", "[[1,1,2]]", "2"),
+            ("COUNT_DISTINCT", "[[]]", "0"),
+            ("COUNT_DISTINCT", "[[null,null]]", "1"),
+            ("COUNT_DISTINCT", r#"[["1",1]]"#, "2"),
+            ("COUNT_DISTINCT", "[{}]", "null"),
+            ("FLATTEN", "[[1,[2,[3]]]]", "[1,2,[3]]"),
+            ("FLATTEN", "[[1,[2,[3]]],2]", "[1,2,3]"),
+            ("FLATTEN", "[[1,[2,[3]]],0]", "[1,2,[3]]"),
+            ("FLATTEN", "[[1,[2,[3]]],-4]", "[1,2,[3]]"),
+            ("FLATTEN", "[[[[[4]]]],9]", "[4]"),
+            ("FLATTEN", r#"["x"]"#, "null"),
+            ("FLATTEN", "[[],1]", "[]"),
+            ("FLATTEN", "[[[],[[]]]]", "[[]]"),
+            ("SLICE", "[[1,2,3,4],-3,2]", "[2,3]"),
+            ("SLICE", "[[1,2,3,4],1]", "[2,3,4]"),
+            ("SLICE", "[[1,2,3,4],1,-1]", "[2,3]"),
+            ("SLICE", "[[1,2,3,4],-9,2]", "[1,2]"),
+            ("SLICE", "[[1,2,3,4],9]", "[]"),
+            ("SLICE", "[[1,2,3,4],0,-9]", "[]"),
+            ("SLICE", "[[1,2],0,0]", "[]"),
+            ("SLICE", r#"["ab",0]"#, "null"),
+            ("INTERSECTION", "[[3,1,2,1],[1,3,5]]", "[1,3]"),
+            ("INTERSECTION", "[[1],[2]]", "[]"),
+            ("INTERSECTION", "[[1,2],[2],[2,1]]", "[2]"),
+            ("INTERSECTION", r#"[[1],"x"]"#, "null"),
+            ("INTERSECTION", "[[],[]]", "[]"),
+            ("INTERSECTION", r#"[["a",null],[null]]"#, "[null]"),
+            ("MINUS", "[[3,1,2,1],[2]]", "[1,3]"),
+            ("MINUS", "[[1,1,2],[],[2]]", "[1]"),
+            ("MINUS", "[[1],[1]]", "[]"),
+            ("MINUS", "[null,[1]]", "null"),
+            ("MINUS", "[[2,1],[]]", "[1,2]"),
+            ("MINUS", "[[1],[2],{}]", "null"),
+            ("UNION", "[[1,2],[2,3]]", "[1,2,2,3]"),
+            ("UNION", "[[],[]]", "[]"),
+            ("UNION", "[[1],[2],[1]]", "[1,2,1]"),
+            ("UNION", "[[1],2]", "null"),
+            ("UNION", "[[[1]],[[1]]]", "[[1],[1]]"),
+            ("UNION_DISTINCT", "[[3,1],[2,1]]", "[1,2,3]"),
+            ("UNION_DISTINCT", "[[],[]]", "[]"),
+            ("UNION_DISTINCT", r#"[["b"],["a"],["b"]]"#, r#"["a","b"]"#),
+            ("UNION_DISTINCT", "[[1],null]", "null"),
+            ("UNION_DISTINCT", "[[null],[null]]", "[null]"),
+        ],
+    );
+}
+
+#[test]
+fn functions_of_objects(rt: HostRuntime) {
+    check_calls(
+        &rt,
+        rt.alloc(),
+        &[
+            ("ATTRIBUTES", r#"[{"b":1,"a":2}]"#, r#"["a","b"]"#),
+            ("ATTRIBUTES", "[{}]", "[]"),
+            ("ATTRIBUTES", "[[1]]", "null"),
+            ("ATTRIBUTES", "[null]", "null"),
+            ("ATTRIBUTES", r#"[{"é":1,"z":2}]"#, r#"["z","é"]"#),
+            ("VALUES", r#"[{"b":1,"a":2}]"#, "[2,1]"),
+            ("VALUES", "[{}]", "[]"),
+            ("VALUES", r#"["x"]"#, "null"),
+            ("VALUES", r#"[{"a":[1]}]"#, "[[1]]"),
+            ("VALUES", "[0]", "null"),
+            ("HAS", r#"[{"a":null},"a"]"#, "true"),
+            ("HAS", r#"[{"a":1},"b"]"#, "false"),
+            ("HAS", r#"[{"1":1},1]"#, "true"),
+            ("HAS", r#"[[1],"0"]"#, "null"),
+            ("HAS", r#"[{"":1},null]"#, "true"),
+            ("MERGE", r#"[{"a":1},{"a":2,"b":3}]"#, r#"{"a":2,"b":3}"#),
+            ("MERGE", r#"[[{"a":1},{"a":2}]]"#, r#"{"a":2}"#),
+            ("MERGE", "[[]]", "{}"),
+            ("MERGE", r#"[{"a":1},1]"#, "null"),
+            (
+                "MERGE",
+                r#"[{"a":{"x":1}},{"a":{"y":2}}]"#,
+                r#"{"a":{"y":2}}"#,
+            ),
+            ("MERGE", "[null]", "null"),
+            ("MERGE", "[[{}],{}]", "null"),
+            ("MERGE", "[{}]", "{}"),
+            ("UNSET", r#"[{"a":1,"b":2},"a"]"#, r#"{"b":2}"#),
+            ("UNSET", r#"[{"a":1,"b":2,"c":3},["a","c"]]"#, r#"{"b":2}"#),
+            ("UNSET", r#"[{"1":1},1]"#, r#"{"1":1}"#),
+            ("UNSET", r#"[{"a":1,"b":2},"b",["a",5]]"#, "{}"),
+            ("UNSET", r#"[[1],"a"]"#, "null"),
+            ("UNSET", r#"[{"a":1},[["a"]]]"#, r#"{"a":1}"#),
+            ("KEEP", r#"[{"a":1,"b":2},"a"]"#, r#"{"a":1}"#),
+            (
+                "KEEP",
+                r#"[{"a":1,"b":2,"c":3},["c"],"a"]"#,
+                r#"{"a":1,"c":3}"#,
+            ),
+            ("KEEP", r#"[{"a":1},"x"]"#, "{}"),
+            ("KEEP", r#"[{"a":1},null]"#, "{}"),
+            ("KEEP", r#"["x","x"]"#, "null"),
+            (
+                "PARSE_IDENTIFIER",
+                r#"["users/u1"]"#,
+                r#"{"collection":"users","key":"u1"}"#,
+            ),
+            (
+                "PARSE_IDENTIFIER",
+                r#"[{"_id":"c/k","x":1}]"#,
+                r#"{"collection":"c","key":"k"}"#,
+            ),
+            ("PARSE_IDENTIFIER", r#"["users"]"#, "null"),
+            ("PARSE_IDENTIFIER", r#"["a/b/c"]"#, "null"),
+            ("PARSE_IDENTIFIER", r#"["/k"]"#, "null"),
+            ("PARSE_IDENTIFIER", r#"["c/"]"#, "null"),
+            ("PARSE_IDENTIFIER", r#"[{"_id":5}]"#, "null"),
+            ("PARSE_IDENTIFIER", "[{}]", "null"),
+            ("PARSE_IDENTIFIER", "[7]", "null"),
+        ],
+    );
+}
+
+fn check_binary(rt: &impl Abort, alloc: Global, rows: &[(BinOp, &str, &str, &str)]) {
+    for (op, a, b, want) in rows {
+        let got = combined(alloc, *op, a, b);
+        assert!(rt; is_text(&got, want), "{op:?} {a} {b}");
+    }
+}
+
+fn combined(alloc: Global, op: BinOp, a: &str, b: &str) -> Result<Vec<u8>, OutOfMemory> {
+    let mut out = Vec::new(alloc);
+    if let Ok(a) = from_json_line(alloc, a.as_bytes()) {
+        if let Ok(b) = from_json_line(alloc, b.as_bytes()) {
+            write_json(&binary(alloc, op, &a, &b)?, &mut out)?;
+        }
+    }
+    Ok(out)
+}
+
+#[test]
+fn binary_operators(rt: HostRuntime) {
+    check_binary(
+        &rt,
+        rt.alloc(),
+        &[
+            (BinOp::Div, "5", "2", "null"),
+            (BinOp::Div, "6", "2", "3"),
+            (BinOp::Div, "1", "0", "null"),
+            (BinOp::Div, "-9223372036854775808", "-1", "null"),
+            (BinOp::Rem, "-7", "2", "-1"),
+            (BinOp::Rem, "7", "-2", "1"),
+            (BinOp::Rem, "-9223372036854775808", "-1", "0"),
+            (BinOp::Rem, "5", "0", "null"),
+            (BinOp::Add, r#""3""#, "4", "7"),
+            (BinOp::Add, "9223372036854775807", "1", "null"),
+            (BinOp::Sub, "-9223372036854775808", "1", "null"),
+            (BinOp::Sub, "10", "3", "7"),
+            (BinOp::Mul, "4611686018427387904", "2", "null"),
+            (
+                BinOp::Mul,
+                "-4611686018427387904",
+                "2",
+                "-9223372036854775808",
+            ),
+            (BinOp::And, "0", "7", "0"),
+            (BinOp::And, "[]", "7", "7"),
+            (BinOp::Or, "null", "5", "5"),
+            (BinOp::Or, r#""a""#, "1", r#""a""#),
+            (BinOp::Lt, "{}", r#"{"a":null}"#, "true"),
+            (BinOp::Lt, "[]", "[null]", "true"),
+            (BinOp::Lt, r#"{"b":1}"#, r#"{"a":0}"#, "true"),
+            (BinOp::Eq, "{}", r#"{"a":null}"#, "false"),
+            (BinOp::Eq, "1", r#""1""#, "false"),
+            (BinOp::Ne, "1", "1", "false"),
+            (BinOp::Le, "[1]", "[1]", "true"),
+            (BinOp::Gt, r#""é""#, r#""z""#, "true"),
+            (BinOp::Ge, "null", "false", "false"),
+            (BinOp::IsIn, "1", "[2,1]", "true"),
+            (BinOp::IsIn, "1", r#""1""#, "false"),
+            (BinOp::NotIn, "1", "[2]", "true"),
+            (BinOp::NotIn, "1", "5", "true"),
+            (BinOp::Like, r#""abc""#, r#""a%""#, "true"),
+            (BinOp::Like, r#""a%c""#, r#""a\\%c""#, "true"),
+            (BinOp::Like, r#""abc""#, r#""a\\%c""#, "false"),
+            (BinOp::Like, r#""ñ""#, r#""_""#, "true"),
+            (BinOp::Like, r#""""#, r#""%""#, "true"),
+            (BinOp::Like, r#""abc""#, r#""_b""#, "false"),
+            (BinOp::Like, r#""a\\b""#, r#""a\\b""#, "true"),
+            (BinOp::Like, r#""a\\""#, r#""a\\""#, "true"),
+            (BinOp::Like, r#""a\\""#, r#""a\\\\""#, "true"),
+            (BinOp::Like, r#""abcabc""#, r#""%bc""#, "true"),
+            (
+                BinOp::Like,
+                r#""aaaaaaaaaaaaaaaaaaaaaaaaaaaaaa""#,
+                r#""%a%a%a%a%a%a%a%a%a%a%a%a%c""#,
+                "false",
+            ),
+            (BinOp::Like, "1", r#""1""#, "false"),
+            (BinOp::NotLike, "1", r#""1""#, "true"),
+        ],
+    );
+}
+
+fn check_unary(rt: &impl Abort, alloc: Global, rows: &[(UnaryOp, &str, &str)]) {
+    for (op, a, want) in rows {
+        let got = turned(alloc, *op, a);
+        assert!(rt; is_text(&got, want), "{op:?} {a}");
+    }
+}
+
+fn turned(alloc: Global, op: UnaryOp, a: &str) -> Result<Vec<u8>, OutOfMemory> {
+    let mut out = Vec::new(alloc);
+    if let Ok(a) = from_json_line(alloc, a.as_bytes()) {
+        write_json(&unary(op, &a)?, &mut out)?;
+    }
+    Ok(out)
+}
+
+#[test]
+fn unary_operators(rt: HostRuntime) {
+    check_unary(
+        &rt,
+        rt.alloc(),
+        &[
+            (UnaryOp::Plus, r#""12""#, "12"),
+            (UnaryOp::Plus, "null", "0"),
+            (UnaryOp::Plus, "{}", "0"),
+            (UnaryOp::Minus, "7", "-7"),
+            (UnaryOp::Minus, "-9223372036854775808", "null"),
+            (UnaryOp::Minus, r#""x""#, "0"),
+            (UnaryOp::Not, r#""""#, "true"),
+            (UnaryOp::Not, "[]", "false"),
+            (UnaryOp::Not, "0", "true"),
+        ],
+    );
+}
+
+#[test]
+fn names_and_arities(rt: HostRuntime) {
+    assert_eq!(rt; lookup("Length"), Some(FuncName::Length));
+    assert_eq!(rt; lookup("is_null"), Some(FuncName::IsNull));
+    assert_eq!(rt; lookup("LENGTHS"), None);
+    assert_eq!(rt; lookup(""), None);
+    assert_eq!(rt; lookup("IS NULL"), None);
+    assert!(rt; !arity(FuncName::Length).allows(0) && !arity(FuncName::Length).allows(2));
+    assert!(rt; arity(FuncName::Concat).allows(1000) && !arity(FuncName::Concat).allows(0));
+    assert!(rt; arity(FuncName::Slice).allows(3) && !arity(FuncName::Slice).allows(4));
+}
+
+// None of these takes a time that is quadratic in the number of elements.
+#[test]
+fn large_arrays(rt: HostRuntime) -> Result<(), OutOfMemory> {
+    let alloc = rt.alloc();
+    let numbers = range(alloc, 0, 99_999)?;
+    let mut one = Items::new(alloc);
+    one.push(copy(alloc, &numbers)?)?;
+    let mut two = Items::new(alloc);
+    two.push(copy(alloc, &numbers)?)?;
+    two.push(numbers)?;
+    assert!(rt; has_length(&call(alloc, FuncName::Unique, &one)?, 100_000));
+    assert!(rt; has_length(&call(alloc, FuncName::Sorted, &one)?, 100_000));
+    assert!(rt; has_length(&call(alloc, FuncName::Intersection, &two)?, 100_000));
+    assert!(rt; has_length(&call(alloc, FuncName::Minus, &two)?, 0));
+    assert!(rt; has_length(&call(alloc, FuncName::UnionDistinct, &two)?, 100_000));
+    Ok(())
+}
+
+fn has_length(value: &Value, length: usize) -> bool {
+    match value {
+        Value::List(list) => list.len() == length,
+        _ => false,
+    }
+}

@@ -1,0 +1,191 @@
+// Functions of texts. Lengths and places count characters.
+ghost use Rattle.std.specs.Prelude.{[], ◌<◌, ◌∷◌, ◌≡◌, chars, encode_utf8_all, IfOk, length, map, OnOk, string_bytes};
+ghost use Rattle.aql_value.specs.Tree.{text};
+ghost use Rattle.aql_value.specs.View.{tree_of, trees_in};
+ghost use Rattle.aql_func.specs.Arguments as given_args;
+ghost use Rattle.aql_func.specs.Functions.{call, concatenated};
+ghost use Rattle.aql_func.specs.Joined.{with_part};
+ghost use Rattle.aql_func.specs.Texts.{begins_with, occurs_in, parts_of};
+
+use crate::FuncName;
+use crate::arguments::{array, is_null, number_at, text_at};
+use crate::lists::{at_most, behind, front, how_many, last_of, place_from};
+use aql_value::{Items, OutOfMemory, Text, Value, to_text};
+use std::alloc::Global;
+
+pub(crate) fn characters(alloc: Global, s: &str) -> Result<Vec<char>, OutOfMemory>
+    ensures { IfOk result (λ w. w.items ≡ chars s.now) }
+{
+    let out: Vec<char> = s.chars().collect(alloc)?;
+    Ok(out)
+}
+
+pub(crate) fn text_of(alloc: Global, characters: &[char]) -> Result<Text, OutOfMemory>
+    ensures { IfOk result (λ t. t ≡ encode_utf8_all characters.now) }
+{
+    let mut out = String::new(alloc);
+    for c in characters {
+        out.push(*c)?;
+    }
+    Ok(Text::new(alloc, &out)?)
+}
+
+pub(crate) fn substring(alloc: Global, args: &Items) -> Result<Value, OutOfMemory>
+    ensures { IfOk result (λ v. tree_of v ≡ call FuncName.Substring args.now) }
+{
+    let text = text_at(alloc, args, 0)?;
+    let characters = characters(alloc, text.as_str())?;
+    let start = place_from(characters.len(), number_at(args, 1));
+    let part = at_most(behind(&characters, start), args.get(2));
+    Ok(Value::Text(text_of(alloc, part)?))
+}
+
+pub(crate) fn left(alloc: Global, args: &Items) -> Result<Value, OutOfMemory>
+    ensures { IfOk result (λ v. tree_of v ≡ call FuncName.Left args.now) }
+{
+    let text = text_at(alloc, args, 0)?;
+    let characters = characters(alloc, text.as_str())?;
+    let part = front(&characters, how_many(number_at(args, 1)));
+    Ok(Value::Text(text_of(alloc, part)?))
+}
+
+pub(crate) fn right(alloc: Global, args: &Items) -> Result<Value, OutOfMemory>
+    ensures { IfOk result (λ v. tree_of v ≡ call FuncName.Right args.now) }
+{
+    let text = text_at(alloc, args, 0)?;
+    let characters = characters(alloc, text.as_str())?;
+    let part = last_of(&characters, how_many(number_at(args, 1)));
+    Ok(Value::Text(text_of(alloc, part)?))
+}
+
+pub(crate) fn contains(alloc: Global, args: &Items) -> Result<Value, OutOfMemory>
+    ensures { IfOk result (λ v. tree_of v ≡ call FuncName.Contains args.now) }
+{
+    let text = text_at(alloc, args, 0)?;
+    let part = text_at(alloc, args, 1)?;
+    Ok(Value::Bool(has(text.as_str(), part.as_str())))
+}
+
+fn has(s: &str, part: &str) -> bool
+    ensures { result ≡ occurs_in s.now part.now }
+{
+    s.contains(part)
+}
+
+pub(crate) fn starts_with(alloc: Global, args: &Items) -> Result<Value, OutOfMemory>
+    ensures { IfOk result (λ v. tree_of v ≡ call FuncName.StartsWith args.now) }
+{
+    let text = text_at(alloc, args, 0)?;
+    let front = text_at(alloc, args, 1)?;
+    Ok(Value::Bool(begins(text.as_str(), front.as_str())))
+}
+
+fn begins(s: &str, front: &str) -> bool
+    ensures { result ≡ begins_with s.now front.now }
+{
+    s.starts_with(front)
+}
+
+pub(crate) fn split(alloc: Global, args: &Items) -> Result<Value, OutOfMemory>
+    ensures { IfOk result (λ v. tree_of v ≡ call FuncName.Split args.now) }
+{
+    let text = text_at(alloc, args, 0)?;
+    let separator = text_at(alloc, args, 1)?;
+    Ok(Value::List(parts(alloc, text.as_str(), separator.as_str())?))
+}
+
+fn parts(alloc: Global, s: &str, separator: &str) -> Result<Items, OutOfMemory>
+    ensures { IfOk result (λ w. w ≡ map (λ t. text t) (parts_of separator.now s.now)) }
+{
+    if separator.is_empty() {
+        Ok(letters(alloc, s)?)
+    } else {
+        Ok(parts_between(alloc, s, separator)?)
+    }
+}
+
+// Each character by itself.
+fn letters(alloc: Global, s: &str) -> Result<Items, OutOfMemory>
+    ensures { IfOk result (λ w. w ≡ map (λ c. text (encode_utf8_all (c ∷ []))) (chars s.now)) }
+{
+    let characters = characters(alloc, s)?;
+    let mut out = Items::new(alloc);
+    for c in &characters {
+        out.push(Value::Text(text_of(alloc, &[*c])?))?;
+    }
+    Ok(out)
+}
+
+fn parts_between(alloc: Global, s: &str, separator: &str) -> Result<Items, OutOfMemory>
+    requires { 0 < length separator.now }
+    ensures { IfOk result (λ w. w ≡ map (λ t. text t) (parts_of separator.now s.now)) }
+{
+    let mut out = Items::new(alloc);
+    let mut rest = s;
+    while let Some((before, after)) = rest.split_once(separator) {
+        out.push(Value::Text(Text::new(alloc, before)?))?;
+        rest = after;
+    }
+    out.push(Value::Text(Text::new(alloc, rest)?))?;
+    Ok(out)
+}
+
+pub(crate) fn concat(alloc: Global, args: &Items) -> Result<Value, OutOfMemory>
+    ensures { IfOk result (λ v. tree_of v ≡ call FuncName.Concat args.now) }
+{
+    Ok(joined(alloc, "", spread(args.as_slice()))?)
+}
+
+pub(crate) fn concat_separator(alloc: Global, args: &Items) -> Result<Value, OutOfMemory>
+    ensures { IfOk result (λ v. tree_of v ≡ call FuncName.ConcatSeparator args.now) }
+{
+    let separator = text_at(alloc, args, 0)?;
+    let values = spread(behind(args.as_slice(), 1));
+    Ok(joined(alloc, separator.as_str(), values)?)
+}
+
+// A sole array stands for its elements.
+pub(crate) fn spread(args: &[Value]) -> &[Value]
+    ensures { trees_in result.now ≡ given_args.spread (trees_in args.now) }
+{
+    match args {
+        [] => args,
+        [only] => match array(only) {
+            Some(list) => list.as_slice(),
+            None => args,
+        },
+        _ => args,
+    }
+}
+
+// The texts of all that aren't null, with the separator between.
+fn joined(alloc: Global, separator: &str, values: &[Value]) -> Result<Value, OutOfMemory>
+    ensures { IfOk result (λ v. tree_of v ≡ concatenated separator.now (trees_in values.now)) }
+{
+    let mut out = String::new(alloc);
+    let mut started = false;
+    for value in values {
+        if !is_null(value) {
+            let part = to_text(alloc, value)?;
+            push_part(&mut out, started, separator, part.as_str())?;
+            started = true;
+        }
+    }
+    Ok(Value::Text(Text::new(alloc, &out)?))
+}
+
+// Puts a text at the end, behind the separator where something was put before.
+fn push_part(
+    out: &mut String,
+    started: bool,
+    separator: &str,
+    part: &str,
+) -> Result<(), OutOfMemory>
+    ensures { OnOk result (string_bytes out.new ≡ with_part started separator.now (string_bytes out.old) part.now) }
+{
+    if started {
+        out.push_str(separator)?;
+    }
+    out.push_str(part)?;
+    Ok(())
+}

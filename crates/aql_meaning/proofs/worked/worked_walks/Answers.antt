@@ -1,0 +1,5 @@
+use Rattle.aql_meaning.proofs.Walks.{worked_walks}
+use Rattle.aql_meaning.proofs.worked.worked_walks.Goals as goal
+
+pub returns : goal.returns
+returns c = worked_walks

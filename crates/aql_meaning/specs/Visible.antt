@@ -1,0 +1,56 @@
+-- What the clauses of a query declare, and what a name after IN means (AQL fundamentals, Accessing data from
+-- collections; the high-level operation FOR). The variables are read off the text: they are the same for all
+-- rows.
+use Rattle.std.specs.Prelude.{ℕ, List, [], ◌∷◌, ◌++◌, filter, flat_map, cond, not, ◌||◌, bytes_eq, Bool, Option, Some, None, is_some, option_to_list}
+use Rattle.std.specs.List.{list_any}
+use Rattle.aql_value.specs.Tree.{Tree}
+use Rattle.aql_value.specs.Database.{Database, documents_named}
+use Rattle.aql_tree.specs.declared.syntax.Ident.{Ident}
+use Rattle.aql_tree.specs.declared.syntax.Ident.TheVariants.{Name}
+use Rattle.aql_tree.specs.Tree.{ExprTree, variable, ClauseTree, for_each, for_documents, for_paths, keep_if, define, sort_by, limit, collect, AggregateTrees, no_aggregates, aggregate_then, IntoTree, no_into, into}
+use Rattle.aql_meaning.specs.Row.{Row, same_ident}
+use Rattle.aql_meaning.specs.Groups.{aggregate_of}
+
+abbrev pub aggregate_vars : AggregateTrees → List Ident
+aggregate_vars no_aggregates = []
+aggregate_vars (aggregate_then x name e rest) = x ∷ aggregate_vars rest
+
+-- what each aggregate makes of the values of all members
+abbrev pub aggregate_functions : AggregateTrees → List (List Tree → Tree)
+aggregate_functions no_aggregates = []
+aggregate_functions (aggregate_then x name e rest) = aggregate_of name ∷ aggregate_functions rest
+
+abbrev pub into_var : IntoTree → Option Ident
+into_var no_into = None
+into_var (into x what keep) = Some x
+
+-- the variables of the query behind a clause, the last set first; COLLECT leaves only its own
+abbrev pub vars_after : ClauseTree → List Ident → List Ident
+vars_after (for_each x e) vars = x ∷ vars
+vars_after (for_documents x name) vars = x ∷ vars
+vars_after (for_paths w e names prune settings) vars =
+    w.vertex ∷ (option_to_list w.edge ++ (option_to_list w.path ++ vars))
+vars_after (keep_if e) vars = vars
+vars_after (define x e) vars = x ∷ vars
+vars_after (sort_by directions es) vars = vars
+vars_after (limit offset count) vars = vars
+vars_after (collect xs es aggregates i) vars =
+    xs ++ (aggregate_vars aggregates ++ option_to_list (into_var i))
+
+-- whether x is a variable of this query or of the start row
+abbrev pub sees : Row → List Ident → Ident → Bool
+sees start vars x = list_any (same_ident x) vars || is_some (start x)
+
+-- after IN, a single name that is no visible variable names a collection
+abbrev pub collection_meant : ExprTree → Row → List Ident → Option (List ℕ)
+collection_meant (variable (Name n)) start vars = cond (sees start vars (Name n)) None (Some n)
+collection_meant e start vars = None
+
+-- each name once
+abbrev pub each_once : List (List ℕ) → List (List ℕ)
+each_once [] = []
+each_once (n ∷ ns) = n ∷ filter (λ m. not (bytes_eq n m)) (each_once ns)
+
+-- the edges of these collections; a collection named twice counts once
+abbrev pub edges_named : Database → List (List ℕ) → List Tree
+edges_named db names = flat_map (documents_named db) (each_once names)

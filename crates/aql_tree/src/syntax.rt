@@ -1,0 +1,264 @@
+use aql_func::{BinOp, UnaryOp};
+use aql_value::{Names, Seq, Text, Value};
+
+/// A variable: a name as it is written before scoping, a number after it.
+#[derive(Drop)]
+pub enum Ident {
+    Name(Text),
+    Num(u32),
+}
+
+/// A list of expressions.
+pub type Exprs = Seq<Expr>;
+
+/// The steps of an access, in order.
+pub type Steps = Seq<Step>;
+
+/// The links of a chain, in order.
+pub type Links = Seq<Link>;
+
+/// The members of an object literal, in order.
+pub type Fields = Seq<Field>;
+
+/// The keys of SORT, in order.
+pub type Keys = Seq<Key>;
+
+/// Variables with the expressions that they take, in order.
+pub type Lets = Seq<Let>;
+
+/// The aggregates of COLLECT, in order.
+pub type Aggregates = Seq<AggregateItem>;
+
+/// The clauses of a query, in order.
+pub type Clauses = Seq<Clause>;
+
+/// How many elements of an array a comparison must hold for (Operators, Array comparison
+/// operators).
+#[derive(Clone, Copy, Debug, PartialEq, Eq)]
+pub enum QuantKind {
+    All,
+    Any,
+    None,
+}
+
+/// Which way a traversal follows edges (Graphs, Traversals).
+#[derive(Clone, Copy, Debug, PartialEq, Eq)]
+pub enum Direction {
+    Outbound,
+    Inbound,
+    Any,
+}
+
+/// Whether an edge may come twice on a path of a traversal (option `uniqueEdges`).
+#[derive(Clone, Copy, Debug, PartialEq, Eq)]
+pub enum UniqueEdges {
+    Path,
+    None,
+}
+
+/// Whether a vertex may come twice on a path, or in a whole traversal (option `uniqueVertices`).
+#[derive(Clone, Copy, Debug, PartialEq, Eq)]
+pub enum UniqueVertices {
+    None,
+    Path,
+    Global,
+}
+
+/// An expression. Contracts see it as a tree of definitions, by `tree` of specs/View.
+#[cycle(syntax)]
+#[derive(Drop)]
+pub enum Expr {
+    /// A literal.
+    Lit(Value),
+    /// A variable, or the name of a collection after IN.
+    Var(Ident),
+    /// `CURRENT`: the element at hand of an inline operator.
+    Current,
+    /// `[e, ..]`.
+    List(Seq<Expr>),
+    /// `{name: e, [e]: e, ..}`.
+    Object(Seq<Field>),
+    /// `of.name[e]..`: at least one step.
+    Access {
+        of: Box<Expr>,
+        steps: Seq<Step>,
+    },
+    /// `NAME(e, ..)`.
+    Call {
+        name: Text,
+        args: Seq<Expr>,
+    },
+    /// `! of`, `- of` or `+ of`.
+    Unary {
+        op: UnaryOp,
+        of: Box<Expr>,
+    },
+    /// `first op right op right ..`: at least one link, all of one level of precedence, from the
+    /// left.
+    Chain {
+        first: Box<Expr>,
+        rest: Seq<Link>,
+    },
+    /// `left ALL op right`, or ANY or NONE; `op` is a comparison, IN or NOT IN.
+    Quant {
+        left: Box<Expr>,
+        kind: QuantKind,
+        op: BinOp,
+        right: Box<Expr>,
+    },
+    /// `test ? yes : no`, or `test ? : no`, where the value of `test` stands for `yes`.
+    Cond {
+        test: Box<Expr>,
+        yes: Option<Box<Expr>>,
+        no: Box<Expr>,
+    },
+    /// `low..high`.
+    Range {
+        low: Box<Expr>,
+        high: Box<Expr>,
+    },
+    /// A subquery.
+    Sub(Box<Query>),
+}
+
+/// One step of an access.
+#[cycle(syntax)]
+#[derive(Drop)]
+pub enum Step {
+    /// `.name`.
+    Name(Text),
+    /// `[e]`.
+    At(Expr),
+    /// `[* FILTER e RETURN e]`, an inline operator over each element.
+    Each {
+        filter: Option<Expr>,
+        project: Option<Expr>,
+    },
+}
+
+/// One member of an object literal.
+#[cycle(syntax)]
+#[derive(Drop)]
+pub enum Field {
+    /// `name: e`; `name` alone stands for `name: name`.
+    Named { name: Text, value: Expr },
+    /// `[e]: e`.
+    Computed { name: Expr, value: Expr },
+}
+
+/// An operator of a chain with what stands right of it.
+#[cycle(syntax)]
+#[derive(Drop)]
+pub struct Link {
+    pub op: BinOp,
+    pub right: Expr,
+}
+
+/// A whole query or a subquery.
+#[cycle(syntax)]
+#[derive(Drop)]
+pub struct Query {
+    /// The collections that WITH names; empty in a subquery.
+    pub with: Seq<Text>,
+    pub clauses: Seq<Clause>,
+    /// Whether RETURN is followed by DISTINCT.
+    pub distinct: bool,
+    /// The expression of RETURN.
+    pub result: Box<Expr>,
+}
+
+/// A clause (High-level operations).
+#[cycle(syntax)]
+#[derive(Drop)]
+pub enum Clause {
+    /// `FOR var IN list`. The parser makes it for every name after IN.
+    For { var: Ident, list: Expr },
+    /// `FOR var IN collection`, as scoping tells it from a variable.
+    ForDocs { var: Ident, collection: Text },
+    /// A traversal.
+    Walk(Traversal),
+    /// `FILTER e`.
+    Filter(Expr),
+    /// `LET var = e`; a list of them is one clause each.
+    Let { var: Ident, expr: Expr },
+    /// `SORT e, ..`.
+    Sort(Seq<Key>),
+    /// `LIMIT offset, count`.
+    Limit { offset: u64, count: u64 },
+    /// `COLLECT ..`.
+    Collect(Collect),
+}
+
+/// One key of SORT.
+#[cycle(syntax)]
+#[derive(Drop)]
+pub struct Key {
+    pub expr: Expr,
+    pub descending: bool,
+}
+
+/// A variable with the expression that it takes.
+#[cycle(syntax)]
+#[derive(Drop)]
+pub struct Let {
+    pub var: Ident,
+    pub expr: Expr,
+}
+
+/// `FOR vertex, edge, path IN min..max DIRECTION start collections PRUNE prune OPTIONS options`.
+#[cycle(syntax)]
+#[derive(Drop)]
+pub struct Traversal {
+    pub vertex: Ident,
+    pub edge: Option<Ident>,
+    pub path: Option<Ident>,
+    /// The least depth of a path that is given.
+    pub min: u32,
+    /// The greatest depth.
+    pub max: u32,
+    pub direction: Direction,
+    pub start: Expr,
+    /// The edge collections.
+    pub collections: Seq<Text>,
+    pub prune: Option<Expr>,
+    pub options: Options,
+}
+
+/// The options of a traversal. The parser fills `settings`, scoping the three others.
+#[cycle(syntax)]
+#[derive(Drop)]
+pub struct Options {
+    pub settings: Seq<Field>,
+    pub edges: UniqueEdges,
+    pub vertices: UniqueVertices,
+    /// Breadth first in place of depth first.
+    pub bfs: bool,
+}
+
+/// `COLLECT groups AGGREGATE aggregates INTO into`.
+#[cycle(syntax)]
+#[derive(Drop)]
+pub struct Collect {
+    pub groups: Seq<Let>,
+    pub aggregates: Seq<AggregateItem>,
+    pub into: Option<Into>,
+}
+
+/// `var = NAME(arg)` of AGGREGATE.
+#[cycle(syntax)]
+#[derive(Drop)]
+pub struct AggregateItem {
+    pub var: Ident,
+    pub name: Text,
+    pub arg: Option<Expr>,
+}
+
+/// `INTO var`, `INTO var = what` or `INTO var KEEP keep`.
+#[cycle(syntax)]
+#[derive(Drop)]
+pub struct Into {
+    pub var: Ident,
+    pub what: Option<Expr>,
+    /// The names of KEEP; empty where there is no KEEP.
+    pub keep: Seq<Text>,
+}
