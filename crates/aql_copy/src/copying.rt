@@ -1,0 +1,374 @@
+//! Copies of syntax trees.
+
+ghost use Rattle.std.specs.Prelude.{◌≡◌, map, IfOk, option_map};
+ghost use Rattle.aql_tree.specs.View.{tree, clause_tree, step_part, member_part, link_part};
+ghost use Rattle.aql_tree.specs.View.{key_part, let_part, aggregate_part, into_part, collect_part};
+ghost use Rattle.aql_tree.specs.View.{options_part, traversal_part, query_tree};
+
+use aql_tree::{
+    AggregateItem, Clause, Collect, Expr, Field, Ident, Into, Key, Let, Link, Options, Query, Step,
+    Traversal,
+};
+use aql_value::{OutOfMemory, Seq, Text, copy};
+use std::alloc::Global;
+
+fn copy_texts(alloc: Global, texts: &[Text]) -> Result<Seq<Text>, OutOfMemory>
+    ensures { IfOk result (λ ts. ts ≡ texts.now) }
+{
+    let mut all = Seq::new(alloc);
+    for text in texts {
+        all.push(text.copy(alloc)?)?;
+    }
+    Ok(all)
+}
+
+fn copy_ident(alloc: Global, ident: &Ident) -> Result<Ident, OutOfMemory>
+    ensures { IfOk result (λ y. y ≡ ident.now) }
+{
+    match ident {
+        Ident::Name(name) => Ok(Ident::Name(name.copy(alloc)?)),
+        Ident::Num(n) => Ok(Ident::Num(*n)),
+    }
+}
+
+fn copy_maybe_ident(alloc: Global, ident: &Option<Ident>) -> Result<Option<Ident>, OutOfMemory>
+    ensures { IfOk result (λ y. y ≡ ident.now) }
+{
+    match ident {
+        Some(ident) => Ok(Some(copy_ident(alloc, ident)?)),
+        None => Ok(None),
+    }
+}
+
+/// An equal expression.
+#[cycle(copying)]
+pub fn copy_expr(alloc: Global, expr: &Expr) -> Result<Expr, OutOfMemory>
+    ensures { IfOk result (λ f. tree f ≡ tree expr.now) }
+{
+    match expr {
+        Expr::Lit(value) => Ok(Expr::Lit(copy(alloc, value)?)),
+        Expr::Var(ident) => Ok(Expr::Var(copy_ident(alloc, ident)?)),
+        Expr::Current => Ok(Expr::Current),
+        Expr::List(items) => Ok(Expr::List(copy_exprs(alloc, items.as_slice())?)),
+        Expr::Object(fields) => Ok(Expr::Object(copy_fields(alloc, fields.as_slice())?)),
+        Expr::Call { name, args } => Ok(Expr::Call {
+            name: name.copy(alloc)?,
+            args: copy_exprs(alloc, args.as_slice())?,
+        }),
+        Expr::Quant {
+            left,
+            kind,
+            op,
+            right,
+        } => Ok(Expr::Quant {
+            left: copy_boxed(alloc, left)?,
+            kind: *kind,
+            op: *op,
+            right: copy_boxed(alloc, right)?,
+        }),
+        Expr::Range { low, high } => Ok(Expr::Range {
+            low: copy_boxed(alloc, low)?,
+            high: copy_boxed(alloc, high)?,
+        }),
+        Expr::Access { of, steps } => Ok(Expr::Access {
+            of: copy_boxed(alloc, of)?,
+            steps: copy_steps(alloc, steps.as_slice())?,
+        }),
+        Expr::Unary { op, of } => Ok(Expr::Unary {
+            op: *op,
+            of: copy_boxed(alloc, of)?,
+        }),
+        Expr::Chain { first, rest } => Ok(Expr::Chain {
+            first: copy_boxed(alloc, first)?,
+            rest: copy_links(alloc, rest.as_slice())?,
+        }),
+        Expr::Cond { test, yes, no } => Ok(Expr::Cond {
+            test: copy_boxed(alloc, test)?,
+            yes: match yes {
+                Some(yes) => Some(copy_boxed(alloc, yes)?),
+                None => None,
+            },
+            no: copy_boxed(alloc, no)?,
+        }),
+        Expr::Sub(query) => Ok(Expr::Sub(Box::new(alloc, copy_query(alloc, query)?)?)),
+    }
+}
+
+#[cycle(copying)]
+fn copy_boxed(alloc: Global, expr: &Expr) -> Result<Box<Expr>, OutOfMemory>
+    ensures { IfOk result (λ f. tree f.value ≡ tree expr.now) }
+{
+    let copied = copy_expr(alloc, expr)?;
+    Ok(Box::new(alloc, copied)?)
+}
+
+#[cycle(copying)]
+fn copy_maybe(alloc: Global, expr: &Option<Expr>) -> Result<Option<Expr>, OutOfMemory>
+    ensures { IfOk result (λ f. option_map tree f ≡ option_map tree expr.now) }
+{
+    match expr {
+        Some(expr) => Ok(Some(copy_expr(alloc, expr)?)),
+        None => Ok(None),
+    }
+}
+
+#[cycle(copying)]
+fn copy_exprs(alloc: Global, all: &[Expr]) -> Result<Seq<Expr>, OutOfMemory>
+    ensures { IfOk result (λ out. map tree out ≡ map tree all.now) }
+{
+    let mut out = Seq::new(alloc);
+    for item in all {
+        out.push(copy_expr(alloc, item)?)?;
+    }
+    Ok(out)
+}
+
+#[cycle(copying)]
+fn copy_fields(alloc: Global, all: &[Field]) -> Result<Seq<Field>, OutOfMemory>
+    ensures { IfOk result (λ out. map member_part out ≡ map member_part all.now) }
+{
+    let mut out = Seq::new(alloc);
+    for item in all {
+        out.push(copy_field(alloc, item)?)?;
+    }
+    Ok(out)
+}
+
+#[cycle(copying)]
+fn copy_steps(alloc: Global, all: &[Step]) -> Result<Seq<Step>, OutOfMemory>
+    ensures { IfOk result (λ out. map step_part out ≡ map step_part all.now) }
+{
+    let mut out = Seq::new(alloc);
+    for item in all {
+        out.push(copy_step(alloc, item)?)?;
+    }
+    Ok(out)
+}
+
+#[cycle(copying)]
+fn copy_links(alloc: Global, all: &[Link]) -> Result<Seq<Link>, OutOfMemory>
+    ensures { IfOk result (λ out. map link_part out ≡ map link_part all.now) }
+{
+    let mut out = Seq::new(alloc);
+    for item in all {
+        out.push(copy_link(alloc, item)?)?;
+    }
+    Ok(out)
+}
+
+#[cycle(copying)]
+fn copy_keys(alloc: Global, all: &[Key]) -> Result<Seq<Key>, OutOfMemory>
+    ensures { IfOk result (λ out. map key_part out ≡ map key_part all.now) }
+{
+    let mut out = Seq::new(alloc);
+    for item in all {
+        out.push(copy_key(alloc, item)?)?;
+    }
+    Ok(out)
+}
+
+#[cycle(copying)]
+fn copy_lets(alloc: Global, all: &[Let]) -> Result<Seq<Let>, OutOfMemory>
+    ensures { IfOk result (λ out. map let_part out ≡ map let_part all.now) }
+{
+    let mut out = Seq::new(alloc);
+    for item in all {
+        out.push(copy_let(alloc, item)?)?;
+    }
+    Ok(out)
+}
+
+#[cycle(copying)]
+fn copy_aggregates(alloc: Global, all: &[AggregateItem]) -> Result<Seq<AggregateItem>, OutOfMemory>
+    ensures { IfOk result (λ out. map aggregate_part out ≡ map aggregate_part all.now) }
+{
+    let mut out = Seq::new(alloc);
+    for item in all {
+        out.push(copy_aggregate(alloc, item)?)?;
+    }
+    Ok(out)
+}
+
+#[cycle(copying)]
+fn copy_clauses(alloc: Global, all: &[Clause]) -> Result<Seq<Clause>, OutOfMemory>
+    ensures { IfOk result (λ out. map clause_tree out ≡ map clause_tree all.now) }
+{
+    let mut out = Seq::new(alloc);
+    for item in all {
+        out.push(copy_clause(alloc, item)?)?;
+    }
+    Ok(out)
+}
+
+#[cycle(copying)]
+fn copy_field(alloc: Global, field: &Field) -> Result<Field, OutOfMemory>
+    ensures { IfOk result (λ out. member_part out ≡ member_part field.now) }
+{
+    match field {
+        Field::Named { name, value } => Ok(Field::Named {
+            name: name.copy(alloc)?,
+            value: copy_expr(alloc, value)?,
+        }),
+        Field::Computed { name, value } => Ok(Field::Computed {
+            name: copy_expr(alloc, name)?,
+            value: copy_expr(alloc, value)?,
+        }),
+    }
+}
+
+#[cycle(copying)]
+fn copy_step(alloc: Global, step: &Step) -> Result<Step, OutOfMemory>
+    ensures { IfOk result (λ out. step_part out ≡ step_part step.now) }
+{
+    match step {
+        Step::Name(name) => Ok(Step::Name(name.copy(alloc)?)),
+        Step::At(e) => Ok(Step::At(copy_expr(alloc, e)?)),
+        Step::Each { filter, project } => Ok(Step::Each {
+            filter: copy_maybe(alloc, filter)?,
+            project: copy_maybe(alloc, project)?,
+        }),
+    }
+}
+
+#[cycle(copying)]
+fn copy_link(alloc: Global, link: &Link) -> Result<Link, OutOfMemory>
+    ensures { IfOk result (λ out. link_part out ≡ link_part link.now) }
+{
+    Ok(Link {
+        op: link.op,
+        right: copy_expr(alloc, &link.right)?,
+    })
+}
+
+#[cycle(copying)]
+fn copy_key(alloc: Global, key: &Key) -> Result<Key, OutOfMemory>
+    ensures { IfOk result (λ out. key_part out ≡ key_part key.now) }
+{
+    Ok(Key {
+        expr: copy_expr(alloc, &key.expr)?,
+        descending: key.descending,
+    })
+}
+
+#[cycle(copying)]
+fn copy_let(alloc: Global, item: &Let) -> Result<Let, OutOfMemory>
+    ensures { IfOk result (λ out. let_part out ≡ let_part item.now) }
+{
+    Ok(Let {
+        var: copy_ident(alloc, &item.var)?,
+        expr: copy_expr(alloc, &item.expr)?,
+    })
+}
+
+#[cycle(copying)]
+fn copy_aggregate(alloc: Global, item: &AggregateItem) -> Result<AggregateItem, OutOfMemory>
+    ensures { IfOk result (λ out. aggregate_part out ≡ aggregate_part item.now) }
+{
+    Ok(AggregateItem {
+        var: copy_ident(alloc, &item.var)?,
+        name: item.name.copy(alloc)?,
+        arg: copy_maybe(alloc, &item.arg)?,
+    })
+}
+
+#[cycle(copying)]
+fn copy_into(alloc: Global, into: &Into) -> Result<Into, OutOfMemory>
+    ensures { IfOk result (λ out. into_part out ≡ into_part into.now) }
+{
+    Ok(Into {
+        var: copy_ident(alloc, &into.var)?,
+        what: copy_maybe(alloc, &into.what)?,
+        keep: copy_texts(alloc, into.keep.as_slice())?,
+    })
+}
+
+#[cycle(copying)]
+fn copy_maybe_into(alloc: Global, into: &Option<Into>) -> Result<Option<Into>, OutOfMemory>
+    ensures { IfOk result (λ j. option_map into_part j ≡ option_map into_part into.now) }
+{
+    match into {
+        Some(into) => Ok(Some(copy_into(alloc, into)?)),
+        None => Ok(None),
+    }
+}
+
+#[cycle(copying)]
+fn copy_collect(alloc: Global, collect: &Collect) -> Result<Collect, OutOfMemory>
+    ensures { IfOk result (λ out. collect_part out ≡ collect_part collect.now) }
+{
+    Ok(Collect {
+        groups: copy_lets(alloc, collect.groups.as_slice())?,
+        aggregates: copy_aggregates(alloc, collect.aggregates.as_slice())?,
+        into: copy_maybe_into(alloc, &collect.into)?,
+    })
+}
+
+#[cycle(copying)]
+fn copy_options(alloc: Global, options: &Options) -> Result<Options, OutOfMemory>
+    ensures { IfOk result (λ out. options_part out ≡ options_part options.now) }
+{
+    Ok(Options {
+        settings: copy_fields(alloc, options.settings.as_slice())?,
+        edges: options.edges,
+        vertices: options.vertices,
+        bfs: options.bfs,
+    })
+}
+
+#[cycle(copying)]
+fn copy_traversal(alloc: Global, walk: &Traversal) -> Result<Traversal, OutOfMemory>
+    ensures { IfOk result (λ out. traversal_part out ≡ traversal_part walk.now) }
+{
+    Ok(Traversal {
+        vertex: copy_ident(alloc, &walk.vertex)?,
+        edge: copy_maybe_ident(alloc, &walk.edge)?,
+        path: copy_maybe_ident(alloc, &walk.path)?,
+        min: walk.min,
+        max: walk.max,
+        direction: walk.direction,
+        start: copy_expr(alloc, &walk.start)?,
+        collections: copy_texts(alloc, walk.collections.as_slice())?,
+        prune: copy_maybe(alloc, &walk.prune)?,
+        options: copy_options(alloc, &walk.options)?,
+    })
+}
+
+#[cycle(copying)]
+fn copy_clause(alloc: Global, clause: &Clause) -> Result<Clause, OutOfMemory>
+    ensures { IfOk result (λ out. clause_tree out ≡ clause_tree clause.now) }
+{
+    match clause {
+        Clause::For { var, list } => Ok(Clause::For {
+            var: copy_ident(alloc, var)?,
+            list: copy_expr(alloc, list)?,
+        }),
+        Clause::ForDocs { var, collection } => Ok(Clause::ForDocs {
+            var: copy_ident(alloc, var)?,
+            collection: collection.copy(alloc)?,
+        }),
+        Clause::Walk(t) => Ok(Clause::Walk(copy_traversal(alloc, t)?)),
+        Clause::Filter(e) => Ok(Clause::Filter(copy_expr(alloc, e)?)),
+        Clause::Let { var, expr } => Ok(Clause::Let {
+            var: copy_ident(alloc, var)?,
+            expr: copy_expr(alloc, expr)?,
+        }),
+        Clause::Sort(keys) => Ok(Clause::Sort(copy_keys(alloc, keys.as_slice())?)),
+        Clause::Limit { offset, count } => Ok(Clause::Limit {
+            offset: *offset,
+            count: *count,
+        }),
+        Clause::Collect(collect) => Ok(Clause::Collect(copy_collect(alloc, collect)?)),
+    }
+}
+
+#[cycle(copying)]
+fn copy_query(alloc: Global, query: &Query) -> Result<Query, OutOfMemory>
+    ensures { IfOk result (λ out. query_tree out ≡ query_tree query.now) }
+{
+    Ok(Query {
+        with: copy_texts(alloc, query.with.as_slice())?,
+        clauses: copy_clauses(alloc, query.clauses.as_slice())?,
+        distinct: query.distinct,
+        result: copy_boxed(alloc, &query.result)?,
+    })
+}

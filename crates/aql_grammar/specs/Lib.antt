@@ -1,0 +1,12 @@
+pub mod Kinds
+pub mod Spelling
+pub mod Operators
+pub mod Objects
+pub mod Clauses
+pub mod Expressions
+pub mod Tree
+pub mod Input
+pub mod Reader
+pub mod laws
+pub mod Names
+pub mod Limits

@@ -1,0 +1,595 @@
+-- What the program does with tokens, rule by rule, as functions.
+use Rattle.std.specs.Prelude.{ℕ, zero, suc, ℤ, pos, ◌==◌, Bool, true, false, not, ◌&&◌, if◌then◌else◌, List}
+use Rattle.std.specs.Prelude.{[], ◌∷◌, ◌++◌, length, Option, Some, None, codes}
+use Rattle.aql_lex.specs.declared.kinds.TokenKind.{TokenKind}
+use Rattle.aql_lex.specs.declared.kinds.TokenKind.TheVariants as k
+use Rattle.aql_lex.specs.declared.vocabulary.Symbol.{Symbol}
+use Rattle.aql_lex.specs.declared.vocabulary.Symbol.TheVariants as s
+use Rattle.aql_lex.specs.declared.vocabulary.Keyword.{Keyword}
+use Rattle.aql_lex.specs.declared.vocabulary.Keyword.TheVariants as w
+use Rattle.aql_func.specs.declared.operators.BinOp.{BinOp}
+use Rattle.aql_func.specs.declared.operators.BinOp.TheVariants as op
+use Rattle.aql_func.specs.declared.operators.UnaryOp.{UnaryOp}
+use Rattle.aql_func.specs.declared.operators.UnaryOp.TheVariants as un
+use Rattle.aql_tree.specs.declared.syntax.QuantKind.{QuantKind}
+use Rattle.aql_tree.specs.declared.syntax.QuantKind.TheVariants as quant
+use Rattle.aql_tree.specs.declared.syntax.Direction.{Direction}
+use Rattle.aql_tree.specs.declared.syntax.Direction.TheVariants as direction
+use Rattle.aql_tree.specs.Tree.{ExprTree, ClauseTree, QueryTree, unary_of, range_of, subquery, keep_if}
+use Rattle.aql_tree.specs.Tree as tree
+use Rattle.aql_tree.specs.View.{MemberPart, StepPart, LinkPart, KeyPart, sort, LetPart, AggregatePart}
+use Rattle.aql_tree.specs.View.{IntoPart, grouped, walked}
+use Rattle.aql_tree.specs.View as part
+use Rattle.aql_tree.specs.Made as e
+use Rattle.aql_grammar.specs.Kinds.{Tokens}
+use Rattle.aql_grammar.specs.Objects.{unquoted}
+use Rattle.aql_grammar.specs.Clauses.{capped, says}
+use Rattle.aql_grammar.specs.Input.{Parser, ◌>>=◌, ◌>>◌, ◌<$>◌, pure, refuse, peek, look, head, next}
+use Rattle.aql_grammar.specs.Input.{at_front, sees, skip, eat, eat_keyword, eat_word, expect}
+use Rattle.aql_grammar.specs.Input.{expect_keyword, expect_word, name, is_name, natural, is_number, many}
+use Rattle.aql_grammar.specs.Input.{separated, separated_onto, items}
+
+-- an unquoted name
+abbrev pub word_by : Option TokenKind → Parser (List ℕ)
+word_by (Some (k.Word v)) = skip >> pure v
+word_by other = refuse
+
+unfoldable pub word : Parser (List ℕ)
+word = peek >>= word_by
+
+-- ---- operators
+
+-- the level of an operator, and the operator
+abbrev pub by_symbol : Symbol → Option (ℕ × BinOp)
+by_symbol s.Star = Some (1, op.Mul)
+by_symbol s.Slash = Some (1, op.Div)
+by_symbol s.Percent = Some (1, op.Rem)
+by_symbol s.Plus = Some (2, op.Add)
+by_symbol s.Minus = Some (2, op.Sub)
+by_symbol s.Less = Some (4, op.Lt)
+by_symbol s.LessOrEqual = Some (4, op.Le)
+by_symbol s.Greater = Some (4, op.Gt)
+by_symbol s.GreaterOrEqual = Some (4, op.Ge)
+by_symbol s.Equal = Some (6, op.Eq)
+by_symbol s.NotEqual = Some (6, op.Ne)
+by_symbol s.And = Some (8, op.And)
+by_symbol s.Or = Some (9, op.Or)
+by_symbol other = None
+
+abbrev pub by_keyword : Keyword → Option (ℕ × BinOp)
+by_keyword w.In = Some (5, op.IsIn)
+by_keyword w.Like = Some (6, op.Like)
+by_keyword w.And = Some (8, op.And)
+by_keyword w.Or = Some (9, op.Or)
+by_keyword other = None
+
+-- behind `NOT`
+abbrev pub negated : Option TokenKind → Option (ℕ × BinOp)
+negated (Some (k.Keyword w.In)) = Some (5, op.NotIn)
+negated (Some (k.Keyword w.Like)) = Some (6, op.NotLike)
+negated other = None
+
+-- by the first token and the second
+abbrev pub operator_by : Option TokenKind → Option TokenKind → Option (ℕ × BinOp)
+operator_by (Some (k.Symbol symbol)) u = by_symbol symbol
+operator_by (Some (k.Keyword w.Not)) u = negated u
+operator_by (Some (k.Keyword keyword)) u = by_keyword keyword
+operator_by other u = None
+
+unfoldable pub operator_ahead : Tokens → Option (ℕ × BinOp)
+operator_ahead i = operator_by (head i) (head (next i))
+
+abbrev pub has_two_words : BinOp → Bool
+has_two_words op.NotIn = true
+has_two_words op.NotLike = true
+has_two_words other = false
+
+abbrev pub compares : BinOp → Bool
+compares op.Eq = true
+compares op.Ne = true
+compares op.Lt = true
+compares op.Le = true
+compares op.Gt = true
+compares op.Ge = true
+compares op.IsIn = true
+compares op.NotIn = true
+compares other = false
+
+unfoldable pub behind : BinOp → Tokens → Tokens
+behind o i = if has_two_words o then next (next i) else next i
+
+abbrev pub operator_then : Option (ℕ × BinOp) → Parser BinOp
+operator_then (Some p) = λ i. Some (p.1, behind p.1 i)
+operator_then None = refuse
+
+unfoldable pub operator : Parser BinOp
+operator = look operator_ahead >>= operator_then
+
+abbrev pub is_comparison : Option (ℕ × BinOp) → Bool
+is_comparison (Some p) = compares p.1
+is_comparison None = false
+
+unfoldable pub begins_comparison : Tokens → Bool
+begins_comparison i = is_comparison (operator_ahead i)
+
+unfoldable pub comparison : Parser BinOp
+comparison = do
+  is_there ← look begins_comparison
+  if is_there then operator else refuse
+
+-- of a token that is no such operator
+abbrev pub other_rank : Option TokenKind → ℕ
+other_rank (Some (k.Symbol s.Dot)) = 0
+other_rank (Some (k.Symbol s.OpenBracket)) = 0
+other_rank (Some (k.Symbol s.OpenParen)) = 0
+other_rank (Some (k.Symbol s.Range)) = 3
+other_rank (Some (k.Keyword w.All)) = 7
+other_rank (Some (k.Keyword w.Any)) = 7
+other_rank (Some (k.Keyword w.None)) = 7
+other_rank (Some (k.Symbol s.Question)) = 10
+other_rank other = 11
+
+abbrev pub rank_by : Option (ℕ × BinOp) → Option TokenKind → ℕ
+rank_by (Some p) t = p.0
+rank_by None t = other_rank t
+
+-- the level of what the tokens would go on with behind an operand: 0 for a step or a call, 10 for
+-- the ternary, 11 for nothing
+unfoldable pub rank : Tokens → ℕ
+rank i = rank_by (operator_ahead i) (head i)
+
+abbrev pub quantifier_by : Option TokenKind → Parser QuantKind
+quantifier_by (Some (k.Keyword w.All)) = skip >> pure quant.All
+quantifier_by (Some (k.Keyword w.Any)) = skip >> pure quant.Any
+quantifier_by (Some (k.Keyword w.None)) = skip >> pure quant.None
+quantifier_by other = refuse
+
+unfoldable pub quantifier : Parser QuantKind
+quantifier = peek >>= quantifier_by
+
+abbrev pub unary_at : Option TokenKind → Option UnaryOp
+unary_at (Some (k.Symbol s.Plus)) = Some un.Plus
+unary_at (Some (k.Symbol s.Minus)) = Some un.Minus
+unary_at (Some (k.Symbol s.Not)) = Some un.Not
+unary_at (Some (k.Keyword w.Not)) = Some un.Not
+unary_at other = None
+
+-- ---- what begins with a token
+
+abbrev pub begins_step : Option TokenKind → Bool
+begins_step (Some (k.Symbol s.Dot)) = true
+begins_step (Some (k.Symbol s.OpenBracket)) = true
+begins_step other = false
+
+abbrev pub begins_clause : Option TokenKind → Bool
+begins_clause (Some (k.Keyword w.For)) = true
+begins_clause (Some (k.Keyword w.Filter)) = true
+begins_clause (Some (k.Keyword w.Let)) = true
+begins_clause (Some (k.Keyword w.Sort)) = true
+begins_clause (Some (k.Keyword w.Limit)) = true
+begins_clause (Some (k.Keyword w.Collect)) = true
+begins_clause other = false
+
+abbrev pub begins_query : Option TokenKind → Bool
+begins_query (Some (k.Keyword w.Return)) = true
+begins_query other = begins_clause other
+
+-- ---- where a traversal begins
+
+-- ANY with a comparison behind it is part of an expression
+abbrev pub begins_direction_by : Option TokenKind → Bool → Bool
+begins_direction_by (Some (k.Keyword w.Outbound)) compared = true
+begins_direction_by (Some (k.Keyword w.Inbound)) compared = true
+begins_direction_by (Some (k.Keyword w.Any)) compared = not compared
+begins_direction_by other compared = false
+
+unfoldable pub begins_direction : Tokens → Bool
+begins_direction i = begins_direction_by (head i) (begins_comparison (next i))
+
+-- behind the first number
+unfoldable pub begins_behind : Tokens → Bool
+begins_behind i = if sees s.Range i && is_number (head (next i)) then begins_direction (next (next i)) else
+    begins_direction i
+
+unfoldable pub begins_walk : Tokens → Bool
+begins_walk i = if is_number (head i) then begins_behind (next i) else begins_direction i
+
+-- ---- the parts of a traversal that hold no expression
+
+unfoldable pub walk_names : Parser e.WalkNames
+walk_names = do
+  vertex ← name
+  has_edge ← eat s.Comma
+  if has_edge then (do
+    edge ← name
+    has_path ← eat s.Comma
+    if has_path then (do
+      path ← name
+      pure (record { vertex = vertex; edge = Some edge; path = Some path }))
+        else pure (record { vertex = vertex; edge = Some edge; path = None }))
+      else pure (record { vertex = vertex; edge = None; path = None })
+
+unfoldable pub depth : Parser (ℕ × ℕ)
+depth = do
+  t ← peek
+  if is_number t then (do
+    least ← natural
+    has_greatest ← eat s.Range
+    if has_greatest then (do
+      greatest ← natural
+      pure (capped least, capped greatest))
+        else pure (capped least, capped least))
+      else pure (1, 1)
+
+abbrev pub way_by : Option TokenKind → Parser Direction
+way_by (Some (k.Keyword w.Outbound)) = skip >> pure direction.Outbound
+way_by (Some (k.Keyword w.Inbound)) = skip >> pure direction.Inbound
+way_by (Some (k.Keyword w.Any)) = skip >> pure direction.Any
+way_by other = refuse
+
+unfoldable pub way : Parser Direction
+way = peek >>= way_by
+
+unfoldable pub limit : Parser ClauseTree
+limit = do
+  first ← natural
+  has_offset ← eat s.Comma
+  if has_offset then (do
+    count ← natural
+    pure (tree.limit first count))
+      else pure (tree.limit 0 first)
+
+-- behind `WITH`
+unfoldable pub count_name : Parser (List ℕ)
+count_name = do
+  expect_word (codes "COUNT")
+  expect_keyword w.Into
+  name
+
+unfoldable pub chained : ExprTree → List LinkPart → ExprTree
+chained first [] = first
+chained first (l ∷ ls) = e.linked first l ls
+
+unfoldable pub accessed : ExprTree → List StepPart → ExprTree
+accessed of [] = of
+accessed of (x ∷ xs) = e.stepped of x xs
+
+abbrev pub apply : {A : Type 0} → Option UnaryOp → (UnaryOp → Parser A) → Parser A → Parser A
+apply None f p = p
+apply (Some o) f p = f o
+
+-- ---- the rules that hold expressions; `expr` reads one that stands one bracket deeper
+
+module _ (expr : Bool → Parser ExprTree) (inside : Bool) where
+  -- behind a name
+  unfoldable pub named_member : List ℕ → ExprTree → Parser MemberPart
+  named_member v short = do
+    has_value ← eat s.Colon
+    if has_value then part.named v <$> expr inside else pure (part.named v short)
+
+  unfoldable pub text_member : List ℕ → Parser MemberPart
+  text_member v = do
+    expect s.Colon
+    part.named v <$> expr inside
+
+  -- behind the opening bracket
+  unfoldable pub computed_member : Parser MemberPart
+  computed_member = do
+    n ← expr inside
+    expect s.CloseBracket
+    expect s.Colon
+    part.computed n <$> expr inside
+
+  abbrev pub member_by : Option TokenKind → Parser MemberPart
+  member_by (Some (k.Word v)) = skip >> named_member v (unquoted inside v)
+  member_by (Some (k.Quoted v)) = skip >> named_member v (e.name v)
+  member_by (Some (k.Text v)) = skip >> text_member v
+  member_by (Some (k.Symbol s.OpenBracket)) = skip >> computed_member
+  member_by other = refuse
+
+  unfoldable pub member : Parser MemberPart
+  member = peek >>= member_by
+
+  -- behind the opening brace
+  abbrev pub members : Parser (List MemberPart)
+  members = items s.CloseBrace member
+
+  -- ---- clauses
+
+  unfoldable pub assigned : Parser LetPart
+  assigned = do
+    v ← name
+    expect s.Assign
+    e.assigned v <$> expr inside
+
+  unfoldable pub let_clause : Parser ClauseTree
+  let_clause = do
+    v ← name
+    expect s.Assign
+    e.let_in v <$> expr inside
+
+  unfoldable pub sort_key : Parser KeyPart
+  sort_key = do
+    x ← expr inside
+    is_descending ← eat_keyword w.Desc
+    if is_descending then pure (x, true) else (do
+      is_ascending ← eat_keyword w.Asc
+      pure (x, false))
+
+  -- behind the opening parenthesis of an aggregate
+  unfoldable pub optional_argument : Parser (Option ExprTree)
+  optional_argument = do
+    is_empty ← eat s.CloseParen
+    if is_empty then pure None else (do
+      x ← expr inside
+      expect s.CloseParen
+      pure (Some x))
+
+  unfoldable pub aggregate : Parser AggregatePart
+  aggregate = do
+    v ← name
+    expect s.Assign
+    f ← word
+    expect s.OpenParen
+    e.aggregated v f <$> optional_argument
+
+  unfoldable pub aggregates : Parser (List AggregatePart)
+  aggregates = do
+    has_some ← eat_keyword w.Aggregate
+    if has_some then separated aggregate else pure []
+
+  -- behind `INTO`
+  unfoldable pub into_part : Parser IntoPart
+  into_part = do
+    v ← name
+    has_value ← eat s.Assign
+    if has_value then (do x ← expr inside; pure (e.into v (Some x) [])) else (do
+      keeps ← eat_word (codes "KEEP")
+      if keeps then e.into v None <$> separated name else pure (e.into v None []))
+
+  unfoldable pub into : Parser (Option IntoPart)
+  into = do
+    has_some ← eat_keyword w.Into
+    if has_some then Some <$> into_part else pure None
+
+  unfoldable pub groups : Parser (List LetPart)
+  groups = do
+    t ← peek
+    if is_name t then separated assigned else pure []
+
+  -- behind `COLLECT`
+  unfoldable pub collect : Parser ClauseTree
+  collect = do
+    ls ← groups
+    counts ← eat_keyword w.With
+    if counts then (do
+      v ← count_name
+      pure (grouped (ls, e.aggregated v (codes "LENGTH") None ∷ [], None)))
+        else (do
+          gs ← aggregates
+          i ← into
+          if says ls gs i then pure (grouped (ls, gs, i)) else refuse)
+
+  unfoldable pub prune : Parser (Option ExprTree)
+  prune = do
+    has_some ← eat_word (codes "PRUNE")
+    if has_some then Some <$> expr inside else pure None
+
+  unfoldable pub settings : Parser (List MemberPart)
+  settings = do
+    has_some ← eat_word (codes "OPTIONS")
+    if has_some then expect s.OpenBrace >> members else pure []
+
+  unfoldable pub walk : e.WalkNames → Parser ClauseTree
+  walk names = do
+    d ← depth
+    direction ← way
+    start ← expr inside
+    edges ← separated name
+    p ← prune
+    ms ← settings
+    pure (walked (e.traversal names d.0 d.1 direction start edges p ms))
+
+  abbrev pub single_by : List ℕ → Option (List ℕ) → Parser ClauseTree
+  single_by v None = e.for_in v <$> expr inside
+  single_by v (Some other) = refuse
+
+  -- behind `FOR`
+  unfoldable pub for_clause : Parser ClauseTree
+  for_clause = do
+    names ← walk_names
+    expect_keyword w.In
+    walks ← look begins_walk
+    if walks then walk names else single_by names.vertex names.edge
+
+  abbrev pub pushed : List ClauseTree → ClauseTree → List ClauseTree
+  pushed found c = found ++ c ∷ []
+
+  abbrev pub clause_by : List ClauseTree → Option TokenKind → Parser (List ClauseTree)
+  clause_by found (Some (k.Keyword w.For)) = skip >> pushed found <$> for_clause
+  clause_by found (Some (k.Keyword w.Filter)) = skip >> (λ x. pushed found (keep_if x)) <$> expr inside
+  clause_by found (Some (k.Keyword w.Let)) = skip >> separated_onto let_clause found
+  clause_by found (Some (k.Keyword w.Sort)) = skip >> (λ ks. pushed found (sort ks)) <$> separated sort_key
+  clause_by found (Some (k.Keyword w.Limit)) = skip >> pushed found <$> limit
+  clause_by found (Some (k.Keyword w.Collect)) = skip >> pushed found <$> collect
+  clause_by found other = refuse
+
+  -- a clause behind those that were found
+  unfoldable pub clause : List ClauseTree → Parser (List ClauseTree)
+  clause found = peek >>= clause_by found
+
+  unfoldable pub clauses_from : ℕ → List ClauseTree → Parser (List ClauseTree)
+  clauses_from zero found = pure found
+  clauses_from (suc n) found = do
+    t ← peek
+    if begins_clause t then (do now ← clause found; clauses_from n now) else pure found
+
+  unfoldable pub clauses : Parser (List ClauseTree)
+  clauses = λ i. clauses_from (length i) [] i
+
+  unfoldable pub query : List (List ℕ) → Parser QueryTree
+  query with_list = do
+    cs ← clauses
+    expect_keyword w.Return
+    distinct ← eat_keyword w.Distinct
+    e.query with_list cs distinct <$> expr inside
+
+  -- ---- primaries and steps
+
+  unfoldable pub argument : Parser ExprTree
+  argument = do
+    t ← peek
+    if begins_query t then subquery <$> query [] else expr inside
+
+  -- behind the opening parenthesis of a call
+  unfoldable pub arguments : Parser (List ExprTree)
+  arguments = do
+    is_empty ← eat s.CloseParen
+    if is_empty then pure [] else (do found ← separated argument; expect s.CloseParen; pure found)
+
+  -- behind a word
+  unfoldable pub named : List ℕ → Parser ExprTree
+  named v = do
+    is_call ← eat s.OpenParen
+    if is_call then e.call v <$> arguments else pure (unquoted inside v)
+
+  unfoldable pub bracketed : Parser ExprTree
+  bracketed = do
+    found ← argument
+    expect s.CloseParen
+    pure found
+
+  abbrev pub primary_by : Option TokenKind → Parser ExprTree
+  primary_by (Some (k.Number n)) = skip >> pure (e.number n)
+  primary_by (Some (k.Text v)) = skip >> pure (e.text v)
+  primary_by (Some (k.Quoted v)) = skip >> pure (e.name v)
+  primary_by (Some (k.Word v)) = skip >> named v
+  primary_by (Some (k.Keyword w.Null)) = skip >> pure e.null
+  primary_by (Some (k.Keyword w.True)) = skip >> pure (e.boolean true)
+  primary_by (Some (k.Keyword w.False)) = skip >> pure (e.boolean false)
+  primary_by (Some (k.Symbol s.OpenParen)) = skip >> bracketed
+  primary_by (Some (k.Symbol s.OpenBracket)) = skip >> e.list <$> items s.CloseBracket (expr inside)
+  primary_by (Some (k.Symbol s.OpenBrace)) = skip >> e.object <$> members
+  primary_by other = refuse
+
+  unfoldable pub primary : Parser ExprTree
+  primary = peek >>= primary_by
+
+  -- what a keyword introduces in an inline operator
+  unfoldable pub element : Keyword → Parser (Option ExprTree)
+  element keyword = do
+    has_some ← eat_keyword keyword
+    if has_some then Some <$> expr true else pure None
+
+  -- behind the opening bracket of a step
+  unfoldable pub bracket_step : Parser StepPart
+  bracket_step = do
+    is_each ← eat s.Star
+    if is_each then (do
+      filter ← element w.Filter
+      project ← element w.Return
+      expect s.CloseBracket
+      pure (part.each filter project))
+        else (do
+          x ← expr inside
+          expect s.CloseBracket
+          pure (part.at x))
+
+  abbrev pub step_by : Option TokenKind → Parser StepPart
+  step_by (Some (k.Symbol s.Dot)) = skip >> part.name <$> name
+  step_by (Some (k.Symbol s.OpenBracket)) = skip >> bracket_step
+  step_by other = refuse
+
+  unfoldable pub step : Parser StepPart
+  step = peek >>= step_by
+
+  unfoldable pub postfix : Parser ExprTree
+  postfix = do
+    of ← primary
+    steps ← many (at_front begins_step) step
+    pure (accessed of steps)
+
+  -- ---- operators, level by level
+
+  -- the number bounds the operators
+  unfoldable pub unary_from : ℕ → Parser ExprTree
+  unary_from zero = refuse
+  unary_from (suc n) = do
+    t ← peek
+    apply (unary_at t) (λ o. do skip; unary_of o <$> unary_from n) postfix
+
+  unfoldable pub unary : Parser ExprTree
+  unary = λ i. unary_from (length i) i
+
+unfoldable pub link : Parser ExprTree → Parser LinkPart
+link part = do
+  o ← operator
+  e.link o <$> part
+
+abbrev pub at_level : ℕ → Tokens → Bool
+at_level level i = rank i == level
+
+unfoldable pub chain : ℕ → Parser ExprTree → Parser ExprTree
+chain level part = do
+  first ← part
+  rest ← many (at_level level) (link part)
+  pure (chained first rest)
+
+unfoldable pub range : Parser ExprTree → Parser ExprTree
+range part = do
+  low ← part
+  has_high ← eat s.Range
+  if has_high then range_of low <$> part else pure low
+
+unfoldable pub array_comparison : Parser ExprTree → Parser ExprTree
+array_comparison part = do
+  left ← part
+  is_quantified ← look (at_level 7)
+  if is_quantified then (do
+    kind ← quantifier
+    o ← comparison
+    tree.quantified left kind o <$> part)
+      else pure left
+
+abbrev pub level_by : ℕ → Parser ExprTree → Parser ExprTree
+level_by level part = if level == 3 then range part else if level == 7 then array_comparison part else chain
+    level part
+
+module _ (expr : Bool → Parser ExprTree) (inside : Bool) where
+  unfoldable pub level_at : ℕ → Parser ExprTree
+  level_at zero = unary expr inside
+  level_at (suc k) = level_by (suc k) (level_at k)
+
+  -- behind the question mark
+  unfoldable pub choice_of : ExprTree → Parser ExprTree
+  choice_of test = do
+    is_short ← eat s.Colon
+    if is_short then e.conditional test None <$> expr inside else (do
+      first ← expr inside
+      expect s.Colon
+      e.conditional test (Some first) <$> expr inside)
+
+  unfoldable pub conditional : Parser ExprTree
+  conditional = do
+    test ← level_at 9
+    is_choice ← eat s.Question
+    if is_choice then choice_of test else pure test
+
+-- with expressions nested no deeper than the number
+unfoldable pub expr : ℕ → Bool → Parser ExprTree
+expr zero inside = refuse
+expr (suc depth) inside = conditional (expr depth) inside
+
+unfoldable pub top : ℕ → Parser QueryTree
+top fuel = do
+  has_list ← eat_keyword w.With
+  if has_list then (do names ← separated name; query (expr fuel) false names) else query (expr fuel) false
+      []
+
+abbrev pub ended : Option (QueryTree × Tokens) → Option QueryTree
+ended None = None
+ended (Some p) = if length p.1 == 0 then Some p.0 else None
+
+-- the query that all the tokens are, in which no more nests than there are tokens
+unfoldable pub whole : Tokens → Option QueryTree
+whole i = ended (top (length i) i)

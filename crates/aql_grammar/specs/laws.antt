@@ -1,0 +1,12 @@
+pub mod Turns
+pub mod Steps
+pub mod ListLaws
+pub mod OperatorLaws
+pub mod ClauseSound
+pub mod ExprSound
+pub mod Shrinking
+pub mod Ending
+pub mod ClauseComplete
+pub mod ExprComplete
+pub mod TreeLaws
+pub mod LimitLaws

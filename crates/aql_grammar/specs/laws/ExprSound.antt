@@ -1,0 +1,374 @@
+-- Expressions and whole queries: what is read is spelt so.
+use Rattle.std.proofs.Common.{◌≡◌, ℕ, zero, suc, ◌+◌, ◌<◌, ◌≤◌, Bool, true, false, cond, List, [], ◌∷◌}
+use Rattle.std.proofs.Common.{◌++◌, length, Option, Some, None, ◌⊎◌, inl, inr, ⊎_elim, refl, sym, ap, ◌∙◌}
+use Rattle.std.proofs.Common.{subst, rules, arith}
+use Rattle.std.specs.Prelude.{◌==◌}
+use Rattle.aql_lex.specs.declared.kinds.TokenKind.TheVariants as k
+use Rattle.aql_lex.specs.declared.vocabulary.Symbol.{Symbol}
+use Rattle.aql_lex.specs.declared.vocabulary.Symbol.TheVariants as s
+use Rattle.aql_lex.specs.declared.vocabulary.Keyword.{Keyword}
+use Rattle.aql_lex.specs.declared.vocabulary.Keyword.TheVariants as w
+use Rattle.aql_func.specs.declared.operators.UnaryOp.{UnaryOp}
+use Rattle.aql_tree.specs.Tree.{ExprTree, QueryTree, unary_of, range_of, subquery}
+use Rattle.aql_tree.specs.Tree as tree
+use Rattle.aql_tree.specs.View.{MemberPart, StepPart, LinkPart}
+use Rattle.aql_tree.specs.View as part
+use Rattle.aql_tree.specs.Made as e
+use Rattle.aql_grammar.specs.Kinds.{Tokens}
+use Rattle.aql_grammar.specs.Spelling.{IsName, AreMany, AreSeparated, AreAny, AreItems}
+use Rattle.aql_grammar.specs.Objects.{unquoted, IsVariable, IsObject}
+use Rattle.aql_grammar.specs.Clauses.{IsQuery}
+use Rattle.aql_grammar.specs.Expressions.{IsArgument, IsPrimary, IsElementFilter, IsElementReturn, IsStep}
+use Rattle.aql_grammar.specs.Expressions.{IsPostfix, IsUnary, IsLink, IsChain, IsRange, IsQuantified}
+use Rattle.aql_grammar.specs.Expressions.{IsProduct, IsSum, IsSpan, IsRelation, IsMembership, IsEquality}
+use Rattle.aql_grammar.specs.Expressions.{IsArrayComparison, IsConjunction, IsDisjunction, IsConditional}
+use Rattle.aql_grammar.specs.Tree.{IsExpr, IsTop}
+use Rattle.aql_grammar.specs.Input.{Parser, head, next, at_front, expect, name, separated, items, many}
+use Rattle.aql_grammar.specs.Reader.{operator, comparison, quantifier, unary_at, rank, begins_step}
+use Rattle.aql_grammar.specs.Reader.{begins_query, accessed, chained, argument, arguments, named, bracketed}
+use Rattle.aql_grammar.specs.Reader.{primary, primary_by, members, element, bracket_step, step, step_by}
+use Rattle.aql_grammar.specs.Reader.{postfix, apply, unary_from, unary, link, at_level, chain, range}
+use Rattle.aql_grammar.specs.Reader.{array_comparison, level_by, level_at, choice_of, conditional, expr}
+use Rattle.aql_grammar.specs.Reader.{query, top}
+use Rattle.aql_grammar.specs.laws.Steps.{Sound, bind_some, some_same, done, expect_some, eat_cases}
+use Rattle.aql_grammar.specs.laws.Steps.{keyword_cases, if_cases, name_sound}
+use Rattle.aql_grammar.specs.laws.ListLaws.{separated_sound, items_sound, many_sound, Closed}
+use Rattle.aql_grammar.specs.laws.OperatorLaws.{operator_sound, comparison_sound, quantifier_sound}
+use Rattle.aql_grammar.specs.laws.OperatorLaws.{unary_sound, at_rank}
+use Rattle.aql_grammar.specs.laws.ClauseSound.{object_sound, query_sound}
+
+apply_cases : {A : Type 0} (o : Option UnaryOp) (f : UnaryOp → Parser A) (p : Parser A) (ts : Tokens)
+    (y : A × Tokens) → apply o f p ts ≡ Some y
+    → ((op : UnaryOp) × (o ≡ Some op) × (f op ts ≡ Some y)) ⊎ ((o ≡ None) × (p ts ≡ Some y))
+apply_cases None f p ts y h = inr (refl, h)
+apply_cases (Some op) f p ts y h = inl (op, refl, h)
+
+module _ (R : Bool → Parser ExprTree) (E : Bool → ExprTree → Tokens → Tokens → Type 0)
+    (sound : (inside : Bool) → Sound (R inside) (E inside)) (inside : Bool) where
+  argument_sound : Sound (argument R inside) (IsArgument E inside)
+  unfolding argument
+  argument_sound ts y h =
+      ⊎_elim
+      (λ m. let q = bind_some (query R inside [] ts) _ y m.1 in done (IsArgument E inside) ts
+      (subquery q.0.0) q.0.1 y q.2 (IsArgument.query (query_sound R E sound inside [] ts q.0 q.1)))
+      (λ m. IsArgument.expr (sound inside ts y m.1))
+      (if_cases (begins_query (head ts)) _ _ ts y h)
+
+  arguments_sound : Sound (arguments R inside) (Closed s.CloseParen (AreAny (IsArgument E inside)))
+  unfolding arguments
+  arguments_sound ts y h =
+      ⊎_elim
+      (λ m. done (Closed s.CloseParen (AreAny (IsArgument E inside))) ts [] (next ts) y m.1
+      (subst (λ r. AreAny (IsArgument E inside) [] ts r) m.0 AreAny.none))
+      (λ m.
+      let xs = bind_some (separated (argument R inside) ts) _ y m.1 in
+      let c = bind_some (expect s.CloseParen xs.0.1) _ y xs.2 in
+      done (Closed s.CloseParen (AreAny (IsArgument E inside))) ts xs.0.0 c.0.1 y c.2
+      (subst (λ r. AreAny (IsArgument E inside) xs.0.0 ts r) (expect_some s.CloseParen xs.0.1 c.0 c.1)
+      (AreAny.some (separated_sound (argument R inside) (IsArgument E inside) argument_sound ts xs.0
+      xs.1))))
+      (eat_cases s.CloseParen _ _ ts y h)
+
+  named_sound : (v : List ℕ) (ts : Tokens) (y : ExprTree × Tokens) → named R inside v ts ≡ Some y
+      → IsPrimary E inside y.0 (k.Word v ∷ ts) y.1
+  unfolding named
+  named_sound v ts y h =
+      ⊎_elim
+      (λ m.
+      let xs = bind_some (arguments R inside (next ts)) _ y m.1 in
+      done (IsPrimary E inside) (k.Word v ∷ ts) (e.call v xs.0.0) xs.0.1 y xs.2
+      (subst (λ q. IsPrimary E inside (e.call v xs.0.0) (k.Word v ∷ q) xs.0.1) (sym m.0)
+      (IsPrimary.call (arguments_sound (next ts) xs.0 xs.1))))
+      (λ m. done (IsPrimary E inside) (k.Word v ∷ ts) (unquoted inside v) ts y m.1
+      (IsPrimary.name IsVariable.word))
+      (eat_cases s.OpenParen _ _ ts y h)
+
+  bracketed_sound : (ts : Tokens) (y : ExprTree × Tokens) → bracketed R inside ts ≡ Some y
+      → IsPrimary E inside y.0 (k.Symbol s.OpenParen ∷ ts) y.1
+  unfolding bracketed
+  bracketed_sound ts y h =
+      let x = bind_some (argument R inside ts) _ y h in
+      let c = bind_some (expect s.CloseParen x.0.1) _ y x.2 in
+      done (IsPrimary E inside) (k.Symbol s.OpenParen ∷ ts) x.0.0 c.0.1 y c.2
+      (IsPrimary.bracketed (subst (λ r. IsArgument E inside x.0.0 ts r)
+      (expect_some s.CloseParen x.0.1 c.0 c.1) (argument_sound ts x.0 x.1)))
+
+  primary_symbol : (symbol : Symbol) (ts : Tokens) (y : ExprTree × Tokens)
+      → primary_by R inside (Some (k.Symbol symbol)) (k.Symbol symbol ∷ ts) ≡ Some y
+      → IsPrimary E inside y.0 (k.Symbol symbol ∷ ts) y.1
+  primary_symbol s.OpenParen ts y h = bracketed_sound ts y h
+  primary_symbol s.OpenBracket ts y h =
+      let xs = bind_some (items s.CloseBracket (R inside) ts) _ y h in
+      done (IsPrimary E inside) (k.Symbol s.OpenBracket ∷ ts) (e.list xs.0.0) xs.0.1 y xs.2
+      (IsPrimary.list (items_sound s.CloseBracket (R inside) (E inside) (sound inside) ts xs.0 xs.1))
+  primary_symbol s.OpenBrace ts y h =
+      let ms = bind_some (members R inside ts) _ y h in
+      done (IsPrimary E inside) (k.Symbol s.OpenBrace ∷ ts) (e.object ms.0.0) ms.0.1 y ms.2
+      (IsPrimary.object (object_sound R E sound inside ts ms.0 ms.1))
+  primary_symbol _ ts y h = absurd (cc)
+
+  primary_keyword : (keyword : Keyword) (ts : Tokens) (y : ExprTree × Tokens)
+      → primary_by R inside (Some (k.Keyword keyword)) (k.Keyword keyword ∷ ts) ≡ Some y
+      → IsPrimary E inside y.0 (k.Keyword keyword ∷ ts) y.1
+  primary_keyword w.Null ts y h = done (IsPrimary E inside) (k.Keyword w.Null ∷ ts) e.null ts y h
+      IsPrimary.null
+  primary_keyword w.True ts y h = done (IsPrimary E inside) (k.Keyword w.True ∷ ts) (e.boolean true) ts y h
+      IsPrimary.true_word
+  primary_keyword w.False ts y h = done (IsPrimary E inside) (k.Keyword w.False ∷ ts) (e.boolean false) ts y
+      h IsPrimary.false_word
+  primary_keyword _ ts y h = absurd (cc)
+
+  primary_sound : Sound (primary R inside) (IsPrimary E inside)
+  unfolding primary
+  primary_sound [] y h = absurd (cc)
+  primary_sound (k.Number n ∷ ts) y h = done (IsPrimary E inside) (k.Number n ∷ ts) (e.number n) ts y h
+      IsPrimary.number
+  primary_sound (k.Text v ∷ ts) y h = done (IsPrimary E inside) (k.Text v ∷ ts) (e.text v) ts y h
+      IsPrimary.text
+  primary_sound (k.Quoted v ∷ ts) y h = done (IsPrimary E inside) (k.Quoted v ∷ ts) (e.name v) ts y h
+      (IsPrimary.name IsVariable.quoted)
+  primary_sound (k.Word v ∷ ts) y h = named_sound v ts y h
+  primary_sound (k.Keyword keyword ∷ ts) y h = primary_keyword keyword ts y h
+  primary_sound (k.Symbol symbol ∷ ts) y h = primary_symbol symbol ts y h
+
+  filter_sound : Sound (element R inside w.Filter) (IsElementFilter E inside)
+  unfolding element
+  filter_sound ts y h =
+      ⊎_elim
+      (λ m.
+      let x = bind_some (R true (next ts)) _ y m.1 in
+      done (IsElementFilter E inside) ts (Some x.0.0) x.0.1 y x.2
+      (subst (λ q. IsElementFilter E inside (Some x.0.0) q x.0.1) (sym m.0)
+      (IsElementFilter.some (sound true (next ts) x.0 x.1))))
+      (λ m. done (IsElementFilter E inside) ts None ts y m.1 IsElementFilter.none)
+      (keyword_cases w.Filter _ _ ts y h)
+
+  return_sound : Sound (element R inside w.Return) (IsElementReturn E inside)
+  unfolding element
+  return_sound ts y h =
+      ⊎_elim
+      (λ m.
+      let x = bind_some (R true (next ts)) _ y m.1 in
+      done (IsElementReturn E inside) ts (Some x.0.0) x.0.1 y x.2
+      (subst (λ q. IsElementReturn E inside (Some x.0.0) q x.0.1) (sym m.0)
+      (IsElementReturn.some (sound true (next ts) x.0 x.1))))
+      (λ m. done (IsElementReturn E inside) ts None ts y m.1 IsElementReturn.none)
+      (keyword_cases w.Return _ _ ts y h)
+
+  bracket_sound : (ts : Tokens) (y : StepPart × Tokens) → bracket_step R inside ts ≡ Some y
+      → IsStep E inside y.0 (k.Symbol s.OpenBracket ∷ ts) y.1
+  unfolding bracket_step
+  bracket_sound ts y h =
+      ⊎_elim
+      (λ m.
+      let f = bind_some (element R inside w.Filter (next ts)) _ y m.1 in
+      let p = bind_some (element R inside w.Return f.0.1) _ y f.2 in
+      let c = bind_some (expect s.CloseBracket p.0.1) _ y p.2 in
+      let spelt = IsStep.each (filter_sound (next ts) f.0 f.1)
+      (subst (λ r. IsElementReturn E inside p.0.0 f.0.1 r) (expect_some s.CloseBracket p.0.1 c.0 c.1)
+      (return_sound f.0.1 p.0 p.1)) in
+      done (IsStep E inside) (k.Symbol s.OpenBracket ∷ ts) (part.each f.0.0 p.0.0) c.0.1 y c.2
+      (subst (λ q. IsStep E inside (part.each f.0.0 p.0.0) (k.Symbol s.OpenBracket ∷ q) c.0.1) (sym m.0)
+      spelt))
+      (λ m.
+      let x = bind_some (R inside ts) _ y m.1 in
+      let c = bind_some (expect s.CloseBracket x.0.1) _ y x.2 in
+      done (IsStep E inside) (k.Symbol s.OpenBracket ∷ ts) (part.at x.0.0) c.0.1 y c.2
+      (IsStep.at (subst (λ r. E inside x.0.0 ts r) (expect_some s.CloseBracket x.0.1 c.0 c.1)
+      (sound inside ts x.0 x.1))))
+      (eat_cases s.Star _ _ ts y h)
+
+  step_symbol : (symbol : Symbol) (ts : Tokens) (y : StepPart × Tokens)
+      → step_by R inside (Some (k.Symbol symbol)) (k.Symbol symbol ∷ ts) ≡ Some y
+      → IsStep E inside y.0 (k.Symbol symbol ∷ ts) y.1
+  step_symbol s.Dot ts y h =
+      let v = bind_some (name ts) _ y h in
+      done (IsStep E inside) (k.Symbol s.Dot ∷ ts) (part.name v.0.0) v.0.1 y v.2
+      (IsStep.name (name_sound ts v.0 v.1))
+  step_symbol s.OpenBracket ts y h = bracket_sound ts y h
+  step_symbol _ ts y h = absurd (cc)
+
+  step_sound : Sound (step R inside) (IsStep E inside)
+  unfolding step
+  step_sound [] y h = absurd (cc)
+  step_sound (k.Symbol symbol ∷ ts) y h = step_symbol symbol ts y h
+  step_sound (k.Number n ∷ ts) y h = absurd (cc)
+  step_sound (k.Word v ∷ ts) y h = absurd (cc)
+  step_sound (k.Quoted v ∷ ts) y h = absurd (cc)
+  step_sound (k.Text v ∷ ts) y h = absurd (cc)
+  step_sound (k.Keyword v ∷ ts) y h = absurd (cc)
+
+  accessed_spelt : (of : ExprTree) (ps : List StepPart) (a b c : Tokens) → IsPrimary E inside of a b
+      → AreMany (IsStep E inside) ps b c → IsPostfix E inside (accessed of ps) a c
+  unfolding accessed
+  accessed_spelt of [] a b c h AreMany.none = IsPostfix.alone h
+  accessed_spelt of (p ∷ ps) a b c h more = IsPostfix.stepped h more
+
+  postfix_sound : Sound (postfix R inside) (IsPostfix E inside)
+  unfolding postfix
+  postfix_sound ts y h =
+      let x = bind_some (primary R inside ts) _ y h in
+      let ps = bind_some (many (at_front begins_step) (step R inside) x.0.1) _ y x.2 in
+      done (IsPostfix E inside) ts (accessed x.0.0 ps.0.0) ps.0.1 y ps.2
+      (accessed_spelt x.0.0 ps.0.0 ts x.0.1 ps.0.1 (primary_sound ts x.0 x.1)
+      (many_sound (at_front begins_step) (step R inside) (IsStep E inside)
+      (λ r z on read. step_sound r z read) x.0.1 ps.0 ps.1))
+
+  unary_from_sound : (n : ℕ) → Sound (unary_from R inside n) (IsUnary E inside)
+  unfolding unary_from
+  unary_from_sound zero ts y h = absurd (cc)
+  unary_from_sound (suc n) ts y h =
+      ⊎_elim
+      (λ m.
+      let x = bind_some (unary_from R inside n (next ts)) _ y m.2 in
+      done (IsUnary E inside) ts (unary_of m.0 x.0.0) x.0.1 y x.2 (IsUnary.applied (unary_sound ts m.0 m.1)
+      (unary_from_sound n (next ts) x.0 x.1)))
+      (λ m. IsUnary.postfix (postfix_sound ts y m.1))
+      (apply_cases (unary_at (head ts)) _ _ ts y h)
+
+  pub unary_rule_sound : Sound (unary R inside) (IsUnary E inside)
+  unfolding unary
+  unary_rule_sound ts y h = unary_from_sound (length ts) ts y h
+
+-- ---- one level over another
+
+chained_spelt : (level : ℕ) (P : ExprTree → Tokens → Tokens → Type 0) (first : ExprTree)
+    (ls : List LinkPart) (a b c : Tokens) → P first a b → AreMany (IsLink level P) ls b c
+    → IsChain level P (chained first ls) a c
+unfolding chained
+chained_spelt level P first [] a b c h AreMany.none = IsChain.alone h
+chained_spelt level P first (l ∷ ls) a b c h more = IsChain.linked h more
+
+module _ (R : Parser ExprTree) (P : ExprTree → Tokens → Tokens → Type 0) (sound : Sound R P) where
+  link_sound : (level : ℕ) (ts : Tokens) (y : LinkPart × Tokens) → at_level level ts ≡ true
+      → link R ts ≡ Some y → IsLink level P y.0 ts y.1
+  unfolding link
+  link_sound level ts y on h =
+      let o = bind_some (operator ts) _ y h in
+      let x = bind_some (R o.0.1) _ y o.2 in
+      done (IsLink level P) ts (e.link o.0.0 x.0.0) x.0.1 y x.2
+      (IsLink.link (operator_sound level ts o.0 (at_rank level ts on) o.1) (sound o.0.1 x.0 x.1))
+
+  pub chain_sound : (level : ℕ) → Sound (chain level R) (IsChain level P)
+  unfolding chain
+  chain_sound level ts y h =
+      let x = bind_some (R ts) _ y h in
+      let ls = bind_some (many (at_level level) (link R) x.0.1) _ y x.2 in
+      done (IsChain level P) ts (chained x.0.0 ls.0.0) ls.0.1 y ls.2
+      (chained_spelt level P x.0.0 ls.0.0 ts x.0.1 ls.0.1 (sound ts x.0 x.1)
+      (many_sound (at_level level) (link R) (IsLink level P) (link_sound level) x.0.1 ls.0 ls.1))
+
+  pub range_sound : Sound (range R) (IsRange P)
+  unfolding range
+  range_sound ts y h =
+      let x = bind_some (R ts) _ y h in
+      ⊎_elim
+      (λ m.
+      let z = bind_some (R (next x.0.1)) _ y m.1 in
+      done (IsRange P) ts (range_of x.0.0 z.0.0) z.0.1 y z.2
+      (IsRange.range (subst (λ r. P x.0.0 ts r) m.0 (sound ts x.0 x.1)) (sound (next x.0.1) z.0 z.1)))
+      (λ m. done (IsRange P) ts x.0.0 x.0.1 y m.1 (IsRange.alone (sound ts x.0 x.1)))
+      (eat_cases s.Range _ _ x.0.1 y x.2)
+
+  pub quantified_sound : Sound (array_comparison R) (IsQuantified P)
+  unfolding array_comparison
+  quantified_sound ts y h =
+      let x = bind_some (R ts) _ y h in
+      ⊎_elim
+      (λ m.
+      let q = bind_some (quantifier x.0.1) _ y m.1 in
+      let o = bind_some (comparison q.0.1) _ y q.2 in
+      let z = bind_some (R o.0.1) _ y o.2 in
+      done (IsQuantified P) ts (tree.quantified x.0.0 q.0.0 o.0.0 z.0.0) z.0.1 y z.2
+      (IsQuantified.quantified (sound ts x.0 x.1) (quantifier_sound x.0.1 q.0 q.1)
+      (comparison_sound q.0.1 o.0 o.1) (sound o.0.1 z.0 z.1)))
+      (λ m. done (IsQuantified P) ts x.0.0 x.0.1 y m.1 (IsQuantified.alone (sound ts x.0 x.1)))
+      (if_cases (at_level 7 x.0.1) _ _ x.0.1 y x.2)
+
+module _ (R : Bool → Parser ExprTree) (E : Bool → ExprTree → Tokens → Tokens → Type 0)
+    (sound : (inside : Bool) → Sound (R inside) (E inside)) (inside : Bool) where
+  product_sound : Sound (level_at R inside 1) (IsProduct E inside)
+  unfolding level_at
+  product_sound = chain_sound (unary R inside) (IsUnary E inside) (unary_rule_sound R E sound inside) 1
+
+  sum_sound : Sound (level_at R inside 2) (IsSum E inside)
+  unfolding level_at
+  sum_sound = chain_sound (level_at R inside 1) (IsProduct E inside) product_sound 2
+
+  span_sound : Sound (level_at R inside 3) (IsSpan E inside)
+  unfolding level_at
+  span_sound = range_sound (level_at R inside 2) (IsSum E inside) sum_sound
+
+  relation_sound : Sound (level_at R inside 4) (IsRelation E inside)
+  unfolding level_at
+  relation_sound = chain_sound (level_at R inside 3) (IsSpan E inside) span_sound 4
+
+  membership_sound : Sound (level_at R inside 5) (IsMembership E inside)
+  unfolding level_at
+  membership_sound = chain_sound (level_at R inside 4) (IsRelation E inside) relation_sound 5
+
+  equality_sound : Sound (level_at R inside 6) (IsEquality E inside)
+  unfolding level_at
+  equality_sound = chain_sound (level_at R inside 5) (IsMembership E inside) membership_sound 6
+
+  comparison_level_sound : Sound (level_at R inside 7) (IsArrayComparison E inside)
+  unfolding level_at
+  comparison_level_sound = quantified_sound (level_at R inside 6) (IsEquality E inside) equality_sound
+
+  conjunction_sound : Sound (level_at R inside 8) (IsConjunction E inside)
+  unfolding level_at
+  conjunction_sound = chain_sound (level_at R inside 7) (IsArrayComparison E inside) comparison_level_sound
+      8
+
+  disjunction_sound : Sound (level_at R inside 9) (IsDisjunction E inside)
+  unfolding level_at
+  disjunction_sound = chain_sound (level_at R inside 8) (IsConjunction E inside) conjunction_sound 9
+
+  choice_sound : (test : ExprTree) (a ts : Tokens) (y : ExprTree × Tokens) → IsDisjunction E inside test a
+      (k.Symbol s.Question ∷ ts) → choice_of R inside test ts ≡ Some y → IsConditional E inside y.0 a y.1
+  unfolding choice_of
+  choice_sound test a ts y spelt h =
+      ⊎_elim
+      (λ m.
+      let z = bind_some (R inside (next ts)) _ y m.1 in
+      done (IsConditional E inside) a (e.conditional test None z.0.0) z.0.1 y z.2
+      (IsConditional.short (subst (λ r. IsDisjunction E inside test a (k.Symbol s.Question ∷ r)) m.0 spelt)
+      (sound inside (next ts) z.0 z.1)))
+      (λ m.
+      let x = bind_some (R inside ts) _ y m.1 in
+      let c = bind_some (expect s.Colon x.0.1) _ y x.2 in
+      let z = bind_some (R inside c.0.1) _ y c.2 in
+      done (IsConditional E inside) a (e.conditional test (Some x.0.0) z.0.0) z.0.1 y z.2
+      (IsConditional.full spelt (subst (λ r. E inside x.0.0 ts r) (expect_some s.Colon x.0.1 c.0 c.1)
+      (sound inside ts x.0 x.1)) (sound inside c.0.1 z.0 z.1)))
+      (eat_cases s.Colon _ _ ts y h)
+
+  pub conditional_sound : Sound (conditional R inside) (IsConditional E inside)
+  unfolding conditional
+  conditional_sound ts y h =
+      let test = bind_some (level_at R inside 9 ts) _ y h in
+      let spelt = disjunction_sound ts test.0 test.1 in
+      ⊎_elim
+      (λ m. choice_sound test.0.0 ts (next test.0.1) y (subst (λ r. IsDisjunction E inside test.0.0 ts r)
+      m.0 spelt) m.1)
+      (λ m. done (IsConditional E inside) ts test.0.0 test.0.1 y m.1 (IsConditional.plain spelt))
+      (eat_cases s.Question _ _ test.0.1 y test.2)
+
+-- with as much fuel as there is depth
+pub expr_sound : (depth : ℕ) (inside : Bool) → Sound (expr depth inside) (IsExpr depth inside)
+unfolding expr
+expr_sound zero inside ts y h = absurd (cc)
+expr_sound (suc depth) inside ts y h = conditional_sound (expr depth) (IsExpr depth) (expr_sound depth)
+    inside ts y h
+
+pub top_sound : (fuel : ℕ) → Sound (top fuel) (IsTop (IsExpr fuel))
+unfolding top
+top_sound fuel ts y h =
+    ⊎_elim
+    (λ m.
+    let ns = bind_some (separated name (next ts)) _ y m.1 in
+    subst (λ q. IsTop (IsExpr fuel) y.0 q y.1) (sym m.0)
+    (IsTop.with_list (separated_sound name IsName name_sound (next ts) ns.0 ns.1)
+    (query_sound (expr fuel) (IsExpr fuel) (expr_sound fuel) false ns.0.0 ns.0.1 y ns.2)))
+    (λ m. IsTop.plain (query_sound (expr fuel) (IsExpr fuel) (expr_sound fuel) false [] ts y m.1))
+    (keyword_cases w.With _ _ ts y h)

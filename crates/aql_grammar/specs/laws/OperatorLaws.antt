@@ -1,0 +1,298 @@
+-- Operators: what is read is spelt so, what is spelt is read, and what may stand behind an operand.
+use Rattle.std.proofs.Common.{◌≡◌, ℕ, zero, suc, ◌+◌, ◌<◌, ◌≤◌, Bool, true, false, cond, List, [], ◌∷◌}
+use Rattle.std.proofs.Common.{length, Option, Some, None, ◌⊎◌, inl, inr, ⊎_elim, refl, sym, ap, ◌∙◌, subst}
+use Rattle.std.proofs.Common.{rules, arith}
+use Rattle.std.specs.Prelude.{◌==◌}
+use Rattle.std.proofs.lemmas.Bool.Decides.{eqb_tells}
+use Rattle.aql_lex.specs.declared.kinds.TokenKind.{TokenKind}
+use Rattle.aql_lex.specs.declared.kinds.TokenKind.TheVariants as k
+use Rattle.aql_lex.specs.declared.vocabulary.Symbol.{Symbol}
+use Rattle.aql_lex.specs.declared.vocabulary.Symbol.TheVariants as s
+use Rattle.aql_lex.specs.declared.vocabulary.Keyword.{Keyword}
+use Rattle.aql_lex.specs.declared.vocabulary.Keyword.TheVariants as w
+use Rattle.aql_func.specs.declared.operators.BinOp.{BinOp}
+use Rattle.aql_func.specs.declared.operators.UnaryOp.{UnaryOp}
+use Rattle.aql_tree.specs.declared.syntax.QuantKind.{QuantKind}
+use Rattle.aql_tree.specs.declared.syntax.Direction.{Direction}
+use Rattle.aql_grammar.specs.Kinds.{Tokens}
+use Rattle.aql_grammar.specs.Operators.{IsOperator, IsComparison, IsQuantifier, IsUnaryOperator}
+use Rattle.aql_grammar.specs.Clauses.{IsDirection}
+use Rattle.aql_grammar.specs.Input.{head, next, sees, at_front}
+use Rattle.aql_grammar.specs.Reader.{operator, operator_ahead, behind, comparison, begins_comparison}
+use Rattle.aql_grammar.specs.Reader.{quantifier, unary_at, way, rank, at_level, begins_step}
+use Rattle.aql_grammar.specs.laws.Steps.{Sound, Shrinks, done, if_cases, decide, not_seen}
+
+-- ---- back
+
+operator_spelt : (ts : Tokens) (y : BinOp × Tokens) → operator ts ≡ Some y → IsOperator (rank ts) y.0 ts y.1
+unfolding operator operator_ahead behind rank
+operator_spelt [] y h = absurd (cc)
+operator_spelt (k.Number n ∷ ts) y h = absurd (cc)
+operator_spelt (k.Word v ∷ ts) y h = absurd (cc)
+operator_spelt (k.Quoted v ∷ ts) y h = absurd (cc)
+operator_spelt (k.Text v ∷ ts) y h = absurd (cc)
+operator_spelt (k.Symbol s.Star ∷ ts) y h = done (IsOperator 1) _ _ ts y h IsOperator.times
+operator_spelt (k.Symbol s.Slash ∷ ts) y h = done (IsOperator 1) _ _ ts y h IsOperator.divided
+operator_spelt (k.Symbol s.Percent ∷ ts) y h = done (IsOperator 1) _ _ ts y h IsOperator.remainder
+operator_spelt (k.Symbol s.Plus ∷ ts) y h = done (IsOperator 2) _ _ ts y h IsOperator.plus
+operator_spelt (k.Symbol s.Minus ∷ ts) y h = done (IsOperator 2) _ _ ts y h IsOperator.minus
+operator_spelt (k.Symbol s.Less ∷ ts) y h = done (IsOperator 4) _ _ ts y h IsOperator.less
+operator_spelt (k.Symbol s.LessOrEqual ∷ ts) y h = done (IsOperator 4) _ _ ts y h IsOperator.less_equal
+operator_spelt (k.Symbol s.Greater ∷ ts) y h = done (IsOperator 4) _ _ ts y h IsOperator.greater
+operator_spelt (k.Symbol s.GreaterOrEqual ∷ ts) y h = done (IsOperator 4) _ _ ts y h
+    IsOperator.greater_equal
+operator_spelt (k.Symbol s.Equal ∷ ts) y h = done (IsOperator 6) _ _ ts y h IsOperator.equal
+operator_spelt (k.Symbol s.NotEqual ∷ ts) y h = done (IsOperator 6) _ _ ts y h IsOperator.not_equal
+operator_spelt (k.Symbol s.And ∷ ts) y h = done (IsOperator 8) _ _ ts y h IsOperator.and_sign
+operator_spelt (k.Symbol s.Or ∷ ts) y h = done (IsOperator 9) _ _ ts y h IsOperator.or_sign
+operator_spelt (k.Symbol _ ∷ ts) y h = absurd (cc)
+operator_spelt (k.Keyword w.In ∷ ts) y h = done (IsOperator 5) _ _ ts y h IsOperator.is_in
+operator_spelt (k.Keyword w.Like ∷ ts) y h = done (IsOperator 6) _ _ ts y h IsOperator.like
+operator_spelt (k.Keyword w.And ∷ ts) y h = done (IsOperator 8) _ _ ts y h IsOperator.and_word
+operator_spelt (k.Keyword w.Or ∷ ts) y h = done (IsOperator 9) _ _ ts y h IsOperator.or_word
+operator_spelt (k.Keyword w.Not ∷ []) y h = absurd (cc)
+operator_spelt (k.Keyword w.Not ∷ k.Keyword w.In ∷ ts) y h = done (IsOperator 5) _ _ ts y h
+    IsOperator.not_in
+operator_spelt (k.Keyword w.Not ∷ k.Keyword w.Like ∷ ts) y h = done (IsOperator 6) _ _ ts y h
+    IsOperator.not_like
+operator_spelt (k.Keyword w.Not ∷ k.Keyword _ ∷ ts) y h = absurd (cc)
+operator_spelt (k.Keyword w.Not ∷ k.Number n ∷ ts) y h = absurd (cc)
+operator_spelt (k.Keyword w.Not ∷ k.Word v ∷ ts) y h = absurd (cc)
+operator_spelt (k.Keyword w.Not ∷ k.Quoted v ∷ ts) y h = absurd (cc)
+operator_spelt (k.Keyword w.Not ∷ k.Text v ∷ ts) y h = absurd (cc)
+operator_spelt (k.Keyword w.Not ∷ k.Symbol v ∷ ts) y h = absurd (cc)
+operator_spelt (k.Keyword _ ∷ ts) y h = absurd (cc)
+
+pub operator_sound : (level : ℕ) (ts : Tokens) (y : BinOp × Tokens) → rank ts ≡ level → operator ts ≡ Some y
+    → IsOperator level y.0 ts y.1
+operator_sound level ts y e h = subst (λ l. IsOperator l y.0 ts y.1) e (operator_spelt ts y h)
+
+compared : (ts : Tokens) (y : BinOp × Tokens) → begins_comparison ts ≡ true → operator ts ≡ Some y
+    → IsComparison y.0 ts y.1
+unfolding operator operator_ahead behind begins_comparison
+compared [] y b h = absurd (cc)
+compared (k.Number n ∷ ts) y b h = absurd (cc)
+compared (k.Word v ∷ ts) y b h = absurd (cc)
+compared (k.Quoted v ∷ ts) y b h = absurd (cc)
+compared (k.Text v ∷ ts) y b h = absurd (cc)
+compared (k.Symbol s.Less ∷ ts) y b h = done IsComparison _ _ ts y h IsComparison.less
+compared (k.Symbol s.LessOrEqual ∷ ts) y b h = done IsComparison _ _ ts y h IsComparison.less_equal
+compared (k.Symbol s.Greater ∷ ts) y b h = done IsComparison _ _ ts y h IsComparison.greater
+compared (k.Symbol s.GreaterOrEqual ∷ ts) y b h = done IsComparison _ _ ts y h IsComparison.greater_equal
+compared (k.Symbol s.Equal ∷ ts) y b h = done IsComparison _ _ ts y h IsComparison.equal
+compared (k.Symbol s.NotEqual ∷ ts) y b h = done IsComparison _ _ ts y h IsComparison.not_equal
+compared (k.Symbol _ ∷ ts) y b h = absurd (cc)
+compared (k.Keyword w.In ∷ ts) y b h = done IsComparison _ _ ts y h IsComparison.is_in
+compared (k.Keyword w.Not ∷ []) y b h = absurd (cc)
+compared (k.Keyword w.Not ∷ k.Keyword w.In ∷ ts) y b h = done IsComparison _ _ ts y h IsComparison.not_in
+compared (k.Keyword w.Not ∷ k.Keyword _ ∷ ts) y b h = absurd (cc)
+compared (k.Keyword w.Not ∷ k.Number n ∷ ts) y b h = absurd (cc)
+compared (k.Keyword w.Not ∷ k.Word v ∷ ts) y b h = absurd (cc)
+compared (k.Keyword w.Not ∷ k.Quoted v ∷ ts) y b h = absurd (cc)
+compared (k.Keyword w.Not ∷ k.Text v ∷ ts) y b h = absurd (cc)
+compared (k.Keyword w.Not ∷ k.Symbol v ∷ ts) y b h = absurd (cc)
+compared (k.Keyword _ ∷ ts) y b h = absurd (cc)
+
+pub comparison_sound : Sound comparison IsComparison
+unfolding comparison
+comparison_sound ts y h = ⊎_elim (λ m. compared ts y m.0 m.1) (λ m. absurd (let e = m.1 in cc))
+    (if_cases (begins_comparison ts) _ _ ts y h)
+
+pub quantifier_sound : Sound quantifier IsQuantifier
+unfolding quantifier
+quantifier_sound [] y h = absurd (cc)
+quantifier_sound (k.Keyword w.All ∷ ts) y h = done IsQuantifier _ _ ts y h IsQuantifier.all
+quantifier_sound (k.Keyword w.Any ∷ ts) y h = done IsQuantifier _ _ ts y h IsQuantifier.any
+quantifier_sound (k.Keyword w.None ∷ ts) y h = done IsQuantifier _ _ ts y h IsQuantifier.none
+quantifier_sound (k.Keyword _ ∷ ts) y h = absurd (cc)
+quantifier_sound (k.Number n ∷ ts) y h = absurd (cc)
+quantifier_sound (k.Word v ∷ ts) y h = absurd (cc)
+quantifier_sound (k.Quoted v ∷ ts) y h = absurd (cc)
+quantifier_sound (k.Text v ∷ ts) y h = absurd (cc)
+quantifier_sound (k.Symbol v ∷ ts) y h = absurd (cc)
+
+pub way_sound : Sound way IsDirection
+unfolding way
+way_sound [] y h = absurd (cc)
+way_sound (k.Keyword w.Outbound ∷ ts) y h = done IsDirection _ _ ts y h IsDirection.outbound
+way_sound (k.Keyword w.Inbound ∷ ts) y h = done IsDirection _ _ ts y h IsDirection.inbound
+way_sound (k.Keyword w.Any ∷ ts) y h = done IsDirection _ _ ts y h IsDirection.any
+way_sound (k.Keyword _ ∷ ts) y h = absurd (cc)
+way_sound (k.Number n ∷ ts) y h = absurd (cc)
+way_sound (k.Word v ∷ ts) y h = absurd (cc)
+way_sound (k.Quoted v ∷ ts) y h = absurd (cc)
+way_sound (k.Text v ∷ ts) y h = absurd (cc)
+way_sound (k.Symbol v ∷ ts) y h = absurd (cc)
+
+pub unary_sound : (ts : Tokens) (o : UnaryOp) → unary_at (head ts) ≡ Some o → IsUnaryOperator o ts (next ts)
+unary_sound [] o h = absurd (cc)
+unary_sound (k.Symbol s.Plus ∷ ts) o h = subst (λ q. IsUnaryOperator q (k.Symbol s.Plus ∷ ts) ts)
+    (let e : _ ≡ o = cc in e) IsUnaryOperator.plus
+unary_sound (k.Symbol s.Minus ∷ ts) o h = subst (λ q. IsUnaryOperator q (k.Symbol s.Minus ∷ ts) ts)
+    (let e : _ ≡ o = cc in e) IsUnaryOperator.minus
+unary_sound (k.Symbol s.Not ∷ ts) o h = subst (λ q. IsUnaryOperator q (k.Symbol s.Not ∷ ts) ts)
+    (let e : _ ≡ o = cc in e) IsUnaryOperator.not_sign
+unary_sound (k.Keyword w.Not ∷ ts) o h = subst (λ q. IsUnaryOperator q (k.Keyword w.Not ∷ ts) ts)
+    (let e : _ ≡ o = cc in e) IsUnaryOperator.not_word
+unary_sound (k.Symbol _ ∷ ts) o h = absurd (cc)
+unary_sound (k.Keyword _ ∷ ts) o h = absurd (cc)
+unary_sound (k.Number n ∷ ts) o h = absurd (cc)
+unary_sound (k.Word v ∷ ts) o h = absurd (cc)
+unary_sound (k.Quoted v ∷ ts) o h = absurd (cc)
+unary_sound (k.Text v ∷ ts) o h = absurd (cc)
+
+-- ---- forth
+
+pub operator_read : (level : ℕ) (o : BinOp) (a b : Tokens) → IsOperator level o a b → (rank a ≡ level)
+    × (operator a ≡ Some (o, b))
+unfolding operator operator_ahead behind rank
+operator_read level o a b IsOperator.times = (refl, refl)
+operator_read level o a b IsOperator.divided = (refl, refl)
+operator_read level o a b IsOperator.remainder = (refl, refl)
+operator_read level o a b IsOperator.plus = (refl, refl)
+operator_read level o a b IsOperator.minus = (refl, refl)
+operator_read level o a b IsOperator.less = (refl, refl)
+operator_read level o a b IsOperator.less_equal = (refl, refl)
+operator_read level o a b IsOperator.greater = (refl, refl)
+operator_read level o a b IsOperator.greater_equal = (refl, refl)
+operator_read level o a b IsOperator.is_in = (refl, refl)
+operator_read level o a b IsOperator.not_in = (refl, refl)
+operator_read level o a b IsOperator.equal = (refl, refl)
+operator_read level o a b IsOperator.not_equal = (refl, refl)
+operator_read level o a b IsOperator.like = (refl, refl)
+operator_read level o a b IsOperator.not_like = (refl, refl)
+operator_read level o a b IsOperator.and_sign = (refl, refl)
+operator_read level o a b IsOperator.and_word = (refl, refl)
+operator_read level o a b IsOperator.or_sign = (refl, refl)
+operator_read level o a b IsOperator.or_word = (refl, refl)
+
+pub operator_shrinks : (level : ℕ) → Shrinks (IsOperator level)
+operator_shrinks level o a b IsOperator.times = omega arith
+operator_shrinks level o a b IsOperator.divided = omega arith
+operator_shrinks level o a b IsOperator.remainder = omega arith
+operator_shrinks level o a b IsOperator.plus = omega arith
+operator_shrinks level o a b IsOperator.minus = omega arith
+operator_shrinks level o a b IsOperator.less = omega arith
+operator_shrinks level o a b IsOperator.less_equal = omega arith
+operator_shrinks level o a b IsOperator.greater = omega arith
+operator_shrinks level o a b IsOperator.greater_equal = omega arith
+operator_shrinks level o a b IsOperator.is_in = omega arith
+operator_shrinks level o a b IsOperator.not_in = omega arith
+operator_shrinks level o a b IsOperator.equal = omega arith
+operator_shrinks level o a b IsOperator.not_equal = omega arith
+operator_shrinks level o a b IsOperator.like = omega arith
+operator_shrinks level o a b IsOperator.not_like = omega arith
+operator_shrinks level o a b IsOperator.and_sign = omega arith
+operator_shrinks level o a b IsOperator.and_word = omega arith
+operator_shrinks level o a b IsOperator.or_sign = omega arith
+operator_shrinks level o a b IsOperator.or_word = omega arith
+
+pub comparison_read : (o : BinOp) (a b : Tokens) → IsComparison o a b → (begins_comparison a ≡ true)
+    × (comparison a ≡ Some (o, b))
+unfolding comparison begins_comparison operator operator_ahead behind
+comparison_read o a b IsComparison.equal = (refl, refl)
+comparison_read o a b IsComparison.not_equal = (refl, refl)
+comparison_read o a b IsComparison.less = (refl, refl)
+comparison_read o a b IsComparison.less_equal = (refl, refl)
+comparison_read o a b IsComparison.greater = (refl, refl)
+comparison_read o a b IsComparison.greater_equal = (refl, refl)
+comparison_read o a b IsComparison.is_in = (refl, refl)
+comparison_read o a b IsComparison.not_in = (refl, refl)
+
+pub comparison_shrinks : Shrinks IsComparison
+comparison_shrinks o a b IsComparison.equal = omega arith
+comparison_shrinks o a b IsComparison.not_equal = omega arith
+comparison_shrinks o a b IsComparison.less = omega arith
+comparison_shrinks o a b IsComparison.less_equal = omega arith
+comparison_shrinks o a b IsComparison.greater = omega arith
+comparison_shrinks o a b IsComparison.greater_equal = omega arith
+comparison_shrinks o a b IsComparison.is_in = omega arith
+comparison_shrinks o a b IsComparison.not_in = omega arith
+
+pub quantifier_read : (q : QuantKind) (a b : Tokens) → IsQuantifier q a b → (rank a ≡ 7)
+    × (quantifier a ≡ Some (q, b))
+unfolding quantifier rank operator_ahead
+quantifier_read q a b IsQuantifier.all = (refl, refl)
+quantifier_read q a b IsQuantifier.any = (refl, refl)
+quantifier_read q a b IsQuantifier.none = (refl, refl)
+
+pub quantifier_shrinks : Shrinks IsQuantifier
+quantifier_shrinks q a b IsQuantifier.all = omega arith
+quantifier_shrinks q a b IsQuantifier.any = omega arith
+quantifier_shrinks q a b IsQuantifier.none = omega arith
+
+pub way_read : (d : Direction) (a b : Tokens) → IsDirection d a b → way a ≡ Some (d, b)
+unfolding way
+way_read d a b IsDirection.outbound = refl
+way_read d a b IsDirection.inbound = refl
+way_read d a b IsDirection.any = refl
+
+pub way_shrinks : Shrinks IsDirection
+way_shrinks d a b IsDirection.outbound = omega arith
+way_shrinks d a b IsDirection.inbound = omega arith
+way_shrinks d a b IsDirection.any = omega arith
+
+pub unary_read : (o : UnaryOp) (a b : Tokens) → IsUnaryOperator o a b → (unary_at (head a) ≡ Some o)
+    × (next a ≡ b)
+unary_read o a b IsUnaryOperator.plus = (refl, refl)
+unary_read o a b IsUnaryOperator.minus = (refl, refl)
+unary_read o a b IsUnaryOperator.not_sign = (refl, refl)
+unary_read o a b IsUnaryOperator.not_word = (refl, refl)
+
+pub unary_shrinks : Shrinks IsUnaryOperator
+unary_shrinks o a b IsUnaryOperator.plus = omega arith
+unary_shrinks o a b IsUnaryOperator.minus = omega arith
+unary_shrinks o a b IsUnaryOperator.not_sign = omega arith
+unary_shrinks o a b IsUnaryOperator.not_word = omega arith
+
+-- ---- what may stand behind an operand of a level
+
+abbrev pub Follow : ℕ → Tokens → Type 0
+Follow level ts = level < rank ts
+
+-- behind a whole expression
+abbrev pub Ends : Tokens → Type 0
+Ends ts = 10 < rank ts
+
+not_at : (level : ℕ) (ts : Tokens) → level < rank ts → at_level level ts ≡ false
+not_at level ts h = ⊎_elim (λ m. absurd (let e = m.1 in omega arith)) (λ m. m.0) (eqb_tells (rank ts) level)
+
+-- no operator of a level stands where only looser ones may
+pub no_operator : (level : ℕ) (ts : Tokens) → Follow level ts → at_level level ts ≡ false
+no_operator level ts h = not_at level ts h
+
+pub is_at : (level : ℕ) (ts : Tokens) → rank ts ≡ level → at_level level ts ≡ true
+is_at level ts e = ⊎_elim (λ m. m.0) (λ m. absurd (m.1 e)) (eqb_tells (rank ts) level)
+
+pub at_rank : (level : ℕ) (ts : Tokens) → at_level level ts ≡ true → rank ts ≡ level
+at_rank level ts h = ⊎_elim (λ m. m.1) (λ m. absurd (let e = m.0 in cc)) (eqb_tells (rank ts) level)
+
+-- a symbol of a lower rank doesn't stand there
+pub unseen : (symbol : Symbol) (n : ℕ) (ts : Tokens) → rank (k.Symbol symbol ∷ next ts) ≡ n → n < rank ts
+    → sees symbol ts ≡ false
+unseen symbol n ts e h = not_seen symbol ts (λ here. let same : rank ts ≡ rank (k.Symbol symbol ∷ next ts) =
+    ap rank here in omega arith)
+
+pub no_call : (ts : Tokens) → 0 < rank ts → sees s.OpenParen ts ≡ false
+unfolding rank operator_ahead
+no_call ts h = unseen s.OpenParen 0 ts refl h
+
+pub no_range : (ts : Tokens) → 3 < rank ts → sees s.Range ts ≡ false
+unfolding rank operator_ahead
+no_range ts h = unseen s.Range 3 ts refl h
+
+pub no_question : (ts : Tokens) → 10 < rank ts → sees s.Question ts ≡ false
+unfolding rank operator_ahead
+no_question ts h = unseen s.Question 10 ts refl h
+
+pub no_step : (ts : Tokens) → 0 < rank ts → begins_step (head ts) ≡ false
+unfolding rank operator_ahead
+no_step [] h = refl
+no_step (k.Symbol s.Dot ∷ ts) h = absurd (omega arith)
+no_step (k.Symbol s.OpenBracket ∷ ts) h = absurd (omega arith)
+no_step (k.Symbol _ ∷ ts) h = refl
+no_step (k.Keyword v ∷ ts) h = refl
+no_step (k.Number n ∷ ts) h = refl
+no_step (k.Word v ∷ ts) h = refl
+no_step (k.Quoted v ∷ ts) h = refl
+no_step (k.Text v ∷ ts) h = refl

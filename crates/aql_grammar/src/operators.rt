@@ -1,0 +1,283 @@
+//! Which operators tokens are.
+
+ghost use Rattle.std.specs.Prelude.{◌≡◌, option_copied};
+ghost use Rattle.aql_grammar.specs.Input as input;
+ghost use Rattle.aql_grammar.specs.Input.{Reads};
+ghost use Rattle.aql_grammar.specs.Reader as reader;
+
+use crate::ParseFault;
+use crate::cursor::Cursor;
+use aql_func::{BinOp, UnaryOp};
+use aql_lex::{Keyword, Symbol, TokenKind};
+use aql_tree::{Direction, QuantKind};
+
+fn by_symbol(symbol: Symbol) -> Option<(u8, BinOp)>
+    ensures { result ≡ reader.by_symbol symbol }
+{
+    match symbol {
+        Symbol::Star => Some((1, BinOp::Mul)),
+        Symbol::Slash => Some((1, BinOp::Div)),
+        Symbol::Percent => Some((1, BinOp::Rem)),
+        Symbol::Plus => Some((2, BinOp::Add)),
+        Symbol::Minus => Some((2, BinOp::Sub)),
+        Symbol::Less => Some((4, BinOp::Lt)),
+        Symbol::LessOrEqual => Some((4, BinOp::Le)),
+        Symbol::Greater => Some((4, BinOp::Gt)),
+        Symbol::GreaterOrEqual => Some((4, BinOp::Ge)),
+        Symbol::Equal => Some((6, BinOp::Eq)),
+        Symbol::NotEqual => Some((6, BinOp::Ne)),
+        Symbol::And => Some((8, BinOp::And)),
+        Symbol::Or => Some((9, BinOp::Or)),
+        _ => None,
+    }
+}
+
+fn by_keyword(keyword: Keyword) -> Option<(u8, BinOp)>
+    ensures { result ≡ reader.by_keyword keyword }
+{
+    match keyword {
+        Keyword::In => Some((5, BinOp::IsIn)),
+        Keyword::Like => Some((6, BinOp::Like)),
+        Keyword::And => Some((8, BinOp::And)),
+        Keyword::Or => Some((9, BinOp::Or)),
+        _ => None,
+    }
+}
+
+fn negated(next: Option<&TokenKind>) -> Option<(u8, BinOp)>
+    ensures { result ≡ reader.negated (option_copied next.entry) }
+{
+    match next {
+        Some(TokenKind::Keyword(Keyword::In)) => Some((5, BinOp::NotIn)),
+        Some(TokenKind::Keyword(Keyword::Like)) => Some((6, BinOp::NotLike)),
+        _ => None,
+    }
+}
+
+fn other_rank(next: Option<&TokenKind>) -> u8
+    ensures { result ≡ reader.other_rank (option_copied next.entry) }
+{
+    match next {
+        Some(TokenKind::Symbol(Symbol::Dot | Symbol::OpenBracket | Symbol::OpenParen)) => 0,
+        Some(TokenKind::Symbol(Symbol::Range)) => 3,
+        Some(TokenKind::Keyword(Keyword::All | Keyword::Any | Keyword::None)) => 7,
+        Some(TokenKind::Symbol(Symbol::Question)) => 10,
+        _ => 11,
+    }
+}
+
+fn compares(op: BinOp) -> bool
+    ensures { result ≡ reader.compares op }
+{
+    matches!(
+        op,
+        BinOp::Eq
+            | BinOp::Ne
+            | BinOp::Lt
+            | BinOp::Le
+            | BinOp::Gt
+            | BinOp::Ge
+            | BinOp::IsIn
+            | BinOp::NotIn
+    )
+}
+
+fn has_two_words(op: BinOp) -> bool
+    ensures { result ≡ reader.has_two_words op }
+{
+    matches!(op, BinOp::NotIn | BinOp::NotLike)
+}
+
+pub fn unary_at(next: Option<&TokenKind>) -> Option<UnaryOp>
+    ensures { result ≡ reader.unary_at (option_copied next.entry) }
+{
+    match next {
+        Some(TokenKind::Symbol(Symbol::Plus)) => Some(UnaryOp::Plus),
+        Some(TokenKind::Symbol(Symbol::Minus)) => Some(UnaryOp::Minus),
+        Some(TokenKind::Symbol(Symbol::Not)) => Some(UnaryOp::Not),
+        Some(TokenKind::Keyword(Keyword::Not)) => Some(UnaryOp::Not),
+        _ => None,
+    }
+}
+
+pub fn begins_step(next: Option<&TokenKind>) -> bool
+    ensures { result ≡ reader.begins_step (option_copied next.entry) }
+{
+    matches!(
+        next,
+        Some(TokenKind::Symbol(Symbol::Dot | Symbol::OpenBracket))
+    )
+}
+
+pub fn begins_clause(next: Option<&TokenKind>) -> bool
+    ensures { result ≡ reader.begins_clause (option_copied next.entry) }
+{
+    matches!(
+        next,
+        Some(TokenKind::Keyword(
+            Keyword::For
+                | Keyword::Filter
+                | Keyword::Let
+                | Keyword::Sort
+                | Keyword::Limit
+                | Keyword::Collect
+        ))
+    )
+}
+
+pub fn begins_query(next: Option<&TokenKind>) -> bool
+    ensures { result ≡ reader.begins_query (option_copied next.entry) }
+{
+    match next {
+        Some(TokenKind::Keyword(Keyword::Return)) => true,
+        other => begins_clause(other),
+    }
+}
+
+pub fn is_name(next: Option<&TokenKind>) -> bool
+    ensures { result ≡ input.is_name (option_copied next.entry) }
+{
+    matches!(next, Some(TokenKind::Word(_) | TokenKind::Quoted(_)))
+}
+
+pub fn is_number(next: Option<&TokenKind>) -> bool
+    ensures { result ≡ input.is_number (option_copied next.entry) }
+{
+    matches!(next, Some(TokenKind::Number(_)))
+}
+
+impl<'a> Cursor<'a> {
+    /// The operator that comes next, with its level of precedence.
+    #[tactic(auto, unfolding(crate::specs::Reader::operator_ahead))]
+    fn operator_ahead(&self) -> Option<(u8, BinOp)>
+        ensures { result ≡ reader.operator_ahead self.now }
+    {
+        match self.peek() {
+            Some(TokenKind::Symbol(symbol)) => by_symbol(*symbol),
+            Some(TokenKind::Keyword(Keyword::Not)) => negated(self.peek_second()),
+            Some(TokenKind::Keyword(keyword)) => by_keyword(*keyword),
+            _ => None,
+        }
+    }
+
+    /// The level of what the next token would go on with behind an operand: 0 for a step or a call,
+    /// 1 to 9 for an operator, 10 for the ternary, 11 for nothing.
+    #[tactic(auto, unfolding(crate::specs::Reader::rank))]
+    pub fn rank(&self) -> u8
+        ensures { result ≡ reader.rank self.now }
+    {
+        match self.operator_ahead() {
+            Some((level, _)) => level,
+            None => other_rank(self.peek()),
+        }
+    }
+
+    /// Takes an operator.
+    #[tactic(auto, unfolding(crate::specs::Reader::operator, crate::specs::Reader::behind))]
+    pub fn operator(&mut self) -> Result<BinOp, ParseFault>
+        ensures { Reads (reader.operator self.old) result self.new }
+    {
+        let Some((_, op)) = self.operator_ahead() else {
+            return Err(ParseFault::NotInGrammar);
+        };
+        self.take();
+        if has_two_words(op) {
+            self.take();
+        }
+        Ok(op)
+    }
+
+    #[tactic(auto, unfolding(crate::specs::Reader::begins_comparison))]
+    fn begins_comparison(&self) -> bool
+        ensures { result ≡ reader.begins_comparison self.now }
+    {
+        match self.operator_ahead() {
+            Some((_, op)) => compares(op),
+            None => false,
+        }
+    }
+
+    /// Takes a comparison, IN or NOT IN.
+    #[tactic(auto, unfolding(crate::specs::Reader::comparison))]
+    pub fn comparison(&mut self) -> Result<BinOp, ParseFault>
+        ensures { Reads (reader.comparison self.old) result self.new }
+    {
+        if self.begins_comparison() {
+            self.operator()
+        } else {
+            Err(ParseFault::NotInGrammar)
+        }
+    }
+
+    /// Takes ALL, ANY or NONE.
+    #[tactic(auto, unfolding(crate::specs::Reader::quantifier))]
+    pub fn quantifier(&mut self) -> Result<QuantKind, ParseFault>
+        ensures { Reads (reader.quantifier self.old) result self.new }
+    {
+        let kind = match self.peek() {
+            Some(TokenKind::Keyword(Keyword::All)) => QuantKind::All,
+            Some(TokenKind::Keyword(Keyword::Any)) => QuantKind::Any,
+            Some(TokenKind::Keyword(Keyword::None)) => QuantKind::None,
+            _ => return Err(ParseFault::NotInGrammar),
+        };
+        self.take();
+        Ok(kind)
+    }
+
+    /// Takes OUTBOUND, INBOUND or ANY.
+    #[tactic(auto, unfolding(crate::specs::Reader::way))]
+    pub fn way(&mut self) -> Result<Direction, ParseFault>
+        ensures { Reads (reader.way self.old) result self.new }
+    {
+        let way = match self.peek() {
+            Some(TokenKind::Keyword(Keyword::Outbound)) => Direction::Outbound,
+            Some(TokenKind::Keyword(Keyword::Inbound)) => Direction::Inbound,
+            Some(TokenKind::Keyword(Keyword::Any)) => Direction::Any,
+            _ => return Err(ParseFault::NotInGrammar),
+        };
+        self.take();
+        Ok(way)
+    }
+
+    // ANY with a comparison behind it is part of an expression.
+    #[tactic(auto, unfolding(crate::specs::Reader::begins_direction))]
+    fn begins_direction(&self) -> bool
+        ensures { result ≡ reader.begins_direction self.now }
+    {
+        match self.peek() {
+            Some(TokenKind::Keyword(Keyword::Outbound | Keyword::Inbound)) => true,
+            Some(TokenKind::Keyword(Keyword::Any)) => {
+                let mut ahead = self.ahead();
+                ahead.take();
+                !ahead.begins_comparison()
+            }
+            _ => false,
+        }
+    }
+
+    #[tactic(auto, unfolding(crate::specs::Reader::begins_behind))]
+    fn begins_behind(&self) -> bool
+        ensures { result ≡ reader.begins_behind self.now }
+    {
+        let mut ahead = self.ahead();
+        if self.sees(Symbol::Range) && is_number(self.peek_second()) {
+            ahead.take();
+            ahead.take();
+        }
+        ahead.begins_direction()
+    }
+
+    /// Whether a traversal stands behind IN: a direction, also behind a depth.
+    #[tactic(auto, unfolding(crate::specs::Reader::begins_walk))]
+    pub fn begins_walk(&self) -> bool
+        ensures { result ≡ reader.begins_walk self.now }
+    {
+        if is_number(self.peek()) {
+            let mut ahead = self.ahead();
+            ahead.take();
+            ahead.begins_behind()
+        } else {
+            self.begins_direction()
+        }
+    }
+}

@@ -1,0 +1,50 @@
+-- What a list of tokens is answered with: its tree, or the first cause of a refusal. Nesting and
+-- clause marks are judged over the tokens, then the grammar, then the depth of the traversals.
+use Rattle.std.specs.Prelude.{◌≡◌, ℕ, ◌≤◌, ◌<◌, Bool, true, false, Option, Some, None, Result, Ok, Err}
+use Rattle.aql_tree.specs.Tree.{QueryTree}
+use Rattle.aql_tree.specs.View.{query_tree}
+use Rattle.aql_tree.specs.declared.syntax.Query.{Query}
+use Rattle.aql_walks.specs.Within.{walks_within}
+use Rattle.aql_grammar.specs.Kinds.{Tokens}
+use Rattle.aql_grammar.specs.Tree.{Tree}
+use Rattle.aql_grammar.specs.Limits.{nesting, marks}
+use Rattle.aql_grammar.specs.declared.faults.ParseFault.{ParseFault}
+use Rattle.aql_grammar.specs.declared.faults.ParseFault.TheVariants as fault
+
+-- at most 64 brackets, ternaries and signs are open at once, and there are at most 256 clause marks
+abbrev pub WithinLimits : Tokens → Type 0
+WithinLimits tokens = (nesting tokens ≤ 64) × (marks tokens ≤ 256)
+
+-- a tree whose traversals go at most 32 edges deep
+abbrev pub IsShallow : QueryTree → Type 0
+IsShallow q = walks_within 32 q ≡ true
+
+-- no tree spells the tokens
+abbrev pub HasNoTree : Tokens → Type 0
+HasNoTree tokens = (q : QueryTree) → Tree tokens q → ⊥
+
+-- the tokens have a tree with a deeper traversal
+abbrev pub WalksTooDeep : Tokens → Type 0
+WalksTooDeep tokens = (q : QueryTree) × (Tree tokens q × (walks_within 32 q ≡ false))
+
+-- this tree, unless memory ran out
+abbrev pub Gives : QueryTree → Result Query ParseFault → Type 0
+Gives q (Ok found) = query_tree found ≡ q
+Gives q (Err fault.Memory) = Unit {0}
+Gives q (Err other) = ⊥
+
+-- each answer with its cause
+abbrev pub Parsed : Tokens → Result Query ParseFault → Type 0
+Parsed tokens (Ok q) = WithinLimits tokens × (Tree tokens (query_tree q) × IsShallow (query_tree q))
+Parsed tokens (Err fault.TooDeep) = 64 < nesting tokens
+Parsed tokens (Err fault.TooManyClauses) = (nesting tokens ≤ 64) × (256 < marks tokens)
+Parsed tokens (Err fault.NotInGrammar) = WithinLimits tokens × HasNoTree tokens
+Parsed tokens (Err fault.WalkTooDeep) = WithinLimits tokens × WalksTooDeep tokens
+Parsed tokens (Err fault.Memory) = Unit {0}
+
+-- the reader's answer over all the tokens
+abbrev pub ReadsWhole : Option QueryTree → Result Query ParseFault → Type 0
+ReadsWhole found (Ok q) = found ≡ Some (query_tree q)
+ReadsWhole found (Err fault.NotInGrammar) = found ≡ None
+ReadsWhole found (Err fault.Memory) = Unit {0}
+ReadsWhole found (Err other) = ⊥
