@@ -6,19 +6,18 @@ use Rattle.std.proofs.lemmas.List.Sorted.{IsPermutation-refl}
 use Rattle.std.proofs.lemmas.Slice.Eq.{bytes_eq-Decides}
 use Rattle.aql_value.specs.Tree.{Tree, null, boolean, number}
 use Rattle.aql_value.specs.Parts.{at_name, same}
-use Rattle.aql_value.specs.Database.{documents_named}
+use Rattle.aql_value.specs.Database.{Database, documents_named}
 use Rattle.aql_tree.specs.declared.syntax.Ident.TheVariants.{Name}
 use Rattle.aql_tree.specs.Tree.{variable}
 use Rattle.aql_meaning.specs.Row.{Row, bind, empty_row, value_at}
 use Rattle.aql_meaning.specs.Clauses.{with_documents, kept}
 use Rattle.aql_meaning.specs.Meaning.{Ev, Answer}
 use Rattle.aql_top.specs.Filters.{condition, filter_query, filter_kept}
-use Rattle.aql_top.specs.Forms.{one_collection}
 
 equal_itself : (s : List ℕ) → bytes_eq s s ≡ true
 equal_itself s = (bytes_eq-Decides s s).1 refl
 
-module _ (x c a : List ℕ) (n : ℤ) (documents : List Tree) where
+module _ (db : Database) (x c a : List ℕ) (n : ℤ) where
   -- the rows of documents
   rows : List Tree → List Row
   rows ds = map (bind (Name x) empty_row) ds
@@ -29,12 +28,14 @@ module _ (x c a : List ℕ) (n : ℤ) (documents : List Tree) where
   value_is : (d : Tree) → value_at (bind (Name x) empty_row d) (Name x) ≡ d
   value_is d = rw (equal_itself x) refl
 
-  given : with_documents (Name x) (documents_named (one_collection c documents) c) (empty_row ∷ [])
-      ≡ rows documents
-  unfolding rows
-  given = rw (equal_itself c) (append-nil _)
+  documents : List Tree
+  documents = documents_named db c
 
-  tested : (ds : List Tree) → AllZip (Ev (one_collection c documents) (condition x a n) null) (rows ds) (tests ds)
+  given : with_documents (Name x) documents (empty_row ∷ []) ≡ rows documents
+  unfolding rows documents
+  given = append-nil _
+
+  tested : (ds : List Tree) → AllZip (Ev db (condition x a n) null) (rows ds) (tests ds)
   unfolding rows tests
   tested [] = tt
   tested (d ∷ ds) =
@@ -59,13 +60,13 @@ module _ (x c a : List ℕ) (n : ℤ) (documents : List Tree) where
   kept_is [] = refl
   kept_is (d ∷ ds) = one_kept (same (at_name d a) (number n)) d [] _ (filter_kept a n ds) (kept_is ds)
 
-  returned : (ds : List Tree) → AllZip (Ev (one_collection c documents) (variable (Name x)) null) (rows ds) ds
+  returned : (ds : List Tree) → AllZip (Ev db (variable (Name x)) null) (rows ds) ds
   unfolding rows
   returned [] = tt
   returned (d ∷ ds) = (sym (value_is d), returned ds)
 
-  pub filter_answers : Answer (one_collection c documents) (filter_query x c a n) empty_row
-      (filter_kept a n documents)
+  pub filter_answers : Answer db (filter_query x c a n) empty_row (filter_kept a n (documents_named db c))
+  unfolding documents
   filter_answers = (
     rows (filter_kept a n documents),
     filter_kept a n documents,

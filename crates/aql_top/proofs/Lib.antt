@@ -1,5 +1,5 @@
-pub mod Lines
-pub mod Documents
 pub mod FilterTexts
-pub mod Following
 pub mod FilterAnswers
+pub mod Loading
+pub mod Ends
+pub mod Places

@@ -1,18 +1,22 @@
--- The queries that the program takes so far: one filter over the one collection,
+-- The queries that the program runs so far: one filter over one collection,
 --
 --     FOR x IN c FILTER x.a == 1 RETURN x
 --
--- with one space at each gap and at most one line feed at the end. The variable x and the attribute a are one
--- lower-case letter each, c is the collection, and the number is one or more digits with a value below 2 ^ 63.
+-- with one space at each gap and at most one line feed at the end. The variable x, the collection c and the
+-- attribute a are one lower-case letter each, and the number is one or more digits with a value below 2 ^ 63.
 -- The file is replaced once the program parses every query.
-use Rattle.std.specs.Prelude.{◌≡◌, false, ◌<◌, ◌^◌, ◌⊎◌, ℤ, pos, ℕ, List, [], ◌∷◌, ◌++◌, codes, filter}
+use Rattle.std.specs.Prelude.{◌≡◌, false, ◌<◌, ◌≤◌, ◌^◌, ◌⊎◌, ℤ, pos, ℕ, List, [], ◌∷◌, ◌++◌, codes, filter}
 use Rattle.std.specs.Str.Parse.{IsNumeral, digits_value}
 use Rattle.aql_value.specs.Tree.{Tree, number}
 use Rattle.aql_value.specs.Parts.{at_name, same}
 use Rattle.aql_func.specs.declared.operators.BinOp.TheVariants.{Eq}
 use Rattle.aql_tree.specs.declared.syntax.Ident.TheVariants.{Name}
 use Rattle.aql_tree.specs.Tree.{ExprTree, literal, variable, access, chain, no_steps, name_then, no_links, link_then, for_each, keep_if, no_clauses, clause_then, QueryTree, query}
-use Rattle.aql_top.specs.Script.{IsName}
+
+-- a name of one letter, a to z
+abbrev pub IsName : List ℕ → Type 0
+IsName (b ∷ []) = (97 ≤ b) × (b ≤ 122)
+IsName _ = ⊥
 
 -- `x.a == n`
 abbrev pub condition : List ℕ → List ℕ → ℤ → ExprTree
@@ -33,9 +37,10 @@ filter_text x c a digits =
     (x ++ (codes " IN " ++ (c ++ (codes " FILTER " ++ (x ++ (codes "." ++ (a ++ (codes " == " ++
     (digits ++ (codes " RETURN " ++ x))))))))))
 
--- the text is this query over the collection c
-pub record IsFilter (c text x a : List ℕ) (n : ℤ) : Type 0 where
+-- the text is this query
+pub record IsFilter (text x c a : List ℕ) (n : ℤ) : Type 0 where
   pub variable_named : IsName x
+  pub collection_named : IsName c
   pub attribute_named : IsName a
   pub digits : List ℕ
   pub numeral : IsNumeral 10 digits

@@ -1,4 +1,3 @@
-pub mod Script
 pub mod Filters
 pub mod Forms
 pub mod Endings

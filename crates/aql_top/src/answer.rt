@@ -1,32 +1,48 @@
-//! From the bytes of an input to the lines of one answer.
+//! From a loaded script to the lines of one answer.
 
-ghost use Rattle.std.specs.Prelude.{◌≡◌, ◌≤◌, ℤ, Bool, List, ℕ, length, filter, IfOk, MatchOption};
-ghost use Rattle.aql_value.specs.Tree.{Tree, number};
+ghost use Rattle.std.specs.Prelude.{◌≡◌, ℤ, Option, Some, None, List, ℕ, if◌then◌else◌, is_some, option_map, IfOk, MatchOption};
+ghost use Rattle.aql_value.specs.Tree.{number};
+ghost use Rattle.aql_value.specs.Database.{documents_named};
 ghost use Rattle.aql_value.specs.View.{tree_of, trees_in};
 ghost use Rattle.aql_value.specs.Parts.{at_name, same};
-ghost use Rattle.aql_top.specs.Forms.{Accepts, Allows, printed};
+ghost use Rattle.aql_doc.specs.Held.{database};
+ghost use Rattle.aql_doc.specs.Declarations.{place_of};
+ghost use Rattle.aql_top.specs.Forms.{IsOther, Shows, printed};
 ghost use Rattle.aql_top.specs.Filters.{filter_kept};
 
 use crate::filter::{Filter, read_filter};
 use crate::parts::attribute;
-use crate::script::read_script;
-use aql_value::{OutOfMemory, Value, cmp, write_json};
+use aql_doc::Catalog;
+use aql_script::Loaded;
+use aql_value::{Items, OutOfMemory, Value, cmp, write_json};
 use std::alloc::Global;
 
-/// The lines of one answer of the query in the bytes; `None` exactly where the program does not
-/// take the bytes.
-pub(crate) fn answer(alloc: Global, bytes: &[u8]) -> Result<Option<Vec<u8>>, OutOfMemory>
-    requires { length bytes.now ≤ 67108864 }
-    ensures { IfOk result (λ text. MatchOption text (Accepts bytes.now → ⊥)
-        (λ lines. Allows bytes.now lines.items)) }
+/// The lines of one answer of the query of a script; `None` exactly where the program does not
+/// take the query.
+pub(crate) fn answer(alloc: Global, script: &Loaded) -> Result<Option<Vec<u8>>, OutOfMemory>
+    ensures { IfOk result (λ text. MatchOption text (IsOther script.now)
+        (λ lines. Shows script.now lines.items)) }
 {
-    let Some(script) = read_script(alloc, bytes)? else {
+    let Some(filter) = read_filter(alloc, script.query.as_str().as_bytes())? else {
         return Ok(None);
     };
-    let Some(filter) = read_filter(alloc, &script.name, &bytes[script.from..])? else {
+    let Some(documents) = documents_of(&script.catalog, filter.collection.as_str()) else {
         return Ok(None);
     };
-    Ok(Some(lines(alloc, script.documents.as_slice(), &filter)?))
+    Ok(Some(lines(alloc, documents.as_slice(), &filter)?))
+}
+
+// The documents of the collection with a name; `None` exactly where it is not declared.
+#[tactic(auto, using(crate::proofs::Places::documents_at_place))]
+fn documents_of<'a>(catalog: &'a Catalog, name: &str) -> Option<&'a Items>
+    ensures { option_map (λ d. d.now) result
+        ≡ (if is_some (place_of catalog.now name.now)
+        then Some (documents_named (database catalog.now) name.now) else None) }
+{
+    match catalog.find(name) {
+        Some(number) => catalog.documents(number),
+        None => None,
+    }
 }
 
 // The lines of the documents that the filter keeps.

@@ -1,3 +1,5 @@
+use aql_script::LoadFault;
+
 /// How a run ends.
 #[derive(Clone, Copy, Debug, PartialEq, Eq)]
 pub enum Ending {
@@ -5,12 +7,12 @@ pub enum Ending {
     Printed,
     /// The program does not take the words.
     BadWords,
-    /// A read failed.
-    ReadFault,
+    /// No script was loaded.
+    NotLoaded(LoadFault),
     /// A write to the output failed.
     WriteFault,
     /// Memory ran out.
     NoMemory,
-    /// The program does not take the input yet.
+    /// The program does not take the query yet.
     NotYet,
 }

@@ -2,36 +2,34 @@
 
 ghost use Rattle.std.specs.Prelude.{◌≡◌, ◌<◌, ◌↔◌, IsTrue, ◌^◌, ◌⊎◌, ◌++◌, ◌∷◌, [], ℤ, pos, ℕ, List, IfOk, MatchOption, string_bytes};
 ghost use Rattle.std.specs.Str.Parse.{IsNumeral, digits_value};
-ghost use Rattle.aql_top.specs.Script.{IsName};
 ghost use Rattle.aql_top.specs.Filters.{IsFilter, filter_text};
 
 use crate::parts::letter;
 use aql_value::{OutOfMemory, Text};
 use std::alloc::{AllocError, Global};
 
-/// A filter that keeps the documents whose attribute is the number.
+/// A filter that keeps the documents of a collection whose attribute is the number.
 #[derive(Drop)]
 pub(crate) struct Filter {
+    pub(crate) collection: Text,
     pub(crate) attribute: Text,
     pub(crate) number: i64,
 }
 
-/// The filter that a text is over a collection; `None` exactly where it is none.
-pub(crate) fn read_filter(
-    alloc: Global,
-    collection: &Text,
-    text: &[u8],
-) -> Result<Option<Filter>, OutOfMemory>
-    requires { IsName collection.now }
+/// The filter that a text is; `None` exactly where it is none.
+pub(crate) fn read_filter(alloc: Global, text: &[u8]) -> Result<Option<Filter>, OutOfMemory>
     ensures { IfOk result (λ filter. MatchOption filter
-        ((x a : List ℕ) (n : ℤ) → IsFilter collection.now text.now x a n → ⊥)
-        (λ f. (x : List ℕ) × IsFilter collection.now text.now x f.attribute f.number)) }
+        ((x c a : List ℕ) (n : ℤ) → IsFilter text.now x c a n → ⊥)
+        (λ f. (x : List ℕ) × IsFilter text.now x f.collection f.attribute f.number)) }
 {
     let line = without_line_feed(text);
     if line.len() < 35 {
         return Ok(None);
     }
     let Some(variable) = letter(alloc, &line[4..5])? else {
+        return Ok(None);
+    };
+    let Some(collection) = letter(alloc, &line[9..10])? else {
         return Ok(None);
     };
     let Some(attribute) = letter(alloc, &line[20..21])? else {
@@ -43,9 +41,13 @@ pub(crate) fn read_filter(
     let Some(number) = number(digits) else {
         return Ok(None);
     };
-    let text = written(alloc, &variable, collection, &attribute, digits)?;
+    let text = written(alloc, &variable, &collection, &attribute, digits)?;
     if is_same(line, text.as_str()) {
-        Ok(Some(Filter { attribute, number }))
+        Ok(Some(Filter {
+            collection,
+            attribute,
+            number,
+        }))
     } else {
         Ok(None)
     }

@@ -5,7 +5,6 @@ mod answer;
 mod ending;
 mod filter;
 mod parts;
-mod script;
 mod shell;
 
 pub use shell::run_shell;

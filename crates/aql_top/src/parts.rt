@@ -4,7 +4,7 @@ ghost use Rattle.std.specs.Prelude.{◌≡◌, IfOk, MatchOption, option_map, un
 ghost use Rattle.aql_value.specs.Tree.{null};
 ghost use Rattle.aql_value.specs.View.{tree_of};
 ghost use Rattle.aql_value.specs.Parts.{at_name};
-ghost use Rattle.aql_top.specs.Script.{IsName};
+ghost use Rattle.aql_top.specs.Filters.{IsName};
 
 use aql_value::{OutOfMemory, Text, Value};
 use std::alloc::Global;

@@ -95,42 +95,98 @@ fn prints_answers(rt: HostRuntime) -> Result<(), Fail> {
 }
 
 #[test]
-fn takes_nothing_else(rt: HostRuntime) -> Result<(), Fail> {
+fn prints_answers_over_scripts(rt: HostRuntime) -> Result<(), Fail> {
     let alloc = rt.alloc();
-    let query = "FOR x IN c FILTER x.a == 1 RETURN x";
-    for (lines, query) in [
-        ("{\"_key\":\"k\",\"a\":1}\n", "RETURN 1"),
-        ("{\"_key\":\"k\",\"a\":1}\n{\"_key\":\"k\"}\n", query),
-        ("{\"_key\":\"k\",\"_id\":\"c/k\"}\n", query),
-        ("{\"_key\":\"\"}\n", query),
-        ("{\"_key\":\"a b\"}\n", query),
-        ("{\"_key\":7}\n", query),
-        ("{\"a\":1}\n", query),
-        ("[]\n", query),
-        ("{\"_key\":\"k\",\"a\":1.5}\n", query),
-        ("\n", query),
-        ("", "FOR x IN d FILTER x.a == 1 RETURN x"),
-        ("", "FOR x IN c FILTER y.a == 1 RETURN x"),
-        ("", "FOR x IN c FILTER x.a == 1 RETURN y"),
-        ("", "FOR x IN c FILTER x.a == RETURN x"),
-        ("", "FOR x IN c FILTER x.a == -1 RETURN x"),
-        ("", "FOR x IN c FILTER x.a == +1 RETURN x"),
-        ("", "FOR x IN c FILTER x.a == 9223372036854775808 RETURN x"),
-        ("", "FOR x IN c FILTER x.a == 1 RETURN x\n\n"),
-        ("", "FOR X IN c FILTER X.a == 1 RETURN X"),
-        ("", ""),
+    let query = "FOR x IN d FILTER x.a == 1 RETURN x";
+    for (script, text) in [
+        (
+            "%document c shards=3 keys=a,b\n{\"_key\":\"k\",\"a\":1}\n%document d\n\
+                {\"_id\":\"d/1\",\"a\":1}\n \t\r\n{\"_key\":\"2\"}\n%index d a,b\n%index d a,b\n%query\n",
+            "{\"_id\":\"d/1\",\"_key\":\"1\",\"a\":1}\n",
+        ),
+        (
+            "%edge\td\r\n{\"a\":1,\"_key\":\"e\",\"_from\":\"c/1\",\"_to\":\"c/2\"}\r\n%query \r\n",
+            "{\"_from\":\"c/1\",\"_id\":\"d/e\",\"_key\":\"e\",\"_to\":\"c/2\",\"a\":1}\n",
+        ),
+        (
+            "%document d\n%document c\n{\"_key\":\"k\",\"a\":1}\n%query\n",
+            "",
+        ),
     ] {
-        let script = script_of(alloc, lines, query)?;
-        runs(&rt, alloc, script.as_str(), &SOUND, 9, "", "aql: not yet\n")?;
+        let script = format!(in alloc; "{script}{query}")?;
+        prints(&rt, alloc, script.as_str(), text)?;
     }
-    for script in [
-        "",
-        "%document c",
-        "%document c\n",
-        "%document C\n%query\n",
-        "%query\n",
+    Ok(())
+}
+
+#[test]
+fn refuses_scripts(rt: HostRuntime) -> Result<(), Fail> {
+    let alloc = rt.alloc();
+    for (script, line) in [
+        ("", "aql: script: line 0: no query\n"),
+        ("%document c\n", "aql: script: line 1: no query\n"),
+        (
+            "{}\n%query\n",
+            "aql: script: line 1: document outside a collection\n",
+        ),
+        ("%document c\n[]\n", "aql: script: line 2: not an object\n"),
+        ("%document c\n{\n", "aql: script: line 2: not JSON\n"),
+        (
+            "%document c\n{\"a\":1.5}\n%query\n",
+            "aql: script: line 2: number not whole\n",
+        ),
+        (
+            "%document c\n{\"_key\":\"k\"}\n\n{\"_key\":\"k\"}\n%query\n",
+            "aql: script: line 4: duplicate key\n",
+        ),
+        (
+            "%document c\n%edge c\n%query\n",
+            "aql: script: line 2: collection declared twice\n",
+        ),
+        ("%index c a\n", "aql: script: line 1: unknown collection\n"),
+        ("%document c\n{\"a\":1}\n", "aql: script: line 2: bad key\n"),
+        (
+            "%document c\n{\"_key\":\"k\",\"_id\":\"d/k\"}\n",
+            "aql: script: line 2: id mismatch\n",
+        ),
+        (
+            "%edge c\n{\"_key\":\"k\"}\n",
+            "aql: script: line 2: bad edge\n",
+        ),
+        ("%Document c\n", "aql: script: line 1: bad directive\n"),
     ] {
-        runs(&rt, alloc, script, &SOUND, 9, "", "aql: not yet\n")?;
+        runs(&rt, alloc, script, &SOUND, 3, "", line)?;
+    }
+    let shards = "%document c shards=33\n%query\n";
+    runs(
+        &rt,
+        alloc,
+        shards,
+        &SOUND,
+        5,
+        "",
+        "aql: limit: line 1: shards\n",
+    )
+}
+
+#[test]
+fn takes_no_other_query(rt: HostRuntime) -> Result<(), Fail> {
+    let alloc = rt.alloc();
+    for query in [
+        "RETURN 1",
+        "FOR x IN d FILTER x.a == 1 RETURN x",
+        "FOR x IN c FILTER y.a == 1 RETURN x",
+        "FOR x IN c FILTER x.a == 1 RETURN y",
+        "FOR x IN c FILTER x.a == RETURN x",
+        "FOR x IN c FILTER x.a == -1 RETURN x",
+        "FOR x IN c FILTER x.a == +1 RETURN x",
+        "FOR x IN c FILTER x.a == 9223372036854775808 RETURN x",
+        "FOR x IN c FILTER x.a == 1 RETURN x\n\n",
+        "FOR X IN c FILTER X.a == 1 RETURN X",
+        "",
+    ] {
+        let script = script_of(alloc, "", query)?;
+        runs(&rt, alloc, script.as_str(), &SOUND, 9, "", "aql: not yet\n")?;
     }
     Ok(())
 }

@@ -1,61 +1,39 @@
-use Rattle.std.proofs.Common.{ℕ, ℤ, List, drop, refl, subst, ◌∙◌, ap}
-use Rattle.std.proofs.lemmas.List.{take_rest}
-use Rattle.aql_value.specs.Tree.{Tree}
-use Rattle.aql_top.specs.Script.{IsScript}
+use Rattle.std.proofs.Common.{◌≡◌, ℕ, ℤ, List, refl, ap, ◌∙◌}
+use Rattle.aql_value.specs.Database.{documents_named}
+use Rattle.aql_doc.specs.Held.{database}
 use Rattle.aql_top.specs.Filters.{IsFilter, filter_query, filter_kept}
-use Rattle.aql_top.specs.Forms.{one_collection, printed}
-use Rattle.aql_top.proofs.Following.{one_script}
+use Rattle.aql_top.specs.Forms.{printed}
 use Rattle.aql_top.proofs.FilterAnswers.{filter_answers}
+use Rattle.aql_top.proofs.Places.{where_declared}
 use Rattle.aql_top.proofs.answer.answer.Goals as goal
 
 pub returns-in_default : goal.returns-in_default
-returns-in_default c = λ accepted.
-    let none : (name : List ℕ) (documents : List Tree) (text : List ℕ)
-    → IsScript c.args.bytes.now name documents text → ⊥ =
-    rw c.in_default.is at c.in_ok-script.ensures in
-    none _ _ _ accepted.2.script
-
-pub returns-in_default-2 : goal.returns-in_default-2
-returns-in_default-2 c = λ accepted.
-    let loads = accepted.2 in
-    let script : IsScript c.args.bytes.now c.in-Some.script.name c.in-Some.script.documents
-    (drop c.in-Some.script.from c.args.bytes.now) =
-    (rw c.in-Some.is at c.in_ok-script.ensures).0 in
-    let none : (x a : List ℕ) (n : ℤ)
-    → IsFilter c.in-Some.script.name (drop c.in-Some.script.from c.args.bytes.now) x a n → ⊥ =
-    rw (c.in_default-2.is, take_rest) at c.in_ok-filter.ensures in
-    let same = one_script _ _ _ _ _ _ _ loads.script script in
-    none _ _ _
-    (subst (λ text. IsFilter c.in-Some.script.name text loads.variable loads.attribute loads.number) same.2
-    (subst (λ name. IsFilter name loads.text loads.variable loads.attribute loads.number) same.0 loads.filter))
+returns-in_default c = λ query f.
+    let none : (x k a : List ℕ) (n : ℤ) → IsFilter c.args.script.now.query x k a n → ⊥ =
+    rw (c.in_default.is, c.as_bytes.ensures.value, c.as_str.ensures) at c.in_ok-filter.ensures in
+    none f.variable f.collection f.attribute f.number f.filter
 
 pub returns : goal.returns
 returns c =
-    let script = c.in-Some.script in
-    let filter = c.in-Some-2.filter in
-    let read : IsScript c.args.bytes.now script.name script.documents (drop script.from c.args.bytes.now) =
-    (rw c.in-Some.is at c.in_ok-script.ensures).0 in
+    let filter = c.in-Some.filter in
+    let db = database c.args.script.now.catalog in
     let found : (x : List ℕ)
-    × IsFilter script.name (drop script.from c.args.bytes.now) x filter.attribute filter.number =
-    rw (c.in-Some-2.is, take_rest) at c.in_ok-filter.ensures in
+    × IsFilter c.args.script.now.query x filter.collection filter.attribute filter.number =
+    rw (c.in-Some.is, c.as_bytes.ensures.value, c.as_str.ensures) at c.in_ok-filter.ensures in
+    let held = where_declared _ _ _ (rw c.as_str-2.ensures at c.in-Some-documents_of.ensures) in
     record {
-      db = one_collection script.name script.documents;
-      query = filter_query found.0 script.name filter.attribute filter.number;
-      loads = record {
-        within = c.requires;
-        name = script.name;
-        documents = script.documents;
-        text = drop script.from c.args.bytes.now;
-        script = read;
-        database = refl;
+      query = filter_query found.0 filter.collection filter.attribute filter.number;
+      filters = record {
         variable = found.0;
+        collection = filter.collection;
         attribute = filter.attribute;
         number = filter.number;
         filter = found.1;
+        declared = held.0;
         tree = refl;
       };
-      values = filter_kept filter.attribute filter.number script.documents;
-      answer = filter_answers found.0 script.name filter.attribute filter.number script.documents;
+      values = filter_kept filter.attribute filter.number (documents_named db filter.collection);
+      answer = filter_answers db found.0 filter.collection filter.attribute filter.number;
       lines = c.in_ok-lines.ensures
-          ∙ ap (λ ds. printed (filter_kept filter.attribute filter.number ds)) c.as_slice.ensures;
+          ∙ ap (λ ds. printed (filter_kept filter.attribute filter.number ds)) (c.as_slice.ensures ∙ held.1);
     }

@@ -1,0 +1,6 @@
+pub mod Keys
+pub mod Held
+pub mod Taken
+pub mod Meets
+pub mod Declarations
+pub mod Documents

@@ -1,0 +1,197 @@
+//! A collection, with the keys that its documents take.
+
+ghost use Rattle.std.specs.Prelude.{◌≡◌, ◌⊎◌, ◌++◌, ◌∷◌, ◌<◌, ◌≤◌, ◌+◌, [], length, IfOk, IfErr, OnOk, OnErr, Ok, Err, bytes_eq, false};
+ghost use Rattle.aql_value.specs.View.{tree_of};
+ghost use Rattle.aql_doc.specs.Taken.{has_key};
+ghost use Rattle.aql_doc.specs.Documents.{filled, with_members, with_document};
+ghost use Rattle.aql_doc.specs.Meets.{Refuses};
+ghost use Rattle.aql_doc.specs.Declarations.{are_same, has_index, with_index};
+ghost use Rattle.aql_doc.specs.declared.faults.DocFault.TheVariants.{Memory};
+ghost use Rattle.aql_doc.specs.declared.faults.CatalogFault.TheVariants.{Memory as NoMemory};
+
+use crate::document::{fill, lacks_ends, owned};
+use crate::keys::key_in;
+use crate::{CatalogFault, CollInfo, DocFault};
+use aql_value::{DocNo, Items, Members, Names, Text, Value};
+use std::alloc::Global;
+use std::collections::HashSet;
+use std::marker::Model;
+
+/// The most documents of a catalog.
+pub(crate) const DOCUMENTS: u32 = 200_000;
+
+/// The most sorted indexes of a collection.
+const INDEXES: usize = 16;
+
+// A key is looked up among the keys that are taken, and not among the documents.
+#[derive(Drop)]
+pub(crate) struct Collection {
+    info: CollInfo,
+    documents: Items,
+    taken: HashSet<String>,
+}
+
+impl Model for Collection {
+    ghost use Rattle.aql_doc.specs.Held.{Held, coded_held};
+
+    ghost Value = { Held };
+
+    ghost coded = { coded_held };
+
+    ghost view = { λ c. record { info = c.info; documents = c.documents } };
+
+    ghost use Rattle.aql_doc.specs.Taken.{Takes};
+
+    ghost invariant = { λ c. Takes c.taken c.documents };
+}
+
+impl Collection {
+    #[tactic(auto, unfolding(crate::specs::Taken::has_key))]
+    pub(crate) fn new(alloc: Global, info: CollInfo) -> Collection
+        ensures { result ≡ record { info = info; documents = [] } }
+    {
+        Collection {
+            info,
+            documents: Items::new(alloc),
+            taken: HashSet::new(alloc),
+        }
+    }
+
+    pub(crate) fn info(&self) -> &CollInfo
+        ensures { result.now ≡ self.now.info }
+    {
+        &self.info
+    }
+
+    pub(crate) fn documents(&self) -> &Items
+        ensures { result.now ≡ self.now.documents }
+    {
+        &self.documents
+    }
+
+    pub(crate) fn is_named(&self, name: &str) -> bool
+        ensures { result ≡ bytes_eq self.now.info.name name.now }
+    {
+        self.info.name.as_str() == name
+    }
+
+    fn holds(&self, key: &Text) -> bool
+        ensures { result ≡ has_key self.now.documents key.now }
+    {
+        self.taken.contains(key.as_str())
+    }
+
+    // Adds a document, where so many are held in all.
+    #[tactic(auto, using(crate::proofs::Adding::opened))]
+    pub(crate) fn add(&mut self, alloc: Global, total: u32, doc: Value) -> Result<DocNo, DocFault>
+        requires { length self.old.documents ≤ total }
+        ensures ok { IfOk result (λ n. (n.0 ≡ length self.old.documents)
+            × (with_document self.old total (tree_of doc) ≡ Ok self.new)) }
+        ensures room { OnOk result ((total < 200000)
+            × (length self.new.documents ≡ length self.old.documents + 1)) }
+        ensures info { self.new.info ≡ self.old.info }
+        ensures err { IfErr result (λ e. Refuses e (with_document self.old total (tree_of doc))) }
+        ensures unchanged { OnErr result (self.new ≡ self.old) }
+    {
+        match doc {
+            Value::Object(members) => self.add_object(alloc, total, members),
+            _ => Err(DocFault::NotObject),
+        }
+    }
+
+    fn add_object(&mut self, alloc: Global, total: u32, members: Members) -> Result<DocNo, DocFault>
+        requires { length self.old.documents ≤ total }
+        ensures ok { IfOk result (λ n. (n.0 ≡ length self.old.documents)
+            × (with_members self.old total members ≡ Ok self.new)) }
+        ensures room { OnOk result ((total < 200000)
+            × (length self.new.documents ≡ length self.old.documents + 1)) }
+        ensures info { self.new.info ≡ self.old.info }
+        ensures err { IfErr result (λ e. Refuses e (with_members self.old total members)) }
+        ensures unchanged { OnErr result (self.new ≡ self.old) }
+    {
+        let key = match key_in(alloc, &self.info.name, &members) {
+            Ok(key) => key,
+            Err(fault) => return Err(fault),
+        };
+        if lacks_ends(self.info.edge, &members) {
+            return Err(DocFault::BadEdge);
+        }
+        if self.holds(&key) {
+            return Err(DocFault::DuplicateKey { key });
+        }
+        if total >= DOCUMENTS {
+            return Err(DocFault::TooMany);
+        }
+        self.put(alloc, key, members)
+    }
+
+    // Holds a document under a key that is not taken.
+    fn put(&mut self, alloc: Global, key: Text, members: Members) -> Result<DocNo, DocFault>
+        requires free { has_key self.old.documents key ≡ false }
+        requires few { length self.old.documents < 200000 }
+        ensures ok { IfOk result (λ n. (n.0 ≡ length self.old.documents)
+            × (self.new ≡ record self.old {
+              documents = self.old.documents ++ filled self.old.info.name key members ∷ [];
+            })) }
+        ensures err { IfErr result (λ e. e ≡ Memory) }
+        ensures unchanged { OnErr result (self.new ≡ self.old) }
+    {
+        let at = self.documents.len() as u32;
+        let Ok(filled) = fill(alloc, &self.info.name, &key, members) else {
+            return Err(DocFault::Memory);
+        };
+        let Ok(own) = owned(alloc, &key) else {
+            return Err(DocFault::Memory);
+        };
+        let Ok(_) = self.taken.insert(own) else {
+            return Err(DocFault::Memory);
+        };
+        let Ok(()) = self.documents.push(filled) else {
+            self.taken.remove(key.as_str());
+            return Err(DocFault::Memory);
+        };
+        Ok(DocNo(at))
+    }
+
+    // Adds a sorted index; one that is there is kept once.
+    pub(crate) fn add_index(&mut self, attributes: Names) -> Result<(), CatalogFault>
+        ensures ok { OnOk result (with_index self.old attributes ≡ Ok self.new) }
+        ensures documents { self.new.documents ≡ self.old.documents }
+        ensures err { IfErr result (λ e.
+            (e ≡ NoMemory) ⊎ (with_index self.old attributes ≡ Err e)) }
+        ensures unchanged { OnErr result (self.new ≡ self.old) }
+    {
+        if has_index(&self.info, &attributes) {
+            return Ok(());
+        }
+        if self.info.indexes.len() >= INDEXES {
+            return Err(CatalogFault::TooMany);
+        }
+        if self.info.indexes.push(attributes).is_err() {
+            return Err(CatalogFault::Memory);
+        }
+        Ok(())
+    }
+}
+
+fn has_index(info: &CollInfo, attributes: &Names) -> bool
+    ensures { result ≡ has_index info.now.indexes attributes.now }
+{
+    let same = |index: &Names| are_same(index.as_slice(), attributes.as_slice());
+    info.indexes.as_slice().iter().any(same)
+}
+
+// Whether two lists have the same names in the same order.
+fn are_same(names: &[Text], others: &[Text]) -> bool
+    ensures { result ≡ are_same names.now others.now }
+{
+    if names.len() != others.len() {
+        return false;
+    }
+    for (i, name) in names.iter().enumerate() {
+        if name.as_str() != others[i].as_str() {
+            return false;
+        }
+    }
+    true
+}

@@ -1,0 +1,6 @@
+pub mod Cuts
+pub mod WordsOn
+pub mod NamesOn
+pub mod StepsOn
+pub mod OfBytes
+pub mod Reading

@@ -1,0 +1,159 @@
+-- No bytes have a failed read as their fault: it comes from the source alone.
+use Rattle.std.proofs.Common.{◌≡◌, ℕ, ◌+◌, ◌-◌, List, [], ◌∷◌, Bool, true, false, Option, Some, None, Ok, Err, if◌then◌else◌, nat_lt, nat_eq, length, subst}
+use Rattle.std.specs.Prelude.{Result, is_some, IfErr}
+use Rattle.std.specs.Str.{is_utf8}
+use Rattle.aql_value.specs.Tree.{Tree}
+use Rattle.aql_value.specs.JsonLine.{json_line}
+use Rattle.aql_value.specs.declared.reading.JsonFault.{JsonFault}
+use Rattle.aql_value.specs.declared.reading.JsonFault.TheVariants.{NotJson, TooDeep, NotWhole, Memory as JsonMemory}
+use Rattle.aql_doc.specs.Held.{Held}
+use Rattle.aql_doc.specs.Declarations.{place_of, declared, indexed}
+use Rattle.aql_doc.specs.Documents.{added}
+use Rattle.aql_doc.specs.declared.faults.CatalogFault.{CatalogFault}
+use Rattle.aql_doc.specs.declared.faults.CatalogFault.TheVariants.{Twice, TooMany, Memory as CatalogMemory}
+use Rattle.aql_doc.specs.declared.faults.DocFault.{DocFault}
+use Rattle.aql_doc.specs.declared.faults.DocFault.TheVariants.{NotObject, BadKey, IdMismatch, BadEdge, DuplicateKey, TooMany as DocTooMany, Memory as DocMemory}
+use Rattle.aql_script.specs.Pieces.{pieces, words, first_of}
+use Rattle.aql_script.specs.Directives.{directive}
+use Rattle.aql_script.specs.Lines.{Step, next, query, fault, after, last, read, with_query, without_cr, joined}
+use Rattle.aql_script.specs.Steps.{step, by_first, directed, by_directive, declaration, declaring, index, index_at, indexing, document, with_value, adding, doc_fault, json_fault, shards_of, keys_of}
+use Rattle.aql_script.specs.Script.{lines}
+use Rattle.aql_script.specs.declared.loading.Loaded.{Loaded}
+use Rattle.aql_script.specs.declared.options.Options.{Options}
+use Rattle.aql_script.specs.declared.directives.Directive.{Directive}
+use Rattle.aql_script.specs.declared.directives.Directive.TheVariants.{Declare, Index, Query}
+use Rattle.aql_script.specs.declared.faults.LoadFault.{LoadFault}
+use Rattle.aql_script.specs.declared.faults.LoadFault.TheVariants.{Read, Limit, Line, Memory}
+use Rattle.aql_script.specs.declared.faults.LimitKind.TheVariants.{LineBytes, Shards}
+use Rattle.aql_script.specs.declared.faults.LineKind.TheVariants.{DeclaredTwice, NoCollection, NoQuery, QueryNotUtf8}
+
+abbrev pub IsOfBytes : LoadFault → Type 0
+IsOfBytes Read = ⊥
+IsOfBytes (Limit kind) = Unit {0}
+IsOfBytes (Line n kind) = Unit {0}
+IsOfBytes Memory = Unit {0}
+
+abbrev StepOf : Step → Type 0
+StepOf (next held) = Unit {0}
+StepOf query = Unit {0}
+StepOf (fault e) = IsOfBytes e
+
+either : (b : Bool) (s t : Step) → StepOf s → StepOf t → StepOf (if b then s else t)
+either true s t h k = h
+either false s t h k = k
+
+of_doc : (n : ℕ) (e : DocFault) → IsOfBytes (doc_fault n e)
+of_doc n NotObject = tt
+of_doc n BadKey = tt
+of_doc n IdMismatch = tt
+of_doc n BadEdge = tt
+of_doc n (DuplicateKey key) = tt
+of_doc n DocTooMany = tt
+of_doc n DocMemory = tt
+
+of_json : (n : ℕ) (e : JsonFault) → IsOfBytes (json_fault n e)
+of_json n NotJson = tt
+of_json n TooDeep = tt
+of_json n NotWhole = tt
+of_json n JsonMemory = tt
+
+of_declaring : (n : ℕ) (r : Result (List Held) CatalogFault) → StepOf (declaring n r)
+of_declaring n (Ok held) = tt
+of_declaring n (Err Twice) = tt
+of_declaring n (Err TooMany) = tt
+of_declaring n (Err CatalogMemory) = tt
+
+of_indexing : (n : ℕ) (r : Result (List Held) CatalogFault) → StepOf (indexing n r)
+of_indexing n (Ok held) = tt
+of_indexing n (Err Twice) = tt
+of_indexing n (Err TooMany) = tt
+of_indexing n (Err CatalogMemory) = tt
+
+of_adding : (n : ℕ) (r : Result (List Held) DocFault) → StepOf (adding n r)
+of_adding n (Ok held) = tt
+of_adding n (Err e) = of_doc n e
+
+of_value : (n : ℕ) (held : List Held) (r : Result Tree JsonFault) → StepOf (with_value n held r)
+of_value n held (Ok value) = of_adding n (added held (length held - 1) value)
+of_value n held (Err e) = of_json n e
+
+of_declaration : (n : ℕ) (held : List Held) (edge : Bool) (name : List ℕ) (options : Options)
+    → StepOf (declaration n held edge name options)
+unfolding declaration
+of_declaration n held edge name options =
+    let does = declaring n (declared held name edge (shards_of options) (keys_of options)) in
+    either (is_some (place_of held name)) (fault (Line n DeclaredTwice))
+    (if nat_lt 32 (shards_of options) then fault (Limit (Shards n)) else does) tt
+    (either (nat_lt 32 (shards_of options)) (fault (Limit (Shards n))) does tt
+    (of_declaring n (declared held name edge (shards_of options) (keys_of options))))
+
+of_place : (n : ℕ) (held : List Held) (attributes : List (List ℕ)) (place : Option ℕ)
+    → StepOf (index_at n held attributes place)
+of_place n held attributes None = tt
+of_place n held attributes (Some number) = of_indexing n (indexed held number attributes)
+
+of_index : (n : ℕ) (held : List Held) (name : List ℕ) (attributes : List (List ℕ))
+    → StepOf (index n held name attributes)
+unfolding index
+of_index n held name attributes = of_place n held attributes (place_of held name)
+
+of_directive : (n : ℕ) (held : List Held) (d : Option Directive) → StepOf (by_directive n held d)
+of_directive n held None = tt
+of_directive n held (Some (Declare edge name options)) = of_declaration n held edge name options
+of_directive n held (Some (Index name attributes)) = of_index n held name attributes
+of_directive n held (Some Query) = tt
+
+of_directed : (n : ℕ) (held : List Held) (line : List ℕ) → StepOf (directed n held line)
+unfolding directed
+of_directed n held line = of_directive n held (directive (words line))
+
+of_document : (n : ℕ) (held : List Held) (line : List ℕ) → StepOf (document n held line)
+unfolding document
+of_document n held line =
+    either (nat_eq (length held) 0) (fault (Line n NoCollection)) (with_value n held (json_line line)) tt
+    (of_value n held (json_line line))
+
+of_first : (n : ℕ) (held : List Held) (line : List ℕ) (first : Option ℕ) → StepOf (by_first n held line first)
+of_first n held line None = tt
+of_first n held line (Some b) =
+    either (nat_eq b 37) (directed n held line) (document n held line) (of_directed n held line)
+    (of_document n held line)
+
+of_step : (n : ℕ) (held : List Held) (line : List ℕ) → StepOf (step n held line)
+unfolding step
+of_step n held line =
+    either (nat_lt 1048576 (length line)) (fault (Limit (LineBytes n)))
+    (by_first n held line (first_of line)) tt
+    (of_first n held line (first_of line))
+
+of_query : (n : ℕ) (held : List Held) (text : List ℕ) → IfErr (with_query n held text) IsOfBytes
+of_query n held text =
+    elim (is_utf8 text)
+    as (λ b. IfErr {T = Loaded} {E = LoadFault}
+    (if b then Ok (record { catalog = held; query = text }) else Err (Line n QueryNotUtf8)) IsOfBytes) [
+      | true ↦ tt
+      | false ↦ tt
+    ]
+
+of_after : (n : ℕ) (did : Step) (held : List Held) (go : List Held → Result Loaded LoadFault) (text : List ℕ)
+    → StepOf did → ((more : List Held) → IfErr (go more) IsOfBytes)
+    → IfErr (after n did held go text) IsOfBytes
+of_after n (next more) held go text h k = k more
+of_after n query held go text h k = of_query n held text
+of_after n (fault e) held go text h k = h
+
+of_last : (n : ℕ) (held : List Held) (l : List ℕ) → IfErr (last step n held l) IsOfBytes
+of_last n held [] = tt
+of_last n held (b ∷ l) =
+    of_after (n + 1) (step (n + 1) held (b ∷ l)) held (λ more. Err (Line (n + 1) NoQuery)) []
+    (of_step (n + 1) held (b ∷ l)) (λ more. tt)
+
+of_read : (n : ℕ) (held : List Held) (ls : List (List ℕ)) → IfErr (read step n held ls) IsOfBytes
+of_read n held [] = tt
+of_read n held (l ∷ []) = of_last n held l
+of_read n held (l ∷ m ∷ ls) =
+    of_after (n + 1) (step (n + 1) held (without_cr l)) held (λ more. read step (n + 1) more (m ∷ ls))
+    (joined (m ∷ ls)) (of_step (n + 1) held (without_cr l)) (λ more. of_read (n + 1) more (m ∷ ls))
+
+pub fault_of_lines : (bytes : List ℕ) (e : LoadFault) → lines bytes ≡ Err e → IsOfBytes e
+fault_of_lines bytes e h = subst (λ r. IfErr r IsOfBytes) h (of_read 0 [] (pieces 10 bytes))

@@ -1,0 +1,125 @@
+ghost use Rattle.std.specs.Prelude.{◌≡◌, ◌≤◌, ◌<◌, ⊤, length, IfOk, IfErr, OnErr};
+ghost use Rattle.aql_script.specs.Lines.{last, with_query, without_cr};
+ghost use Rattle.aql_script.specs.Meets.{Meets};
+ghost use Rattle.aql_script.specs.Script.{lines, Loads, Hinders};
+ghost use Rattle.aql_io.specs.Bytes.{HandsOut};
+ghost use Rattle.aql_script.specs.Steps.{step};
+ghost use Rattle.aql_script.specs.declared.faults.LoadFault.TheVariants.{Line};
+ghost use Rattle.aql_script.specs.declared.faults.LineKind.TheVariants.{NoQuery};
+
+use crate::pieces::cut_at;
+use crate::step::take_line;
+use crate::{LimitKind, LineKind, LoadFault};
+use aql_doc::Catalog;
+use aql_io::{ReadAllFault, Source, read_all};
+use aql_value::Text;
+use std::alloc::Global;
+
+/// The most bytes of a script.
+const SCRIPT_BYTES: u64 = 67_108_864;
+
+/// A script that was loaded.
+#[derive(Drop)]
+pub struct Loaded {
+    /// The collections and their documents.
+    pub catalog: Catalog,
+    /// The text of the query.
+    pub query: Text,
+}
+
+/// Reads a source to its end, and loads the script that it is. The first fault decides: that of the
+/// reading, or else of the first line that has one.
+pub fn load<S: Source>(alloc: Global, source: &mut S) -> Result<Loaded, LoadFault>
+    ensures script { IfOk result (λ l. Loads l (S.left source.old) (S.left source.new)) }
+    ensures fault { IfErr result (λ e. Hinders e (S.left source.old) (S.left source.new)
+        (S.faults source.old) (S.faults source.new)) }
+    ensures front { OnErr result
+        (HandsOut (S.left source.old) (S.left source.new) (λ _. ⊤)) }
+    ensures later { S.faults source.old ≤ S.faults source.new }
+{
+    match read_all(alloc, source, SCRIPT_BYTES) {
+        Ok(bytes) => load_lines(alloc, &bytes),
+        Err(ReadAllFault::Failed) => Err(LoadFault::Read),
+        Err(ReadAllFault::TooLong) => Err(LoadFault::Limit(LimitKind::ScriptBytes)),
+        Err(ReadAllFault::Memory) => Err(LoadFault::Memory),
+    }
+}
+
+// A carriage return at the end of a line is dropped.
+fn without_cr(line: &[u8]) -> &[u8]
+    ensures { result.now ≡ without_cr line.now }
+{
+    if line.len() > 0 && line[line.len() - 1] == b'\r' {
+        return &line[..line.len() - 1];
+    }
+    line
+}
+
+// The script whose query stands behind a line.
+fn with_query(alloc: Global, line: u32, catalog: Catalog, text: &[u8]) -> Result<Loaded, LoadFault>
+    ensures { Meets result (with_query line catalog text.now) }
+{
+    match str::from_utf8(text) {
+        Ok(text) => {
+            let query = Text::new(alloc, text)?;
+            Ok(Loaded { catalog, query })
+        }
+        Err(_) => Err(LoadFault::Line {
+            line,
+            kind: LineKind::QueryNotUtf8,
+        }),
+    }
+}
+
+// The script of these bytes.
+fn load_lines(alloc: Global, bytes: &[u8]) -> Result<Loaded, LoadFault>
+    requires { length bytes.now ≤ 67108864 }
+    ensures { Meets result (lines bytes.now) }
+{
+    let mut catalog = Catalog::new(alloc);
+    let mut rest = bytes;
+    let mut line: u32 = 0;
+    'lines: loop {
+        let Some((piece, behind)) = cut_at(b'\n', rest) else {
+            return load_last(alloc, line, catalog, rest);
+        };
+        line += 1;
+        match take_line(alloc, line, &mut catalog, without_cr(piece)) {
+            Ok(true) => {}
+            Ok(false) => return with_query(alloc, line, catalog, behind),
+            Err(fault) => return Err(fault),
+        }
+        rest = behind;
+    }
+}
+
+// The script that ends with this line, which no line feed ends.
+fn load_last(
+    alloc: Global,
+    before: u32,
+    catalog: Catalog,
+    bytes: &[u8],
+) -> Result<Loaded, LoadFault>
+    requires { before < 67108865 }
+    ensures { Meets result (last step before catalog bytes.now) }
+{
+    if bytes.len() == 0 {
+        return Err(no_query(before));
+    }
+    let line = before + 1;
+    let mut held = catalog;
+    match take_line(alloc, line, &mut held, bytes) {
+        Ok(true) => Err(no_query(line)),
+        Ok(false) => with_query(alloc, line, held, b""),
+        Err(fault) => Err(fault),
+    }
+}
+
+fn no_query(line: u32) -> LoadFault
+    ensures { result ≡ Line line NoQuery }
+{
+    LoadFault::Line {
+        line,
+        kind: LineKind::NoQuery,
+    }
+}
