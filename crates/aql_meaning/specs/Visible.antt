@@ -1,7 +1,7 @@
 -- What the clauses of a query declare, and what a name after IN means (AQL fundamentals, Accessing data from
 -- collections; the high-level operation FOR). The variables are read off the text: they are the same for all
 -- rows.
-use Rattle.std.specs.Prelude.{ℕ, List, [], ◌∷◌, ◌++◌, filter, flat_map, cond, not, ◌||◌, bytes_eq, Bool, Option, Some, None, is_some, option_to_list}
+use Rattle.std.specs.Prelude.{ℕ, List, [], ◌∷◌, filter, flat_map, cond, not, ◌||◌, bytes_eq, Bool, Option, Some, None, is_some, option_to_list}
 use Rattle.std.specs.List.{list_any}
 use Rattle.aql_value.specs.Tree.{Tree}
 use Rattle.aql_value.specs.Database.{Database, documents_named}
@@ -24,18 +24,23 @@ abbrev pub into_var : IntoTree → Option Ident
 into_var no_into = None
 into_var (into x what keep) = Some x
 
+-- the variables xs, set one after another, before those set earlier
+abbrev pub onto : List Ident → List Ident → List Ident
+onto [] vars = vars
+onto (x ∷ xs) vars = onto xs (x ∷ vars)
+
 -- the variables of the query behind a clause, the last set first; COLLECT leaves only its own
 abbrev pub vars_after : ClauseTree → List Ident → List Ident
 vars_after (for_each x e) vars = x ∷ vars
 vars_after (for_documents x name) vars = x ∷ vars
 vars_after (for_paths w e names prune settings) vars =
-    w.vertex ∷ (option_to_list w.edge ++ (option_to_list w.path ++ vars))
+    onto (option_to_list w.path) (onto (option_to_list w.edge) (w.vertex ∷ vars))
 vars_after (keep_if e) vars = vars
 vars_after (define x e) vars = x ∷ vars
 vars_after (sort_by directions es) vars = vars
 vars_after (limit offset count) vars = vars
 vars_after (collect xs es aggregates i) vars =
-    xs ++ (aggregate_vars aggregates ++ option_to_list (into_var i))
+    onto (option_to_list (into_var i)) (onto (aggregate_vars aggregates) (onto xs []))
 
 -- whether x is a variable of this query or of the start row
 abbrev pub sees : Row → List Ident → Ident → Bool

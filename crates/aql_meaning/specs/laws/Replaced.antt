@@ -1,5 +1,5 @@
 -- One expression may stand for another at any place of a tree, also within a subquery.
-use Rattle.std.proofs.Common.{◌≡◌, ◌∙◌, ℕ, List, [], ◌∷◌, ◌++◌, map, Bool, true, false, cond, refl, ap, ap₂, sym, subst}
+use Rattle.std.proofs.Common.{◌≡◌, ◌∙◌, ℕ, List, [], ◌∷◌, map, Bool, true, false, cond, refl, ap, ap₂, sym, subst}
 use Rattle.std.specs.Prelude.{Option, Some, None, MatchOption, option_to_list}
 use Rattle.std.specs.Bool.{MatchBool}
 use Rattle.std.specs.List.{AllZip}
@@ -22,7 +22,7 @@ use Rattle.aql_meaning.specs.Clauses.{kept}
 use Rattle.aql_meaning.specs.Groups.{Member, Collected, aggregate_of}
 use Rattle.aql_meaning.specs.Paths.{Walked}
 use Rattle.aql_meaning.specs.Options.{with_settings}
-use Rattle.aql_meaning.specs.Visible.{aggregate_vars, aggregate_functions, into_var, vars_after, collection_meant, edges_named}
+use Rattle.aql_meaning.specs.Visible.{aggregate_vars, aggregate_functions, into_var, onto, vars_after, collection_meant, edges_named}
 use Rattle.aql_meaning.specs.Meaning.{Ev, EvAll, EvOr, EvMembers, EvSteps, EvLinks, EvArguments, EvTaken, Changes, Through, Answer}
 use Rattle.aql_meaning.specs.Places.{put, put_all, put_maybe, put_members, put_steps, put_links, put_clause, put_aggregates, put_into, put_clauses, put_query, StandsFor}
 use Rattle.aql_meaning.specs.Plain.{IsPlain}
@@ -36,11 +36,11 @@ all_map P Q f [] (y ∷ ys) h = absurd h
 all_map P Q f (x ∷ xs) [] h = absurd h
 all_map P Q f (x ∷ xs) (y ∷ ys) h = (f x y h.0, all_map P Q f xs ys h.1)
 
-either_map : (b : Bool) (P Q R S : Type 0) → (P → R) → (Q → S) → MatchBool b P Q → MatchBool b R S
+pub either_map : (b : Bool) (P Q R S : Type 0) → (P → R) → (Q → S) → MatchBool b P Q → MatchBool b R S
 either_map true P Q R S f g h = f h
 either_map false P Q R S f g h = g h
 
-linked_map : (op : BinOp) (P Q : Tree → Type 0) → ((b : Tree) → P b → Q b)
+pub linked_map : (op : BinOp) (P Q : Tree → Type 0) → ((b : Tree) → P b → Q b)
     → (a v : Tree) → Linked op P a v → Linked op Q a v
 linked_map And P Q f a v h = either_map (truth a) (P v) (v ≡ a) (Q v) (v ≡ a) (f v) (λ e. e) h
 linked_map Or P Q f a v h = either_map (truth a) (v ≡ a) (P v) (v ≡ a) (Q v) (λ e. e) (f v) h
@@ -177,7 +177,7 @@ module _ (db : Database) (x : Ident) (q e : ExprTree) (s : StandsFor db q e) whe
   same_vars (sort_by directions es) vars = refl
   same_vars (limit offset count) vars = refl
   same_vars (collect xs es gs i) vars =
-      ap₂ (λ ys z. xs ++ (ys ++ option_to_list z)) (same_aggregate_vars gs) (same_into i)
+      ap₂ (λ ys z. onto (option_to_list z) (onto ys (onto xs []))) (same_aggregate_vars gs) (same_into i)
 
   mutual
     pub replaced : (t : ExprTree) (cur : Tree) (row : Row) (v : Tree) → Ev db (put x q t) cur row v

@@ -1,0 +1,11 @@
+pub mod Alike
+pub mod Places
+pub mod Within
+pub mod Lists
+pub mod Lets
+pub mod Walks
+pub mod SameValues
+pub mod Rows
+pub mod Classes
+pub mod Answers
+pub mod Computed

@@ -1,0 +1,92 @@
+-- What the clauses make of like rows is alike: FOR, FILTER, LET and SORT, where the values at the rows are the
+-- same.
+use Rattle.std.proofs.Common.{◌≡◌, ℕ, List, [], ◌∷◌, map, Bool, true, false, cond, refl, ap, ap₂, sym, subst}
+use Rattle.std.specs.Prelude.{Some, None, zip}
+use Rattle.std.specs.Ordering.{is_lt}
+use Rattle.std.specs.List.{AllZip}
+use Rattle.aql_value.specs.Tree.{Tree}
+use Rattle.aql_value.specs.Parts.{elements}
+use Rattle.aql_value.specs.Truth.{truth}
+use Rattle.aql_tree.specs.declared.syntax.Ident.{Ident}
+use Rattle.aql_tree.specs.declared.syntax.Ident.TheVariants.{Name, Num}
+use Rattle.aql_tree.specs.Tree.{variable}
+use Rattle.aql_meaning.specs.Row.{Row, bind}
+use Rattle.aql_meaning.specs.Clauses.{with_elements, with_documents, kept, bound, Keyed, Sorted, comes_before, keys_cmp}
+use Rattle.aql_meaning.specs.Visible.{sees, collection_meant}
+use Rattle.aql_meaning.specs.laws.Shuffles.{alike_permutation}
+use Rattle.aql_lift.specs.Names.{Names}
+use Rattle.aql_lift.proofs.Alike.{Alike, Below, alike_bind}
+use Rattle.aql_lift.proofs.Lists.{zip_append, sorted_alike, zip_pairs, zip_seconds}
+
+module _ (names : Names) where
+  module _ (n : ℕ) (x : Ident) (b : Below n names) where
+    each_alike : (s r : Row) (vs : List Tree) → Alike names s r
+        → AllZip (Alike ((x, n) ∷ names)) (map (bind (Num n) s) vs) (map (bind x r) vs)
+    each_alike s r [] a = tt
+    each_alike s r (v ∷ vs) a = (alike_bind names n x s r v b a, each_alike s r vs a)
+
+    pub elements_alike : (ss rs : List Row) (vs : List Tree) → AllZip (Alike names) ss rs
+        → AllZip (Alike ((x, n) ∷ names)) (with_elements (Num n) ss vs) (with_elements x rs vs)
+    elements_alike [] [] vs a = tt
+    elements_alike [] (r ∷ rs) vs a = absurd a
+    elements_alike (s ∷ ss) [] vs a = absurd a
+    elements_alike (s ∷ ss) (r ∷ rs) [] a = tt
+    elements_alike (s ∷ ss) (r ∷ rs) (v ∷ vs) a =
+        zip_append (Alike ((x, n) ∷ names)) _ _ _ _ (each_alike s r (elements v) a.0)
+        (elements_alike ss rs vs a.1)
+
+    pub documents_alike : (ds : List Tree) (ss rs : List Row) → AllZip (Alike names) ss rs
+        → AllZip (Alike ((x, n) ∷ names)) (with_documents (Num n) ds ss) (with_documents x ds rs)
+    documents_alike ds [] [] a = tt
+    documents_alike ds [] (r ∷ rs) a = absurd a
+    documents_alike ds (s ∷ ss) [] a = absurd a
+    documents_alike ds (s ∷ ss) (r ∷ rs) a =
+        zip_append (Alike ((x, n) ∷ names)) _ _ _ _ (each_alike s r ds a.0) (documents_alike ds ss rs a.1)
+
+    pub bound_alike : (ss rs : List Row) (vs : List Tree) → AllZip (Alike names) ss rs
+        → AllZip (Alike ((x, n) ∷ names)) (bound (Num n) ss vs) (bound x rs vs)
+    bound_alike [] [] vs a = tt
+    bound_alike [] (r ∷ rs) vs a = absurd a
+    bound_alike (s ∷ ss) [] vs a = absurd a
+    bound_alike (s ∷ ss) (r ∷ rs) [] a = tt
+    bound_alike (s ∷ ss) (r ∷ rs) (v ∷ vs) a = (alike_bind names n x s r v b a.0, bound_alike ss rs vs a.1)
+
+  pub kept_alike : (ss rs : List Row) (vs : List Tree) → AllZip (Alike names) ss rs
+      → AllZip (Alike names) (kept ss vs) (kept rs vs)
+  kept_alike [] [] vs a = tt
+  kept_alike [] (r ∷ rs) vs a = absurd a
+  kept_alike (s ∷ ss) [] vs a = absurd a
+  kept_alike (s ∷ ss) (r ∷ rs) [] a = tt
+  kept_alike (s ∷ ss) (r ∷ rs) (v ∷ vs) a = by (truth v) (kept_alike ss rs vs a.1)
+    where
+      by : (c : Bool) → AllZip (Alike names) (kept ss vs) (kept rs vs)
+          → AllZip (Alike names) (cond c (s ∷ kept ss vs) (kept ss vs)) (cond c (r ∷ kept rs vs) (kept rs vs))
+      by true k = (a.0, k)
+      by false k = k
+
+  pub sorted_back : (ds : List Bool) (keys : List (List Tree)) (ss rs out : List Row)
+      → AllZip (Alike names) ss rs → Sorted ds keys ss out
+      → (behind : List Row) × Sorted ds keys rs behind × AllZip (Alike names) out behind
+  sorted_back ds keys ss rs out a k =
+      let same = λ (p q : Keyed). (p.0 ≡ q.0) × Alike names p.1 q.1 in
+      let p = alike_permutation same (zip keys ss) k.0 (zip keys rs) k.1
+      (zip_pairs (Alike names) keys ss rs a) in
+      let rows = map (λ (q : Keyed). q.1) p.0 in
+      let up = sorted_alike same (comes_before ds) (λ x y z w e f. ap₂ (λ g h. is_lt (keys_cmp ds g h)) e.0 f.0)
+      k.0 p.0 p.2 k.2 in (
+        rows,
+        (p.0, p.1, up, refl),
+        subst (λ (o : List Row). AllZip (Alike names) o rows) (sym k.3)
+            (zip_seconds (Alike names) k.0 p.0 p.2),
+      )
+
+-- ---- what a name after IN means
+
+pub meant_none : (c : Ident) (start : Row) (vars : List Ident) → sees start vars c ≡ true
+    → None ≡ collection_meant (variable c) start vars
+meant_none (Name m) start vars e = sym (ap (λ (b : Bool). cond b None (Some m)) e)
+meant_none (Num k) start vars e = refl
+
+pub meant_some : (m : List ℕ) (start : Row) (vars : List Ident) → sees start vars (Name m) ≡ false
+    → Some m ≡ collection_meant (variable (Name m)) start vars
+meant_some m start vars e = sym (ap (λ (b : Bool). cond b None (Some m)) e)

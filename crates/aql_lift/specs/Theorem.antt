@@ -1,0 +1,26 @@
+-- The laws of scoping, each the contract of a public function. A subquery means what it means where it is
+-- written (AQL fundamentals, Subqueries), although the scoped query has it in a LET before its clause.
+use Rattle.std.specs.Prelude.{ℕ, ◌≡◌, ◌+◌, List, [], length}
+use Rattle.aql_value.specs.Tree.{Tree}
+use Rattle.aql_value.specs.Database.{Database}
+use Rattle.aql_tree.specs.Tree.{ExprTree, QueryTree}
+use Rattle.aql_meaning.specs.Row.{empty_row}
+use Rattle.aql_meaning.specs.Meaning.{Answer}
+use Rattle.aql_meaning.specs.Plain.{IsPlain}
+use Rattle.aql_lift.specs.Names.{Names}
+use Rattle.aql_lift.specs.Lifting.{expr, scoped}
+use Rattle.aql_lift.specs.Prunes.{PrunesPlain}
+
+-- what the scoped query answers, the written one answers
+abbrev pub ScopedAnswersAreAnswers : Type 0
+ScopedAnswersAreAnswers = (db : Database) (q : QueryTree) → PrunesPlain q → (out : List Tree)
+    → Answer db (scoped [] 1 q).tree empty_row out → Answer db q empty_row out
+
+-- a query says as many names as it takes numbers, from 1 on
+abbrev pub EachNumberHasItsName : Type 0
+EachNumberHasItsName = (q : QueryTree) → 1 + length (scoped [] 1 q).said ≡ (scoped [] 1 q).next
+
+-- nothing is taken out of an expression without a subquery, and it takes no number
+abbrev pub PlainTakesNothing : Type 0
+PlainTakesNothing = (names : Names) (e : ExprTree) → IsPlain e → (n : ℕ)
+    → ((expr names n e).taken ≡ []) × ((expr names n e).said ≡ []) × ((expr names n e).next ≡ n)

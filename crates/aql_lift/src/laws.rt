@@ -1,0 +1,18 @@
+//! The laws of scoping: each function's contract is one of them.
+
+ghost use Rattle.aql_lift.specs.Theorem.{EachNumberHasItsName, PlainTakesNothing, ScopedAnswersAreAnswers};
+
+/// What the scoped query answers, the written one answers.
+pub fn scoped_answers_are_answers()
+    ensures { ScopedAnswersAreAnswers }
+{}
+
+/// A query says as many names as it takes numbers.
+pub fn each_number_has_its_name()
+    ensures { EachNumberHasItsName }
+{}
+
+/// Nothing is taken out of an expression without a subquery.
+pub fn plain_takes_nothing()
+    ensures { PlainTakesNothing }
+{}
