@@ -1,0 +1,101 @@
+use Rattle.std.proofs.Common.{arith, ◌≡◌, ◌≤◌, ◌+◌, ◌++◌, Bor, [], ◌∷◌, length, map, drop, option_map, true, ap, sym, ◌∙◌}
+use Rattle.aql_value.specs.Parts.{list, at_name, at_value}
+use Rattle.aql_value.specs.Tree.{Tree, boolean}
+use Rattle.aql_value.specs.View.{tree_of, trees_in}
+use Rattle.aql_value.specs.declared.values.Value.{Value}
+use Rattle.aql_tree.specs.View.{tree, StepPart, maybe, step_part, steps, name, at, each}
+use Rattle.aql_meaning.specs.Value.{stepped, value_or}
+use Rattle.aql_expr.proofs.Stepped.{left, part-Name, part-At, part-Each, from_here, taken, one_kept, one_dropped, all_taken}
+use Rattle.aql_expr.proofs.walk.+walk.Goals as goal
+use Rattle.aql_expr.proofs.walk.+walk.Goals.{stepped-in-Name, stepped-in-At+in_ok-which-in-At+in-Text-1, stepped-in-At+in_ok-which-in-At+in-List-1, stepped-in-At+in_ok-which-in-At+in-Object-1, stepped-in-At+in_ok-which-in-At+in-Null-1, stepped-then-branch+in_ok-given-in-Each+in_ok-stepped_given-in-Each+in_ok-push-in-Each, stepped-else-branch}
+
+pub stepped-loop-at-preserved : goal.stepped-loop-at-preserved
+stepped-loop-at-preserved g t c =
+    let cur = tree_of c.args.cur.now in
+    let row = g.R.RowView.vars c.args.row.now in
+    let from = tree_of c.loop-at.value.now in
+    let rest = steps (map step_part (drop (c.loop-at.at + 1) c.args.all.now)) in
+    let here = λ (p : StepPart) (k : step_part c.index-all-at.result ≡ p).
+    from_here c.args.all.now c.loop-at.at c.index-all-at.result p (omega arith) c.index-all-at.is k cur row
+    from in
+    elim c.match-all-at.branch [
+      | stepped-in-Name w ↦
+          ap (λ (v : Bor Value). stepped rest cur row (tree_of v.now)) w.value-is
+          ∙ ap (stepped rest cur row) (w.named-value.ensures ∙ ap (at_name from) w.as_str.ensures)
+          ∙ sym (here (name w.in-Name.name) (ap step_part w.in-Name.is ∙ part-Name w.in-Name.name))
+          ∙ c.loop-at.invariant
+      | stepped-in-At+in_ok-which-in-At+in-Text-1 w ↦
+          ap (λ (v : Bor Value). stepped rest cur row (tree_of v.now)) w.value-is
+          ∙ ap (stepped rest cur row)
+          (w.chosen-value.ensures ∙ ap (at_value from) w.in_ok-which-in-At.ensures)
+          ∙ sym (here (at (tree w.in-At.which)) (ap step_part w.in-At.is ∙ part-At w.in-At.which))
+          ∙ c.loop-at.invariant
+      | stepped-in-At+in_ok-which-in-At+in-List-1 w ↦
+          ap (λ (v : Bor Value). stepped rest cur row (tree_of v.now)) w.value-is
+          ∙ ap (stepped rest cur row)
+          (w.chosen-value.ensures ∙ ap (at_value from) w.in_ok-which-in-At.ensures)
+          ∙ sym (here (at (tree w.in-At.which)) (ap step_part w.in-At.is ∙ part-At w.in-At.which))
+          ∙ c.loop-at.invariant
+      | stepped-in-At+in_ok-which-in-At+in-Object-1 w ↦
+          ap (λ (v : Bor Value). stepped rest cur row (tree_of v.now)) w.value-is
+          ∙ ap (stepped rest cur row)
+          (w.chosen-value.ensures ∙ ap (at_value from) w.in_ok-which-in-At.ensures)
+          ∙ sym (here (at (tree w.in-At.which)) (ap step_part w.in-At.is ∙ part-At w.in-At.which))
+          ∙ c.loop-at.invariant
+      | stepped-in-At+in_ok-which-in-At+in-Null-1 w ↦
+          ap (λ (v : Bor Value). stepped rest cur row (tree_of v.now)) w.value-is
+          ∙ ap (stepped rest cur row)
+          (w.chosen-value.ensures ∙ ap (at_value from) w.in_ok-which-in-At.ensures)
+          ∙ sym (here (at (tree w.in-At.which)) (ap step_part w.in-At.is ∙ part-At w.in-At.which))
+          ∙ c.loop-at.invariant
+    ]
+
+pub stepped-loop-element-preserved : goal.stepped-loop-element-preserved
+stepped-loop-element-preserved g t c =
+    let cur = tree_of c.args.cur.now in
+    let row = g.R.RowView.vars c.args.row.now in
+    let steps_left = steps (map step_part (drop (c.loop-at.at + 1) c.args.all.now)) in
+    let after = λ (w : Tree). stepped steps_left cur row w in
+    let given = λ (e : Tree). value_or (maybe (option_map tree c.in-Each.project)) e row e in
+    let tested = λ (e : Tree). value_or (maybe (option_map tree c.in-Each.filter)) e row (boolean true) in
+    let all = c.elements-element-items.result.now in
+    let element = c.element-item.result in
+    let rest = trees_in (drop (c.loop-element.element-index + 1) all) in
+    let done = c.loop-element.out in
+    let whole = taken after given tested (trees_in all) in
+    let begun : done ++ taken after given tested (tree_of element ∷ rest) ≡ whole =
+    ap (λ ts. done ++ taken after given tested ts)
+    (sym (ap trees_in (left all c.loop-element.element-index element (omega arith) c.element-item.is)))
+    ∙ c.loop-element.invariant in
+    elim c.if-branch.branch [
+      | stepped-then-branch+in_ok-given-in-Each+in_ok-stepped_given-in-Each+in_ok-push-in-Each w ↦
+          ap (λ out. out ++ taken after given tested rest)
+          (w.out-is ∙ w.in_ok-push-in-Each.ensures.ok
+          ∙ ap (λ v. done ++ v ∷ [])
+          (w.in_ok-stepped_given-in-Each.ensures ∙ ap after w.in_ok-given-in-Each.ensures))
+          ∙ one_kept after given tested done (tree_of element) rest whole
+          (sym c.in_ok-is_kept-in-Each.ensures ∙ w.if-branch.true) begun
+      | stepped-else-branch w ↦
+          ap (λ out. out ++ taken after given tested rest) w.out-is
+          ∙ one_dropped after given tested done (tree_of element) rest whole
+          (sym c.in_ok-is_kept-in-Each.ensures ∙ w.if-branch.false) begun
+    ]
+
+pub stepped-returns-in-Each : goal.stepped-returns-in-Each
+stepped-returns-in-Each g t c =
+    let cur = tree_of c.args.cur.now in
+    let row = g.R.RowView.vars c.args.row.now in
+    let from = tree_of c.loop-at.value.now in
+    let steps_left = steps (map step_part (drop (c.loop-at.at + 1) c.args.all.now)) in
+    let after = λ (w : Tree). stepped steps_left cur row w in
+    let given = λ (e : Tree). value_or (maybe (option_map tree c.in-Each.project)) e row e in
+    let tested = λ (e : Tree). value_or (maybe (option_map tree c.in-Each.filter)) e row (boolean true) in
+    let all = c.elements-element-items.result.now in
+    let here = from_here c.args.all.now c.loop-at.at c.index-all-at.result
+    (each (option_map tree c.in-Each.filter) (option_map tree c.in-Each.project)) (omega arith)
+    c.index-all-at.is (ap step_part c.in-Each.is ∙ part-Each c.in-Each.filter c.in-Each.project) cur row
+    from in
+    let ended : length all ≤ c.loop-element.element-index = omega arith in
+    ap list (all_taken after given tested c.loop-element.out all c.loop-element.element-index ended
+    c.loop-element.invariant
+    ∙ ap (taken after given tested) c.elements-element-items.ensures) ∙ sym here ∙ c.loop-at.invariant

@@ -1,0 +1,86 @@
+use Rattle.std.proofs.Common.{◌≡◌, ◌++◌, ◌+◌, ◌*◌, ◌-◌, ◌^◌, length, map, drop, true, option_map}
+use Rattle.aql_value.specs.Tree.{Tree, boolean}
+use Rattle.aql_value.specs.View.{tree_of, trees_in}
+use Rattle.aql_func.specs.Objects.{with_all}
+use Rattle.aql_tree.specs.View.{tree, trees, maybe, members, steps, links, member_part, step_part, link_part}
+use Rattle.aql_meaning.specs.Clauses.{kept}
+use Rattle.aql_meaning.specs.Value as spec
+use Rattle.aql_expr.proofs.walk.+walk.Given as goal
+
+-- The depth of the tree decides, and then how many steps are left.
+
+abbrev pub decreases-evaluate : goal.decreases-evaluate
+decreases-evaluate g l = goal.size-evaluate g l * 2 ^ 66
+
+abbrev pub decreases-evaluate_all : goal.decreases-evaluate_all
+decreases-evaluate_all g l = goal.size-evaluate_all g l * 2 ^ 66 + 2
+
+abbrev pub decreases-evaluate_members : goal.decreases-evaluate_members
+decreases-evaluate_members g l = goal.size-evaluate_members g l * 2 ^ 66 + 2
+
+abbrev pub decreases-set_member : goal.decreases-set_member
+decreases-set_member g l = goal.size-set_member g l * 2 ^ 66 + 1
+
+abbrev pub decreases-stepped : goal.decreases-stepped
+decreases-stepped g l = goal.size-stepped g l * 2 ^ 66 + 2 * (length l.all.now - l.start) + 1
+
+abbrev pub decreases-of_variable : goal.decreases-of_variable
+decreases-of_variable g l = goal.size-of_variable g l * 2 ^ 66 + 2 * length l.all.now + 2
+
+abbrev pub decreases-stepped_given : goal.decreases-stepped_given
+decreases-stepped_given g l = goal.size-stepped_given g l * 2 ^ 66 + 2 * (length l.all.now - l.at) + 2
+
+abbrev pub decreases-is_kept : goal.decreases-is_kept
+decreases-is_kept g l = goal.size-is_kept g l * 2 ^ 66 + 1
+
+abbrev pub decreases-projected : goal.decreases-projected
+decreases-projected g l = goal.size-projected g l * 2 ^ 66 + 1
+
+abbrev pub decreases-linked : goal.decreases-linked
+decreases-linked g l = goal.size-linked g l * 2 ^ 66 + 2
+
+abbrev pub decreases-linked_once : goal.decreases-linked_once
+decreases-linked_once g l = goal.size-linked_once g l * 2 ^ 66 + 1
+
+-- What was done, with what is left, is the whole.
+
+abbrev pub invariant-evaluate_all-loop-expr : goal.invariant-evaluate_all-loop-expr
+invariant-evaluate_all-loop-expr g l =
+    let cur = tree_of l.cur in
+    let row = g.R.RowView.vars l.row in
+    l.out ++ spec.values (trees (map tree (drop l.expr-index l.exprs))) cur row
+    ≡ spec.values (trees (map tree l.exprs)) cur row
+
+abbrev pub invariant-evaluate_members-loop-field : goal.invariant-evaluate_members-loop-field
+invariant-evaluate_members-loop-field g l =
+    let cur = tree_of l.cur in
+    let row = g.R.RowView.vars l.row in
+    with_all l.out (spec.members (members (map member_part (drop l.field-index l.fields))) cur row)
+    ≡ with_all l.initial.out (spec.members (members (map member_part l.fields)) cur row)
+
+abbrev pub invariant-stepped-loop-at : goal.invariant-stepped-loop-at
+invariant-stepped-loop-at g l =
+    let cur = tree_of l.cur in
+    let row = g.R.RowView.vars l.row in
+    spec.stepped (steps (map step_part (drop l.at l.all))) cur row (tree_of l.value)
+    ≡ spec.stepped (steps (map step_part (drop l.start l.all))) cur row (tree_of l.from)
+
+abbrev pub invariant-stepped-loop-element : goal.invariant-stepped-loop-element
+invariant-stepped-loop-element g l =
+    let cur = tree_of l.cur in
+    let row = g.R.RowView.vars l.row in
+    let rest = steps (map step_part (drop (l.at + 1) l.all)) in
+    let after = λ (w : Tree). spec.stepped rest cur row w in
+    let given = λ (c : Tree). spec.value_or (maybe (option_map tree l.project)) c row c in
+    let tested = λ (c : Tree). spec.value_or (maybe (option_map tree l.filter)) c row (boolean true) in
+    let left = trees_in (drop l.element-index l.element-items) in
+    let whole = trees_in l.element-items in
+    l.out ++ map after (map given (kept left (map tested left)))
+    ≡ map after (map given (kept whole (map tested whole)))
+
+abbrev pub invariant-linked-loop-link : goal.invariant-linked-loop-link
+invariant-linked-loop-link g l =
+    let cur = tree_of l.cur in
+    let row = g.R.RowView.vars l.row in
+    spec.linked (links (map link_part (drop l.link-index l.all))) cur row (tree_of l.left)
+    ≡ spec.linked (links (map link_part l.all)) cur row (tree_of l.initial.left)

@@ -1,0 +1,76 @@
+// Parts of values, borrowed. Where there is no such part, `missing` is given, which is null.
+ghost use Rattle.std.specs.Prelude.{◌≡◌, option_map, slice_get, unwrap_or};
+ghost use Rattle.aql_value.specs.Parts as spec;
+ghost use Rattle.aql_value.specs.Tree.{null};
+ghost use Rattle.aql_value.specs.View.{tree_of, trees_in};
+
+use aql_value::Value;
+
+// The elements of an array; nothing else has elements.
+pub(crate) fn elements(value: &Value) -> &[Value]
+    ensures { trees_in result.now ≡ spec.elements (tree_of value.now) }
+{
+    match value {
+        Value::List(list) => list.as_slice(),
+        _ => &[],
+    }
+}
+
+// `value.name`.
+pub(crate) fn named<'a>(value: &'a Value, name: &str, missing: &'a Value) -> &'a Value
+    requires { tree_of missing.now ≡ null }
+    ensures { tree_of result.now ≡ spec.at_name (tree_of value.now) name.now }
+{
+    match value {
+        Value::Object(members) => match members.value(name) {
+            Some(value) => value,
+            None => missing,
+        },
+        _ => missing,
+    }
+}
+
+// `value[which]`.
+pub(crate) fn chosen<'a>(value: &'a Value, which: &Value, missing: &'a Value) -> &'a Value
+    requires { tree_of missing.now ≡ null }
+    ensures { tree_of result.now ≡ spec.at_value (tree_of value.now) (tree_of which.now) }
+{
+    match which {
+        Value::Text(name) => named(value, name.as_str(), missing),
+        Value::Num(place) => placed(elements(value), *place, missing),
+        _ => missing,
+    }
+}
+
+fn placed<'a>(values: &'a [Value], place: i64, missing: &'a Value) -> &'a Value
+    requires { tree_of missing.now ≡ null }
+    ensures { tree_of result.now ≡ spec.at_place (trees_in values.now) place }
+{
+    match usize::try_from(place) {
+        Ok(place) => value_at(values, place, missing),
+        Err(_) => match values.len().checked_sub(place.unsigned_abs() as usize) {
+            Some(place) => value_at(values, place, missing),
+            None => missing,
+        },
+    }
+}
+
+fn value_at<'a>(values: &'a [Value], place: usize, missing: &'a Value) -> &'a Value
+    requires { tree_of missing.now ≡ null }
+    ensures { tree_of result.now ≡ unwrap_or (slice_get (trees_in values.now) place) null }
+{
+    match values.get(place) {
+        Some(value) => value,
+        None => missing,
+    }
+}
+
+// The value that is given, else the other one.
+pub(crate) fn given_or<'a>(given: &'a Option<Value>, other: &'a Value) -> &'a Value
+    ensures { tree_of result.now ≡ unwrap_or (option_map tree_of given.now) (tree_of other.now) }
+{
+    match given {
+        Some(value) => value,
+        None => other,
+    }
+}

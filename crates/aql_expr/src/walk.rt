@@ -1,0 +1,341 @@
+// The walk over an expression.
+ghost use Rattle.std.specs.Prelude.{[], ◌∷◌, ◌≡◌, drop, IfOk, map, OnOk, option_map, true};
+ghost use Rattle.std.specs.Prelude.{unwrap_or};
+ghost use Rattle.aql_value.specs.Database.{Database};
+ghost use Rattle.aql_value.specs.Tree.{boolean, null};
+ghost use Rattle.aql_value.specs.Truth.{truth};
+ghost use Rattle.aql_value.specs.View.{tree_of};
+ghost use Rattle.aql_func.specs.Named.{call_named};
+ghost use Rattle.aql_func.specs.Objects.{with_all};
+ghost use Rattle.aql_func.specs.Operators as operators;
+ghost use Rattle.aql_tree.specs.View.{tree, trees, maybe, members, steps, links};
+ghost use Rattle.aql_tree.specs.View.{member_part, step_part, link_part};
+ghost use Rattle.aql_meaning.specs.Meaning.{Ev};
+ghost use Rattle.aql_meaning.specs.Plain.{IsPlain};
+ghost use Rattle.aql_meaning.specs.Row.{value_at};
+ghost use Rattle.aql_meaning.specs.Value as spec;
+
+use crate::RowView;
+use crate::parts::{chosen, elements, given_or, named};
+use crate::quantifiers::quantify;
+use crate::rows::{copied, value_of};
+use aql_func::{BinOp, arity, binary, call, lookup, range, unary};
+use aql_tree::{Expr, Field, Ident, Link, Step};
+use aql_value::{Items, Members, OutOfMemory, Value, copy, to_number, to_text, truthy};
+use std::alloc::Global;
+
+/// The value of an expression without a subquery at a row, outside of an inline operator (AQL
+/// fundamentals, Operators). Every form of an expression is taken; `&&`, `||` and `? :` look only
+/// at the operands that they need. A variable that the row lacks, access that finds nothing, and a
+/// call of an unknown function or with a wrong number of arguments give null.
+pub fn eval<R: RowView>(alloc: Global, expr: &Expr, row: &R) -> Result<Value, OutOfMemory>
+    requires { IsPlain (tree expr.now) }
+    ensures value { IfOk result (λ v. tree_of v
+        ≡ spec.value (tree expr.now) null (R.vars row.now)) }
+    ensures meaning { IfOk result (λ v. (db : Database)
+        → Ev db (tree expr.now) null (R.vars row.now) (tree_of v)) }
+{
+    let null = Value::Null;
+    evaluate(alloc, expr, row, &null)
+}
+
+// `cur` is the value of CURRENT; a subquery counts as null.
+#[cycle(walk)]
+pub(crate) fn evaluate<R: RowView>(
+    alloc: Global,
+    expr: &Expr,
+    row: &R,
+    cur: &Value,
+) -> Result<Value, OutOfMemory>
+    ensures { IfOk result (λ v. tree_of v
+        ≡ spec.value (tree expr.now) (tree_of cur.now) (R.vars row.now)) }
+{
+    match expr {
+        Expr::Lit(value) => copy(alloc, value),
+        Expr::Var(ident) => copied(alloc, row, ident),
+        Expr::Current => copy(alloc, cur),
+        Expr::List(items) => {
+            let values = evaluate_all(alloc, items.as_slice(), row, cur)?;
+            Ok(Value::List(values))
+        }
+        Expr::Object(fields) => {
+            let members = evaluate_members(alloc, fields.as_slice(), row, cur)?;
+            Ok(Value::Object(members))
+        }
+        Expr::Access { of, steps } => match &**of {
+            Expr::Var(ident) => of_variable(alloc, steps.as_slice(), row, cur, ident),
+            Expr::Current => stepped(alloc, steps.as_slice(), 0, row, cur, cur),
+            of => {
+                let from = evaluate(alloc, of, row, cur)?;
+                stepped(alloc, steps.as_slice(), 0, row, cur, &from)
+            }
+        },
+        Expr::Call { name, args } => {
+            let args = evaluate_all(alloc, args.as_slice(), row, cur)?;
+            called(alloc, name.as_str(), &args)
+        }
+        Expr::Unary { op, of } => {
+            let of = evaluate(alloc, of, row, cur)?;
+            unary(*op, &of)
+        }
+        Expr::Chain { first, rest } => {
+            let first = evaluate(alloc, first, row, cur)?;
+            linked(alloc, rest.as_slice(), row, cur, first)
+        }
+        Expr::Quant {
+            left,
+            kind,
+            op,
+            right,
+        } => {
+            let left = evaluate(alloc, left, row, cur)?;
+            let right = evaluate(alloc, right, row, cur)?;
+            quantify(alloc, *kind, *op, &left, &right)
+        }
+        Expr::Cond { test, yes, no } => {
+            let test = evaluate(alloc, test, row, cur)?;
+            if truthy(&test) {
+                match yes {
+                    Some(yes) => evaluate(alloc, yes, row, cur),
+                    None => Ok(test),
+                }
+            } else {
+                evaluate(alloc, no, row, cur)
+            }
+        }
+        Expr::Range { low, high } => {
+            let low = evaluate(alloc, low, row, cur)?;
+            let high = evaluate(alloc, high, row, cur)?;
+            range(alloc, to_number(&low), to_number(&high))
+        }
+        Expr::Sub(_) => Ok(Value::Null),
+    }
+}
+
+#[cycle(walk)]
+fn evaluate_all<R: RowView>(
+    alloc: Global,
+    exprs: &[Expr],
+    row: &R,
+    cur: &Value,
+) -> Result<Items, OutOfMemory>
+    ensures { IfOk result (λ w. w
+        ≡ spec.values (trees (map tree exprs.now)) (tree_of cur.now) (R.vars row.now)) }
+{
+    let mut out = Items::new(alloc);
+    for expr in exprs {
+        out.push(evaluate(alloc, expr, row, cur)?)?;
+    }
+    Ok(out)
+}
+
+#[cycle(walk)]
+fn evaluate_members<R: RowView>(
+    alloc: Global,
+    fields: &[Field],
+    row: &R,
+    cur: &Value,
+) -> Result<Members, OutOfMemory>
+    ensures { IfOk result (λ w. w ≡ with_all []
+        (spec.members (members (map member_part fields.now)) (tree_of cur.now) (R.vars row.now))) }
+{
+    let mut out = Members::new(alloc);
+    for field in fields {
+        set_member(alloc, field, row, cur, &mut out)?;
+    }
+    Ok(out)
+}
+
+#[cycle(walk)]
+fn set_member<R: RowView>(
+    alloc: Global,
+    field: &Field,
+    row: &R,
+    cur: &Value,
+    out: &mut Members,
+) -> Result<(), OutOfMemory>
+    ensures { OnOk result (out.new ≡ with_all out.old
+        (spec.members (members (member_part field.now ∷ [])) (tree_of cur.now) (R.vars row.now))) }
+{
+    match field {
+        Field::Named { name, value } => {
+            let value = evaluate(alloc, value, row, cur)?;
+            out.set(name.copy(alloc)?, value)?;
+        }
+        Field::Computed { name, value } => {
+            let name = evaluate(alloc, name, row, cur)?;
+            let value = evaluate(alloc, value, row, cur)?;
+            out.set(to_text(alloc, &name)?, value)?;
+        }
+    }
+    Ok(())
+}
+
+// The steps behind a variable, whose value is only borrowed.
+#[cycle(walk)]
+fn of_variable<R: RowView>(
+    alloc: Global,
+    all: &[Step],
+    row: &R,
+    cur: &Value,
+    ident: &Ident,
+) -> Result<Value, OutOfMemory>
+    ensures { IfOk result (λ v. tree_of v ≡ spec.stepped (steps (map step_part all.now))
+        (tree_of cur.now) (R.vars row.now) (value_at (R.vars row.now) ident.now)) }
+{
+    let null = Value::Null;
+    stepped(alloc, all, 0, row, cur, value_of(row, ident, &null))
+}
+
+// The steps from the one at `start` on.
+#[cycle(walk)]
+fn stepped<R: RowView>(
+    alloc: Global,
+    all: &[Step],
+    start: usize,
+    row: &R,
+    cur: &Value,
+    from: &Value,
+) -> Result<Value, OutOfMemory>
+    ensures { IfOk result (λ v. tree_of v
+        ≡ spec.stepped (steps (map step_part (drop start all.now)))
+        (tree_of cur.now) (R.vars row.now) (tree_of from.now)) }
+{
+    let null = Value::Null;
+    let mut value = from;
+    for at in start..all.len() {
+        match &all[at] {
+            Step::Name(name) => value = named(value, name.as_str(), &null),
+            Step::At(which) => {
+                let which = evaluate(alloc, which, row, cur)?;
+                value = chosen(value, &which, &null);
+            }
+            Step::Each { filter, project } => {
+                let mut out = Items::new(alloc);
+                for element in elements(value) {
+                    if is_kept(alloc, filter, row, element)? {
+                        let given = projected(alloc, project, row, element)?;
+                        out.push(stepped_given(alloc, all, at + 1, row, cur, given, element)?)?;
+                    }
+                }
+                return Ok(Value::List(out));
+            }
+        }
+    }
+    copy(alloc, value)
+}
+
+// Whether an inline operator keeps the element.
+#[cycle(walk)]
+fn is_kept<R: RowView>(
+    alloc: Global,
+    filter: &Option<Expr>,
+    row: &R,
+    element: &Value,
+) -> Result<bool, OutOfMemory>
+    ensures { IfOk result (λ b. b ≡ truth (spec.value_or (maybe (option_map tree filter.now))
+        (tree_of element.now) (R.vars row.now) (boolean true))) }
+{
+    match filter {
+        Some(filter) => Ok(truthy(&evaluate(alloc, filter, row, element)?)),
+        None => Ok(true),
+    }
+}
+
+// What an inline operator gives for the element; `None` stands for the element itself.
+#[cycle(walk)]
+fn projected<R: RowView>(
+    alloc: Global,
+    project: &Option<Expr>,
+    row: &R,
+    element: &Value,
+) -> Result<Option<Value>, OutOfMemory>
+    ensures { IfOk result (λ o. unwrap_or (option_map tree_of o) (tree_of element.now)
+        ≡ spec.value_or (maybe (option_map tree project.now)) (tree_of element.now) (R.vars row.now)
+        (tree_of element.now)) }
+{
+    match project {
+        Some(project) => Ok(Some(evaluate(alloc, project, row, element)?)),
+        None => Ok(None),
+    }
+}
+
+// The steps behind an inline operator, for what it gave for an element.
+#[cycle(walk)]
+fn stepped_given<R: RowView>(
+    alloc: Global,
+    all: &[Step],
+    at: usize,
+    row: &R,
+    cur: &Value,
+    given: Option<Value>,
+    element: &Value,
+) -> Result<Value, OutOfMemory>
+    ensures { IfOk result (λ v. tree_of v ≡ spec.stepped (steps (map step_part (drop at all.now)))
+        (tree_of cur.now) (R.vars row.now)
+        (unwrap_or (option_map tree_of given) (tree_of element.now))) }
+{
+    stepped(alloc, all, at, row, cur, given_or(&given, element))
+}
+
+#[cycle(walk)]
+fn linked<R: RowView>(
+    alloc: Global,
+    all: &[Link],
+    row: &R,
+    cur: &Value,
+    first: Value,
+) -> Result<Value, OutOfMemory>
+    ensures { IfOk result (λ v. tree_of v ≡ spec.linked (links (map link_part all.now))
+        (tree_of cur.now) (R.vars row.now) (tree_of first)) }
+{
+    let mut left = first;
+    for link in all {
+        left = linked_once(alloc, link, row, cur, left)?;
+    }
+    Ok(left)
+}
+
+// `&&` and `||` take the right side only where the left side does not decide.
+#[cycle(walk)]
+fn linked_once<R: RowView>(
+    alloc: Global,
+    link: &Link,
+    row: &R,
+    cur: &Value,
+    left: Value,
+) -> Result<Value, OutOfMemory>
+    ensures { IfOk result (λ v. tree_of v ≡ operators.binary (link_part link.now).0 (tree_of left)
+        (spec.value (link_part link.now).1 (tree_of cur.now) (R.vars row.now))) }
+{
+    match link.op {
+        BinOp::And => if truthy(&left) {
+            evaluate(alloc, &link.right, row, cur)
+        } else {
+            Ok(left)
+        },
+        BinOp::Or => if truthy(&left) {
+            Ok(left)
+        } else {
+            evaluate(alloc, &link.right, row, cur)
+        },
+        op => {
+            let right = evaluate(alloc, &link.right, row, cur)?;
+            binary(alloc, op, &left, &right)
+        }
+    }
+}
+
+// The value of a call by its name.
+fn called(alloc: Global, name: &str, args: &Items) -> Result<Value, OutOfMemory>
+    ensures { IfOk result (λ v. tree_of v ≡ call_named name.now args.now) }
+{
+    match lookup(name) {
+        Some(f) => if arity(f).allows(args.len()) {
+            call(alloc, f, args)
+        } else {
+            Ok(Value::Null)
+        },
+        None => Ok(Value::Null),
+    }
+}
