@@ -9,3 +9,4 @@ pub mod Rows
 pub mod Classes
 pub mod Answers
 pub mod Computed
+pub mod LiftedIsPlain

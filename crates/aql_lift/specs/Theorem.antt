@@ -10,6 +10,7 @@ use Rattle.aql_meaning.specs.Plain.{IsPlain}
 use Rattle.aql_lift.specs.Names.{Names}
 use Rattle.aql_lift.specs.Lifting.{expr, scoped}
 use Rattle.aql_lift.specs.Prunes.{PrunesPlain}
+use Rattle.aql_lift.specs.Lifted.{IsLifted}
 
 -- what the scoped query answers, the written one answers
 abbrev pub ScopedAnswersAreAnswers : Type 0
@@ -24,3 +25,10 @@ EachNumberHasItsName = (q : QueryTree) → 1 + length (scoped [] 1 q).said ≡ (
 abbrev pub PlainTakesNothing : Type 0
 PlainTakesNothing = (names : Names) (e : ExprTree) → IsPlain e → (n : ℕ)
     → ((expr names n e).taken ≡ []) × ((expr names n e).said ≡ []) × ((expr names n e).next ≡ n)
+
+-- what scoping makes of an expression has no subquery; in a scoped query's own clauses one stands only as the
+-- whole right side of a LET
+abbrev pub LiftedIsPlain : Type 0
+LiftedIsPlain =
+    ((names : Names) (e : ExprTree) (n : ℕ) → IsPlain (expr names n e).tree)
+    × ((outer : Names) (n : ℕ) (q : QueryTree) → IsLifted (scoped outer n q).tree)

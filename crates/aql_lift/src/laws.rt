@@ -1,6 +1,6 @@
 //! The laws of scoping: each function's contract is one of them.
 
-ghost use Rattle.aql_lift.specs.Theorem.{EachNumberHasItsName, PlainTakesNothing, ScopedAnswersAreAnswers};
+ghost use Rattle.aql_lift.specs.Theorem.{EachNumberHasItsName, LiftedIsPlain, PlainTakesNothing, ScopedAnswersAreAnswers};
 
 /// What the scoped query answers, the written one answers.
 pub fn scoped_answers_are_answers()
@@ -15,4 +15,9 @@ pub fn each_number_has_its_name()
 /// Nothing is taken out of an expression without a subquery.
 pub fn plain_takes_nothing()
     ensures { PlainTakesNothing }
+{}
+
+/// What scoping makes of an expression has no subquery.
+pub fn lifted_is_plain()
+    ensures { LiftedIsPlain }
 {}

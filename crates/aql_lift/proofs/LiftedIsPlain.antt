@@ -1,0 +1,128 @@
+-- What scoping makes of an expression has no subquery, and so in the clauses of a scoped query a subquery
+-- stands only as the whole right side of a LET.
+use Rattle.std.proofs.Common.{ℕ, suc, List, [], ◌∷◌, ◌++◌, Option, Some, None}
+use Rattle.aql_tree.specs.declared.syntax.Ident.{Ident}
+use Rattle.aql_tree.specs.declared.syntax.Ident.TheVariants.{Name, Num}
+use Rattle.aql_tree.specs.Tree.{ExprTree, literal, variable, current, listed, made, access, called, unary_of, chain, quantified, choice, range_of, subquery, ExprTrees, no_exprs, expr_then, MaybeExpr, no_expr, one_expr, MemberTrees, no_members, named_then, computed_then, StepTrees, no_steps, name_then, at_then, each_then, LinkTrees, no_links, link_then, ClauseTree, for_each, for_documents, for_paths, keep_if, define, sort_by, limit, collect, AggregateTrees, no_aggregates, aggregate_then, IntoTree, no_into, into, ClauseTrees, no_clauses, clause_then, QueryTree, query}
+use Rattle.aql_meaning.specs.Plain.{IsPlain, AllPlain, MaybePlain, MembersPlain, StepsPlain, LinksPlain}
+use Rattle.aql_lift.specs.Names.{Names, number_of, numbered, from_name, object_of}
+use Rattle.aql_lift.specs.Lifting.{Taken, with_lets, followed, expr, exprs, maybe, members, steps, links, criteria, aggregates, into_part, clause, clauses, scoped}
+use Rattle.aql_lift.specs.Lifted.{AggregatesPlain, IntoPlain, ClauseLifted, ClausesLifted, IsLifted}
+
+numbered_is_plain : (number : Option ℕ) → IsPlain (numbered number)
+numbered_is_plain (Some k) = tt
+numbered_is_plain None = tt
+
+module _ (names : Names) where
+  mutual
+    pub lifted_is_plain : (e : ExprTree) (n : ℕ) → IsPlain (expr names n e).tree
+    lifted_is_plain (literal v) n = tt
+    lifted_is_plain (variable x) n = numbered_is_plain (number_of names x)
+    lifted_is_plain current n = tt
+    lifted_is_plain (listed es) n = lifted_are_plain es n
+    lifted_is_plain (made ms) n = lifted_members ms n
+    lifted_is_plain (access e ss) n = (lifted_is_plain e n, lifted_steps ss _)
+    lifted_is_plain (called name es) n = lifted_are_plain es n
+    lifted_is_plain (unary_of op e) n = lifted_is_plain e n
+    lifted_is_plain (chain e ls) n = (lifted_is_plain e n, lifted_links ls _)
+    lifted_is_plain (quantified e kind op f) n = (lifted_is_plain e n, lifted_is_plain f _)
+    lifted_is_plain (choice test first other) n =
+        (lifted_is_plain test n, lifted_maybe first _, lifted_is_plain other _)
+    lifted_is_plain (range_of e f) n = (lifted_is_plain e n, lifted_is_plain f _)
+    lifted_is_plain (subquery q) n = tt
+
+    pub lifted_are_plain : (es : ExprTrees) (n : ℕ) → AllPlain (exprs names n es).tree
+    lifted_are_plain no_exprs n = tt
+    lifted_are_plain (expr_then e es) n = (lifted_is_plain e n, lifted_are_plain es _)
+
+    pub lifted_maybe : (m : MaybeExpr) (n : ℕ) → MaybePlain (maybe names n m).tree
+    lifted_maybe no_expr n = tt
+    lifted_maybe (one_expr e) n = lifted_is_plain e n
+
+    pub lifted_members : (ms : MemberTrees) (n : ℕ) → MembersPlain (members names n ms).tree
+    lifted_members no_members n = tt
+    lifted_members (named_then name e ms) n = (lifted_is_plain e n, lifted_members ms _)
+    lifted_members (computed_then k e ms) n =
+        (lifted_is_plain k n, lifted_is_plain e _, lifted_members ms _)
+
+    pub lifted_steps : (ss : StepTrees) (n : ℕ) → StepsPlain (steps names n ss).tree
+    lifted_steps no_steps n = tt
+    lifted_steps (name_then name ss) n = lifted_steps ss n
+    lifted_steps (at_then e ss) n = (lifted_is_plain e n, lifted_steps ss _)
+    lifted_steps (each_then filter gives ss) n =
+        (lifted_maybe filter n, lifted_maybe gives _, lifted_steps ss _)
+
+    pub lifted_links : (ls : LinkTrees) (n : ℕ) → LinksPlain (links names n ls).tree
+    lifted_links no_links n = tt
+    lifted_links (link_then op e ls) n = (lifted_is_plain e n, lifted_links ls _)
+
+  lifted_criteria : (es : ExprTrees) (xs : List Ident) (n : ℕ) → AllPlain (criteria names n xs es).tree.1
+  lifted_criteria no_exprs xs n = tt
+  lifted_criteria (expr_then e es) [] n = (lifted_is_plain e n, lifted_criteria es [] _)
+  lifted_criteria (expr_then e es) (x ∷ xs) n = (lifted_is_plain e (suc n), lifted_criteria es xs _)
+
+  lifted_aggregates : (gs : AggregateTrees) (n : ℕ) → AggregatesPlain (aggregates names n gs).tree
+  lifted_aggregates no_aggregates n = tt
+  lifted_aggregates (aggregate_then x f e gs) n = (lifted_maybe e (suc n), lifted_aggregates gs _)
+
+  object_is_plain : (xs : List (List ℕ)) → MembersPlain (object_of names xs)
+  object_is_plain [] = tt
+  object_is_plain (x ∷ xs) = (numbered_is_plain (number_of names (Name x)), object_is_plain xs)
+
+  lifted_into : (own : Names) (i : IntoTree) (n : ℕ) → IntoPlain (into_part own names n i).tree
+  lifted_into own no_into n = tt
+  lifted_into own (into x (one_expr e) keep) n = lifted_is_plain e (suc n)
+  lifted_into own (into x no_expr keep) n = object_is_plain _
+
+-- ---- clauses
+
+from_name_is_lifted : (n : ℕ) (number : Option ℕ) (c : Ident) → ClauseLifted (from_name n number c)
+from_name_is_lifted n (Some k) c = tt
+from_name_is_lifted n None (Name c) = tt
+from_name_is_lifted n None (Num c) = tt
+
+define_is_lifted : (x : Ident) (e : ExprTree) → IsPlain e → ClauseLifted (define x e)
+define_is_lifted x (subquery q) h = tt
+define_is_lifted x e h = h
+
+lets_are_lifted : (ts : List Taken) (cs : ClauseTrees) → ClausesLifted cs → ClausesLifted (with_lets ts cs)
+lets_are_lifted [] cs h = h
+lets_are_lifted (t ∷ ts) cs h = (tt, lets_are_lifted ts cs h)
+
+followed_are_lifted : (cs ds : ClauseTrees) → ClausesLifted cs → ClausesLifted ds
+    → ClausesLifted (followed cs ds)
+followed_are_lifted no_clauses ds h k = k
+followed_are_lifted (clause_then c cs) ds h k = (h.0, followed_are_lifted cs ds h.1 k)
+
+module _ (outer : Names) where
+  clause_is_lifted : (own : Names) (n : ℕ) (c : ClauseTree) → ClauseLifted (clause outer own n c).clause.tree
+  clause_is_lifted own n (for_each x (variable c)) = from_name_is_lifted n (number_of (own ++ outer) c) c
+  clause_is_lifted own n (for_each x e) = lifted_is_plain (own ++ outer) e (suc n)
+  clause_is_lifted own n (for_documents x name) = tt
+  clause_is_lifted own n (for_paths w e names prune settings) =
+      (lifted_is_plain (own ++ outer) e _, lifted_maybe _ prune _, tt)
+  clause_is_lifted own n (keep_if e) = lifted_is_plain (own ++ outer) e n
+  clause_is_lifted own n (define x (subquery q)) = tt
+  clause_is_lifted own n (define x e) =
+      define_is_lifted (Num n) (expr (own ++ outer) (suc n) e).tree (lifted_is_plain (own ++ outer) e (suc n))
+  clause_is_lifted own n (sort_by directions es) = lifted_are_plain (own ++ outer) es n
+  clause_is_lifted own n (limit offset count) = tt
+  clause_is_lifted own n (collect xs es gs i) = (
+    lifted_criteria (own ++ outer) es xs n,
+    lifted_aggregates (own ++ outer) gs _,
+    lifted_into (own ++ outer) own i _,
+  )
+
+  clauses_are_lifted : (cs : ClauseTrees) (own : Names) (n : ℕ)
+      → ClausesLifted (clauses outer own n cs).clauses
+  clauses_are_lifted no_clauses own n = tt
+  clauses_are_lifted (clause_then c cs) own n =
+      lets_are_lifted (clause outer own n c).clause.taken _
+      (clause_is_lifted own n c, clauses_are_lifted cs _ _)
+
+  pub scoped_is_lifted : (n : ℕ) (q : QueryTree) → IsLifted (scoped outer n q).tree
+  scoped_is_lifted n (query with cs distinct e) = (
+    followed_are_lifted (clauses outer [] n cs).clauses _ (clauses_are_lifted cs [] n)
+        (lets_are_lifted _ no_clauses tt),
+    lifted_is_plain _ e _,
+  )

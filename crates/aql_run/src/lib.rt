@@ -1,0 +1,11 @@
+//! Scoped queries, run over a catalog.
+#![tactic(auto)]
+
+mod filtering;
+mod rows;
+mod running;
+
+pub use running::run;
+
+#[cfg(test)]
+mod tests;
