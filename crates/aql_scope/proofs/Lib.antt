@@ -1,0 +1,15 @@
+pub mod Outcomes
+pub mod PlainWhere
+pub mod PrunesPlain
+pub mod Back
+pub mod Seen
+pub mod Settled
+pub mod Claims
+pub mod Cases
+pub mod Expressions
+pub mod ClauseForms
+pub mod Queries
+pub mod Walked
+pub mod WholeQuery
+pub mod Words
+pub mod Turns

@@ -1,0 +1,171 @@
+use Rattle.std.proofs.Common.{◌≡◌, ◌∙◌, ap, sym, subst, map, rules, option_map, Option, Some, None, Ok, Err, [], ◌∷◌, ◌+◌, drop}
+use Rattle.std.proofs.lemmas.List.{map-append}
+use Rattle.std.specs.Prelude.{codes, nat_le}
+use Rattle.aql_tree.specs.declared.syntax.Into.{Into}
+use Rattle.aql_tree.specs.Tree.{ClauseTree, subquery, for_paths, no_members}
+use Rattle.aql_tree.specs.View.{tree, steps, each, step_part, maybe, members, query_tree, clause_tree, IntoPart, into_part, into_tree, traversal_part, walked}
+use Rattle.aql_lift.specs.Names.{Names, numbered_walk}
+use Rattle.aql_scope.specs.declared.faults.ScopeFault.TheVariants.{BadOption}
+use Rattle.aql_scope.specs.Faults.{new_names, seen, unless, walk_vars, edge_collections}
+use Rattle.aql_scope.specs.Options.{unwritten}
+use Rattle.aql_scope.specs.Walk as walk
+use Rattle.aql_scope.specs.Walk.{Walks, place, site_of, site_within, inline_site, with_own, state, next}
+use Rattle.aql_scope.proofs.Turns.{let_of_query, let_of_value, of_query, no_query, into_given, walk_has_fault, walk_has_parts, shape_is, walk_parts_of, settings_have_fault, into_parts_of, steps_from, of_each, each_has_fault, fault_through, given_on}
+use Rattle.aql_scope.proofs.walk.+walk.Goals as goal
+
+pub access_steps-returns-in_err-step : goal.access_steps-returns-in_err-step
+access_steps-returns-in_err-step t c =
+    let s = site_of c.args.at.now in
+    let before = state c.loop-item.said c.loop-item.lets in
+    let last = state c.step.new.said c.step.new.lets in
+    let from_here = c.loop-item.invariant
+    ∙ steps_from s (map step_part c.loop-item.found) c.args.all.now c.loop-item.item-index c.item-item.result before
+    c.loop-item-test.true c.item-item.is in
+    let is : c.step.result ≡ Err c.in_err-step.field-0.0 = search rules in
+    let is' : c.from_residual.result ≡ Err c.in_err-step.field-0.0 = search rules in
+    subst (λ o. Walks (map step_part) o c.from_residual.result last) (sym from_here)
+    (fault_through step_part (map step_part) (walk.step s (step_part c.item-item.result) before) _ c.step.result
+    c.from_residual.result c.in_err-step.field-0.0 last last is is' c.step.ensures)
+
+pub access_steps-loop-item-preserved : goal.access_steps-loop-item-preserved
+access_steps-loop-item-preserved t c =
+    let s = site_of c.args.at.now in
+    let found = c.loop-item.found in
+    let q = c.in_ok-step.field-0 in
+    let before = state c.loop-item.said c.loop-item.lets in
+    let last = state c.step.new.said c.step.new.lets in
+    c.loop-item.invariant
+    ∙ steps_from s (map step_part found) c.args.all.now c.loop-item.item-index c.item-item.result before
+    c.loop-item-test.true c.item-item.is
+    ∙ given_on (walk.step s (step_part c.item-item.result) before) _ (step_part q) last c.in_ok-step.ensures
+    ∙ ap (λ fs. walk.steps s fs (steps (map step_part (drop (c.loop-item.item-index + 1) c.args.all.now))) last)
+    (sym (ap (map step_part) c.in_ok-push.ensures.ok ∙ map-append step_part found (q ∷ [])))
+
+pub step-returns-in_err-maybe-in-Each-2 : goal.step-returns-in_err-maybe-in-Each-2
+step-returns-in_err-maybe-in-Each-2 t c =
+    let s = site_of c.args.at.now in
+    let here = site_of c.inline-inner.result in
+    let before = state c.args.said.now c.args.lets.now in
+    let second = state c.maybe.new.said c.maybe.new.lets in
+    let last = state c.maybe-in-Each.new.said c.maybe-in-Each.new.lets in
+    let filter = option_map tree c.in-Each.filter in
+    let gives = option_map tree c.in-Each.project in
+    let part : step_part c.args.item.now ≡ each filter gives =
+    ap step_part c.in-Each.is ∙ of_each c.in-Each.filter c.in-Each.project in
+    let is : c.maybe-in-Each.result ≡ Err c.in_err-maybe-in-Each-2.field-0.0 = search rules in
+    let is' : c.from_residual-in_err-maybe-in-Each-2.result ≡ Err c.in_err-maybe-in-Each-2.field-0.0 = search rules in
+    subst (λ p. Walks step_part (walk.step s p before) c.from_residual-in_err-maybe-in-Each-2.result last) (sym part)
+    (each_has_fault (option_map tree) step_part s here filter gives (option_map tree c.in_ok-maybe-in-Each.field-0)
+    before second last c.maybe-in-Each.result c.from_residual-in_err-maybe-in-Each-2.result
+    c.in_err-maybe-in-Each-2.field-0.0 c.inline-inner.ensures c.in_ok-maybe-in-Each.ensures is is'
+    c.maybe-in-Each.ensures)
+
+pub into_some-returns-in-Some : goal.into_some-returns-in-Some
+into_some-returns-in-Some t c =
+    let i = c.args.into.now in
+    let f : Into → Option IntoPart × Names = λ x. (Some (into_part x), c.into_expr.new.behind) in
+    let before = state c.args.said.now c.args.lets.now in
+    let after = state c.into_expr.new.said c.into_expr.new.lets in
+    let h = into_given f (site_of c.args.at.now) c.args.behind.now i.var _ _ _ _ before c.into_expr.result after
+    (ap (option_map tree) c.in-Some.is) c.as_slice.ensures c.into_expr.ensures in
+    let h' = subst (λ p. Walks f (walk.into_walk (site_of c.args.at.now) c.args.behind.now (into_tree (Some p)) before)
+    c.into_expr.result after) (sym (into_parts_of i)) h in
+    search (rules, h')
+
+pub let_clause-returns-in-Sub-clause-clause : goal.let_clause-returns-in-Sub-clause-clause
+let_clause-returns-in-Sub-clause-clause t c =
+    let query = query_tree c.deref.result.now in
+    let is : tree c.args.value.now ≡ subquery query =
+    ap tree c.in-Sub.is ∙ of_query c.in-Sub.query ∙ ap (λ q. subquery (query_tree q)) (sym c.deref.ensures) in
+    let h = let_of_query (λ c'. (clause_tree c', c.let_subquery.new.scope.own))
+    (site_within c.args.at.now c.args.scope.now)
+    c.args.var.now (tree c.args.value.now) query c.args.said.now (map clause_tree c.args.lets.now)
+    c.let_subquery.result c.let_subquery.new.said is c.let_subquery.ensures.clause in
+    search (rules, h)
+
+pub let_clause-returns-in_default : goal.let_clause-returns-in_default
+let_clause-returns-in_default t c =
+    let h = let_of_value (λ c'. (clause_tree c', c.let_value.new.scope.own))
+    (site_within c.args.at.now c.args.scope.now) c.args.var.now (tree c.args.value.now)
+    (state c.args.said.now c.args.lets.now) c.let_value.result (state c.let_value.new.said c.let_value.new.lets)
+    (no_query c.args.value.now c.in_default.not-Sub) c.let_value.ensures.clause in
+    record { clause = search (rules, h); outer = c.let_value.ensures.outer }
+
+pub walk_clause-returns-in_err-parts-clause-clause : goal.walk_clause-returns-in_err-parts-clause-clause
+walk_clause-returns-in_err-parts-clause-clause t c =
+    let s = site_within c.args.at.now c.args.scope.now in
+    let part = traversal_part c.args.traversal.now in
+    let by_part = walk_parts_of c.args.traversal.now in
+    let new : new_names (seen (place s)) [] (walk_vars part.0) ≡ None =
+    ap (λ p. new_names (seen (place s)) [] (walk_vars p.0)) by_part ∙ c.in_ok-check_walk_vars.ensures in
+    let depth : unless (nat_le part.0.min part.0.max) (BadOption (codes "depth")) ≡ None =
+    ap (λ p. unless (nat_le p.0.min p.0.max) (BadOption (codes "depth"))) by_part ∙ c.in_ok-check_depth.ensures in
+    let is : c.walk_parts.result ≡ Err c.in_err-parts.field-0.0 = search rules in
+    let is' : c.from_residual-in_err-parts.result ≡ Err c.in_err-parts.field-0.0 = search rules in
+    let last = state c.walk_parts.new.said c.walk_parts.new.lets in
+    let h = walk_has_fault s part.0 part.1 part.2 (maybe part.3) (members part.4) c.args.said.now
+    c.declare_walk.new.said (map clause_tree c.args.lets.now) c.in_ok-vars.vars.behind new depth
+    c.in_ok-vars.ensures.said c.in_ok-vars.ensures.behind (λ c'. (clause_tree c', c.args.scope.now.own))
+    (λ p. (tree p.start, option_map tree p.prune, p.written)) c.walk_parts.result
+    c.from_residual-in_err-parts.result c.in_err-parts.field-0.0 last last is is' c.walk_parts.ensures in
+    search (rules, h)
+
+pub walk_clause-returns-clause-clause : goal.walk_clause-returns-clause-clause
+walk_clause-returns-clause-clause t c =
+    let s = site_within c.args.at.now c.args.scope.now in
+    let part = traversal_part c.args.traversal.now in
+    let by_part = walk_parts_of c.args.traversal.now in
+    let new : new_names (seen (place s)) [] (walk_vars part.0) ≡ None =
+    ap (λ p. new_names (seen (place s)) [] (walk_vars p.0)) by_part ∙ c.in_ok-check_walk_vars.ensures in
+    let depth : unless (nat_le part.0.min part.0.max) (BadOption (codes "depth")) ≡ None =
+    ap (λ p. unless (nat_le p.0.min p.0.max) (BadOption (codes "depth"))) by_part ∙ c.in_ok-check_depth.ensures in
+    let parts = c.in_ok-parts.parts in
+    let vars = c.in_ok-vars.vars in
+    let last = state c.walk_parts.new.said c.walk_parts.new.lets in
+    let options = walk.written_options (members part.4) part.0.options parts.written in
+    let clause : clause_tree c.in_ok-scoped.scoped
+    ≡ for_paths (walk.walk_with options (numbered_walk (next c.args.said.now) part.0)) (tree parts.start) part.2
+    (maybe (option_map tree parts.prune)) no_members =
+    c.in_ok-scoped.ensures
+    ∙ ap (λ w. for_paths w (tree parts.start) part.2 (maybe (option_map tree parts.prune)) no_members)
+    (shape_is part.0 (next c.args.said.now) options vars.vertex vars.edge vars.path c.in_ok-vars.ensures.vars.0
+    c.in_ok-vars.ensures.vars.1 c.in_ok-vars.ensures.vars.2) in
+    let h : walk.clause s (walked part) (state c.args.said.now c.args.lets.now)
+    ≡ Ok ((clause_tree c.in_ok-scoped.scoped, vars.behind), last) =
+    walk_has_parts s part.0 part.1 part.2 (maybe part.3) (members part.4) c.args.said.now
+    c.declare_walk.new.said (map clause_tree c.args.lets.now) vars.behind new depth
+    c.in_ok-vars.ensures.said c.in_ok-vars.ensures.behind
+    (tree parts.start, option_map tree parts.prune, parts.written) last c.in_ok-parts.ensures
+    ∙ ap (λ (t : ClauseTree). Ok ((t, vars.behind), last)) (sym clause) in
+    search (rules, h)
+
+pub walk_parts-returns-in_err-written : goal.walk_parts-returns-in_err-written
+walk_parts-returns-in_err-written t c =
+    let s = site_within c.args.at.now c.args.scope.now in
+    let part = traversal_part c.args.traversal.now in
+    let by_part = walk_parts_of c.args.traversal.now in
+    let here = site_of c.within.result in
+    let inner = site_of c.inline.result in
+    let narrow = inline_site (with_own c.args.behind.now s) in
+    let first = state c.args.said.now c.args.lets.now in
+    let second = state c.expr.new.said c.expr.new.lets in
+    let third = state c.pruned.new.said c.pruned.new.lets in
+    let last = state c.written_options.new.said c.written_options.new.lets in
+    let found : walk.expr here part.1 first ≡ Ok (tree c.in_ok-start.start, second) =
+    ap (λ p. walk.expr here p.1 first) by_part ∙ c.in_ok-start.ensures in
+    let edges : edge_collections s.held part.2 ≡ None =
+    ap (λ p. edge_collections s.held p.2) by_part ∙ ap (edge_collections s.held) (sym c.as_slice.ensures)
+    ∙ c.in_ok-check_edges.ensures in
+    let pruned : walk.maybe narrow (maybe part.3) second ≡ Ok (option_map tree c.in_ok-prune.prune, third) =
+    ap (λ p. walk.maybe narrow (maybe p.3) second) by_part ∙ c.in_ok-prune.ensures in
+    let is : c.written_options.result ≡ Err c.in_err-written.field-0.0 = search rules in
+    let is' : c.from_residual-in_err-written.result ≡ Err c.in_err-written.field-0.0 = search rules in
+    let written : Walks (λ w. w) (walk.settings inner unwritten (members part.4) third) c.written_options.result last =
+    subst (λ p. Walks (λ w. w) (walk.settings inner unwritten (members p.4) third) c.written_options.result last)
+    (sym by_part) c.written_options.ensures in
+    let h = settings_have_fault (λ p. (tree p.start, option_map tree p.prune, p.written)) (λ w. w) s c.args.behind.now
+    part.1 part.2 (maybe part.3) (members part.4) first second third last here inner (tree c.in_ok-start.start)
+    (option_map tree c.in_ok-prune.prune) c.written_options.result c.from_residual-in_err-written.result
+    c.in_err-written.field-0.0 c.within.ensures (c.inline.ensures ∙ ap inline_site c.within-2.ensures) found edges
+    pruned is is' written in
+    search (rules, h)

@@ -1,0 +1,4 @@
+pub mod Options
+pub mod Faults
+pub mod Walk
+pub mod Scoping

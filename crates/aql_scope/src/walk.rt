@@ -1,0 +1,761 @@
+//! Expressions, queries and their clauses: one walk in the order of the text.
+
+ghost use Rattle.std.specs.Prelude.{◌≡◌, [], map, option_map, Some, IfOk};
+ghost use Rattle.aql_tree.specs.Tree as spec;
+ghost use Rattle.aql_tree.specs.View.{tree, trees, maybe as maybe_tree, members as member_trees, clause_tree};
+ghost use Rattle.aql_tree.specs.View.{steps as step_trees, links as link_trees, step_part, member_part};
+ghost use Rattle.aql_tree.specs.View.{link_part, key_part, let_part, aggregate_part, into_part, query_tree};
+ghost use Rattle.aql_tree.specs.View.{aggregates as aggregate_trees, into_tree, traversal_part, walked, grouped, collect_part};
+ghost use Rattle.aql_tree.specs.View.{options_part};
+ghost use Rattle.aql_scope.specs.Walk as walk;
+ghost use Rattle.aql_scope.specs.Walk.{for_listed, let_valued};
+ghost use Rattle.aql_scope.specs.Walk.{Walks, site_of, site_within, state};
+ghost use Rattle.aql_scope.specs.Options.{unwritten};
+
+use crate::ScopeFault;
+use crate::checks::{
+    check_aggregate, check_args, check_collections, check_edges, check_kept, check_new,
+};
+use crate::clauses::{
+    WalkParts, check_depth, check_setting, check_walk_vars, copy_texts, declare_walk,
+    documents_clause, for_name, into_names, single_name, walk_of,
+};
+use crate::names::{At, NameList, Scope, copy_ident, declare, written};
+use crate::options::Written;
+use aql_tree::{
+    AggregateItem, Aggregates, Clause, Clauses, Collect, Expr, Exprs, Field, Fields, Ident, Into,
+    Key, Keys, Let, Lets, Link, Links, Options, Query, Step, Steps, Traversal,
+};
+use aql_value::{Names, Seq, Text, copy};
+
+// A variable by its number.
+fn variable(at: &At<'_>, ident: &Ident) -> Result<Expr, ScopeFault>
+    ensures { (st : walk.State) → Walks tree
+        (walk.expr (site_of at.now) (spec.variable ident.now) st) result st }
+{
+    match at.scope.find(ident) {
+        Some(number) => Ok(Expr::Var(Ident::Num(number))),
+        None => Err(ScopeFault::UnknownName {
+            name: written(at.alloc, ident)?,
+        }),
+    }
+}
+
+#[cycle(walk)]
+pub fn expr(
+    expr: &Expr,
+    at: &At<'_>,
+    said: &mut Names,
+    lets: &mut Clauses,
+) -> Result<Expr, ScopeFault>
+    ensures { Walks tree (walk.expr (site_of at.now) (tree expr.now) (state said.old lets.old))
+        result (state said.new lets.new) }
+{
+    let alloc = at.alloc;
+    match expr {
+        Expr::Lit(value) => Ok(Expr::Lit(copy(alloc, value)?)),
+        Expr::Var(ident) => variable(at, ident),
+        Expr::Current => Ok(Expr::Current),
+        Expr::List(items) => Ok(Expr::List(exprs(items.as_slice(), at, said, lets)?)),
+        Expr::Object(fields) => Ok(Expr::Object(members(fields.as_slice(), at, said, lets)?)),
+        Expr::Call { name, args } => called(args.as_slice(), name, at, said, lets),
+        Expr::Quant {
+            left,
+            kind,
+            op,
+            right,
+        } => Ok(Expr::Quant {
+            left: boxed(left, at, said, lets)?,
+            kind: *kind,
+            op: *op,
+            right: boxed(right, at, said, lets)?,
+        }),
+        Expr::Range { low, high } => Ok(Expr::Range {
+            low: boxed(low, at, said, lets)?,
+            high: boxed(high, at, said, lets)?,
+        }),
+        Expr::Access { of, steps } => Ok(Expr::Access {
+            of: boxed(of, at, said, lets)?,
+            steps: access_steps(steps.as_slice(), at, said, lets)?,
+        }),
+        Expr::Unary { op, of } => Ok(Expr::Unary {
+            op: *op,
+            of: boxed(of, at, said, lets)?,
+        }),
+        Expr::Chain { first, rest } => Ok(Expr::Chain {
+            first: boxed(first, at, said, lets)?,
+            rest: links(rest.as_slice(), at, said, lets)?,
+        }),
+        Expr::Cond { test, yes, no } => Ok(Expr::Cond {
+            test: boxed(test, at, said, lets)?,
+            yes: match yes {
+                Some(yes) => Some(boxed(yes, at, said, lets)?),
+                None => None,
+            },
+            no: boxed(no, at, said, lets)?,
+        }),
+        Expr::Sub(query) => lifted(query, at, said, lets),
+    }
+}
+
+// A call, judged at the function's name before its arguments.
+#[cycle(walk)]
+fn called(
+    args: &[Expr],
+    name: &Text,
+    at: &At<'_>,
+    said: &mut Names,
+    lets: &mut Clauses,
+) -> Result<Expr, ScopeFault>
+    ensures { Walks tree (walk.expr (site_of at.now) (spec.called name.now (trees (map tree args.now)))
+        (state said.old lets.old)) result (state said.new lets.new) }
+{
+    check_args(at.alloc, name, args)?;
+    let name = name.copy(at.alloc)?;
+    let args = exprs(args, at, said, lets)?;
+    Ok(Expr::Call { name, args })
+}
+
+// A subquery, in a LET of its own before the clause.
+#[cycle(walk)]
+fn lifted(
+    query: &Query,
+    at: &At<'_>,
+    said: &mut Names,
+    lets: &mut Clauses,
+) -> Result<Expr, ScopeFault>
+    ensures { Walks tree
+        (walk.expr (site_of at.now) (spec.subquery (query_tree query.now)) (state said.old lets.old))
+        result (state said.new lets.new) }
+{
+    if !at.lifts {
+        return Err(ScopeFault::SubqueryNotAllowed);
+    }
+    let number = declare(said, Text::new(at.alloc, "sub")?)?;
+    let inner = query_within(query, at, said)?;
+    lets.push(Clause::Let {
+        var: Ident::Num(number),
+        expr: Expr::Sub(Box::new(at.alloc, inner)?),
+    })?;
+    Ok(Expr::Var(Ident::Num(number)))
+}
+
+#[cycle(walk)]
+fn boxed(
+    inner: &Expr,
+    at: &At<'_>,
+    said: &mut Names,
+    lets: &mut Clauses,
+) -> Result<Box<Expr>, ScopeFault>
+    ensures { Walks (λ b. tree b.value)
+        (walk.expr (site_of at.now) (tree inner.now) (state said.old lets.old))
+        result (state said.new lets.new) }
+{
+    let scoped = expr(inner, at, said, lets)?;
+    Ok(Box::new(at.alloc, scoped)?)
+}
+
+#[cycle(walk)]
+fn maybe(
+    inner: &Option<Expr>,
+    at: &At<'_>,
+    said: &mut Names,
+    lets: &mut Clauses,
+) -> Result<Option<Expr>, ScopeFault>
+    ensures { Walks (option_map tree)
+        (walk.maybe (site_of at.now) (maybe_tree (option_map tree inner.now)) (state said.old lets.old))
+        result (state said.new lets.new) }
+{
+    match inner {
+        Some(inner) => Ok(Some(expr(inner, at, said, lets)?)),
+        None => Ok(None),
+    }
+}
+
+#[cycle(walk)]
+fn exprs(
+    all: &[Expr],
+    at: &At<'_>,
+    said: &mut Names,
+    lets: &mut Clauses,
+) -> Result<Exprs, ScopeFault>
+    ensures { Walks (map tree)
+        (walk.exprs (site_of at.now) [] (trees (map tree all.now)) (state said.old lets.old))
+        result (state said.new lets.new) }
+{
+    let mut found = Seq::new(at.alloc);
+    for item in all {
+        found.push(expr(item, at, said, lets)?)?;
+    }
+    Ok(found)
+}
+
+#[cycle(walk)]
+fn members(
+    all: &[Field],
+    at: &At<'_>,
+    said: &mut Names,
+    lets: &mut Clauses,
+) -> Result<Fields, ScopeFault>
+    ensures { Walks (map member_part)
+        (walk.members (site_of at.now) [] (member_trees (map member_part all.now))
+        (state said.old lets.old)) result (state said.new lets.new) }
+{
+    let mut found = Seq::new(at.alloc);
+    for item in all {
+        let member = match item {
+            Field::Named { name, value } => Field::Named {
+                name: name.copy(at.alloc)?,
+                value: expr(value, at, said, lets)?,
+            },
+            Field::Computed { name, value } => Field::Computed {
+                name: expr(name, at, said, lets)?,
+                value: expr(value, at, said, lets)?,
+            },
+        };
+        found.push(member)?;
+    }
+    Ok(found)
+}
+
+#[cycle(walk)]
+fn access_steps(
+    all: &[Step],
+    at: &At<'_>,
+    said: &mut Names,
+    lets: &mut Clauses,
+) -> Result<Steps, ScopeFault>
+    ensures { Walks (map step_part)
+        (walk.steps (site_of at.now) [] (step_trees (map step_part all.now))
+        (state said.old lets.old)) result (state said.new lets.new) }
+{
+    let mut found = Seq::new(at.alloc);
+    for item in all {
+        found.push(step(item, at, said, lets)?)?;
+    }
+    Ok(found)
+}
+
+#[cycle(walk)]
+fn step(item: &Step, at: &At<'_>, said: &mut Names, lets: &mut Clauses) -> Result<Step, ScopeFault>
+    ensures { Walks step_part (walk.step (site_of at.now) (step_part item.now)
+        (state said.old lets.old)) result (state said.new lets.new) }
+{
+    match item {
+        Step::Name(name) => Ok(Step::Name(name.copy(at.alloc)?)),
+        Step::At(place) => Ok(Step::At(expr(place, at, said, lets)?)),
+        Step::Each { filter, project } => {
+            let inner = at.inline();
+            Ok(Step::Each {
+                filter: maybe(filter, &inner, said, lets)?,
+                project: maybe(project, &inner, said, lets)?,
+            })
+        }
+    }
+}
+
+#[cycle(walk)]
+fn links(
+    all: &[Link],
+    at: &At<'_>,
+    said: &mut Names,
+    lets: &mut Clauses,
+) -> Result<Links, ScopeFault>
+    ensures { Walks (map link_part)
+        (walk.links (site_of at.now) [] (link_trees (map link_part all.now))
+        (state said.old lets.old)) result (state said.new lets.new) }
+{
+    let mut found = Seq::new(at.alloc);
+    for item in all {
+        found.push(Link {
+            op: item.op,
+            right: expr(&item.right, at, said, lets)?,
+        })?;
+    }
+    Ok(found)
+}
+
+// A query among the names that are visible where it stands.
+#[cycle(walk)]
+pub fn query_within(query: &Query, at: &At<'_>, said: &mut Names) -> Result<Query, ScopeFault>
+    ensures { Walks query_tree
+        (walk.query_walk at.now.catalog.now (walk.visible (site_of at.now)) (query_tree query.now) said.old)
+        result said.new }
+{
+    let alloc = at.alloc;
+    check_collections(alloc, at.catalog, query.with.as_slice())?;
+    let mut scope = Scope {
+        own: NameList::new(alloc),
+        outer: at.scope.visible(alloc)?,
+    };
+    let mut done = Seq::new(alloc);
+    for item in query.clauses.as_slice() {
+        let scoped = clause(item, at, &mut scope, said, &mut done)?;
+        done.push(scoped)?;
+    }
+    let inner = at.within(&scope);
+    let result = boxed(&query.result, &inner, said, &mut done)?;
+    Ok(Query {
+        with: copy_texts(alloc, query.with.as_slice())?,
+        clauses: done,
+        distinct: query.distinct,
+        result,
+    })
+}
+
+// A clause, where `at` gives the catalog; the query's own names are then those behind it.
+#[tactic(auto, using(crate::proofs::Words::collection_clause))]
+#[cycle(walk)]
+fn clause(
+    item: &Clause,
+    at: &At<'_>,
+    scope: &mut Scope,
+    said: &mut Names,
+    lets: &mut Clauses,
+) -> Result<Clause, ScopeFault>
+    ensures clause { Walks (λ c. (clause_tree c, scope.new.own))
+        (walk.clause (site_within at.now scope.old) (clause_tree item.now) (state said.old lets.old))
+        result (state said.new lets.new) }
+    ensures outer { scope.new.outer ≡ scope.old.outer }
+{
+    match item {
+        Clause::For { var, list } => for_clause(list, var, at, scope, said, lets),
+        Clause::ForDocs { var, collection } => documents_clause(var, collection, at, scope, said),
+        Clause::Walk(traversal) => walk_clause(traversal, at, scope, said, lets),
+        Clause::Filter(test) => Ok(Clause::Filter(expr(test, &at.within(scope), said, lets)?)),
+        Clause::Let { var, expr } => let_clause(expr, var, at, scope, said, lets),
+        Clause::Sort(keys) => {
+            Ok(Clause::Sort(sort_keys(keys.as_slice(), &at.within(scope), said, lets)?))
+        }
+        Clause::Limit { offset, count } => Ok(Clause::Limit {
+            offset: *offset,
+            count: *count,
+        }),
+        Clause::Collect(collect) => collect_clause(collect, at, scope, said, lets),
+    }
+}
+
+// FOR over an expression, a variable or a collection.
+#[tactic(auto, using(crate::proofs::Words::for_by_name, crate::proofs::Words::for_by_list))]
+#[cycle(walk)]
+fn for_clause(
+    list: &Expr,
+    var: &Ident,
+    at: &At<'_>,
+    scope: &mut Scope,
+    said: &mut Names,
+    lets: &mut Clauses,
+) -> Result<Clause, ScopeFault>
+    ensures clause { Walks (λ c. (clause_tree c, scope.new.own))
+        (walk.clause (site_within at.now scope.old) (spec.for_each var.now (tree list.now))
+        (state said.old lets.old)) result (state said.new lets.new) }
+    ensures outer { scope.new.outer ≡ scope.old.outer }
+{
+    match single_name(list) {
+        Some(name) => for_name(var, name, at, scope, said),
+        None => for_list(list, var, at, scope, said, lets),
+    }
+}
+
+// FOR over any other expression.
+#[cycle(walk)]
+fn for_list(
+    list: &Expr,
+    var: &Ident,
+    at: &At<'_>,
+    scope: &mut Scope,
+    said: &mut Names,
+    lets: &mut Clauses,
+) -> Result<Clause, ScopeFault>
+    ensures clause { Walks (λ c. (clause_tree c, scope.new.own))
+        (for_listed (site_within at.now scope.old) var.now (tree list.now)
+        (state said.old lets.old)) result (state said.new lets.new) }
+    ensures outer { scope.new.outer ≡ scope.old.outer }
+{
+    check_new(at.alloc, scope, &NameList::new(at.alloc), var)?;
+    let number = declare(said, written(at.alloc, var)?)?;
+    let list = expr(list, &at.within(scope), said, lets)?;
+    scope.own.push(copy_ident(at.alloc, var)?, number)?;
+    Ok(Clause::For {
+        var: Ident::Num(number),
+        list,
+    })
+}
+
+// LET.
+#[tactic(auto, using(crate::proofs::Words::lifted_clause))]
+#[cycle(walk)]
+fn let_clause(
+    value: &Expr,
+    var: &Ident,
+    at: &At<'_>,
+    scope: &mut Scope,
+    said: &mut Names,
+    lets: &mut Clauses,
+) -> Result<Clause, ScopeFault>
+    ensures clause { Walks (λ c. (clause_tree c, scope.new.own))
+        (walk.clause (site_within at.now scope.old) (spec.define var.now (tree value.now))
+        (state said.old lets.old)) result (state said.new lets.new) }
+    ensures outer { scope.new.outer ≡ scope.old.outer }
+{
+    match value {
+        Expr::Sub(query) => let_subquery(query, var, at, scope, said),
+        _ => let_value(value, var, at, scope, said, lets),
+    }
+}
+
+// LET of a subquery, which stays there.
+#[cycle(walk)]
+fn let_subquery(
+    query: &Query,
+    var: &Ident,
+    at: &At<'_>,
+    scope: &mut Scope,
+    said: &mut Names,
+) -> Result<Clause, ScopeFault>
+    ensures clause { Walks (λ c. (clause_tree c, scope.new.own))
+        (walk.let_lifted (site_within at.now scope.old) var.now (query_tree query.now) said.old)
+        result said.new }
+    ensures outer { scope.new.outer ≡ scope.old.outer }
+{
+    check_new(at.alloc, scope, &NameList::new(at.alloc), var)?;
+    let number = declare(said, written(at.alloc, var)?)?;
+    let inner = query_within(query, &at.within(scope), said)?;
+    let expr = Expr::Sub(Box::new(at.alloc, inner)?);
+    scope.own.push(copy_ident(at.alloc, var)?, number)?;
+    Ok(Clause::Let {
+        var: Ident::Num(number),
+        expr,
+    })
+}
+
+// LET of any other expression.
+#[cycle(walk)]
+fn let_value(
+    value: &Expr,
+    var: &Ident,
+    at: &At<'_>,
+    scope: &mut Scope,
+    said: &mut Names,
+    lets: &mut Clauses,
+) -> Result<Clause, ScopeFault>
+    ensures clause { Walks (λ c. (clause_tree c, scope.new.own))
+        (let_valued (site_within at.now scope.old) var.now (tree value.now)
+        (state said.old lets.old)) result (state said.new lets.new) }
+    ensures outer { scope.new.outer ≡ scope.old.outer }
+{
+    check_new(at.alloc, scope, &NameList::new(at.alloc), var)?;
+    let number = declare(said, written(at.alloc, var)?)?;
+    let expr = expr(value, &at.within(scope), said, lets)?;
+    scope.own.push(copy_ident(at.alloc, var)?, number)?;
+    Ok(Clause::Let {
+        var: Ident::Num(number),
+        expr,
+    })
+}
+
+// A traversal: its names are visible in its PRUNE, and not in its OPTIONS.
+#[tactic(auto, using(crate::proofs::Words::paths_clause))]
+#[cycle(walk)]
+fn walk_clause(
+    traversal: &Traversal,
+    at: &At<'_>,
+    scope: &mut Scope,
+    said: &mut Names,
+    lets: &mut Clauses,
+) -> Result<Clause, ScopeFault>
+    ensures clause { Walks (λ c. (clause_tree c, scope.new.own))
+        (walk.clause (site_within at.now scope.old) (walked (traversal_part traversal.now))
+        (state said.old lets.old)) result (state said.new lets.new) }
+    ensures outer { scope.new.outer ≡ scope.old.outer }
+{
+    check_walk_vars(at.alloc, scope, traversal)?;
+    check_depth(at.alloc, traversal)?;
+    let vars = declare_walk(at.alloc, traversal, &scope.own, said)?;
+    let parts = walk_parts(traversal, at, scope, &vars.behind, said, lets)?;
+    let scoped = walk_of(
+        at.alloc,
+        traversal,
+        vars.vertex,
+        vars.edge,
+        vars.path,
+        parts,
+    )?;
+    scope.own = vars.behind;
+    Ok(scoped)
+}
+
+// The parts of a traversal, where `behind` are the names that its PRUNE sees.
+#[cycle(walk)]
+fn walk_parts(
+    traversal: &Traversal,
+    at: &At<'_>,
+    scope: &Scope,
+    behind: &NameList,
+    said: &mut Names,
+    lets: &mut Clauses,
+) -> Result<WalkParts, ScopeFault>
+    ensures { Walks (λ p. (tree p.start, option_map tree p.prune, p.written))
+        (walk.walk_parts (site_within at.now scope.now) behind.now (traversal_part traversal.now).1
+        (traversal_part traversal.now).2 (maybe_tree (traversal_part traversal.now).3)
+        (member_trees (traversal_part traversal.now).4) (state said.old lets.old))
+        result (state said.new lets.new) }
+{
+    let start = expr(&traversal.start, &at.within(scope), said, lets)?;
+    check_edges(at.alloc, at.catalog, traversal.collections.as_slice())?;
+    let prune = pruned(&traversal.prune, at, scope, behind, said, lets)?;
+    let written = written_options(&traversal.options, &at.within(scope).inline(), said, lets)?;
+    Ok(WalkParts {
+        start,
+        prune,
+        written,
+    })
+}
+
+#[cycle(walk)]
+fn written_options(
+    options: &Options,
+    at: &At<'_>,
+    said: &mut Names,
+    lets: &mut Clauses,
+) -> Result<Written, ScopeFault>
+    ensures { Walks (λ w. w)
+        (walk.settings (site_of at.now) unwritten (member_trees (options_part options.now).0)
+        (state said.old lets.old)) result (state said.new lets.new) }
+{
+    written_settings(options.settings.as_slice(), at, said, lets)
+}
+
+// PRUNE, which sees the names of its traversal.
+#[cycle(walk)]
+fn pruned(
+    prune: &Option<Expr>,
+    at: &At<'_>,
+    scope: &Scope,
+    behind: &NameList,
+    said: &mut Names,
+    lets: &mut Clauses,
+) -> Result<Option<Expr>, ScopeFault>
+    ensures { Walks (option_map tree)
+        (walk.maybe (walk.inline_site (walk.with_own behind.now (site_within at.now scope.now)))
+        (maybe_tree (option_map tree prune.now)) (state said.old lets.old))
+        result (state said.new lets.new) }
+{
+    let around = scope.with_own(at.alloc, behind)?;
+    maybe(prune, &at.within(&around).inline(), said, lets)
+}
+
+// What the settings of a traversal write.
+#[cycle(walk)]
+fn written_settings(
+    all: &[Field],
+    at: &At<'_>,
+    said: &mut Names,
+    lets: &mut Clauses,
+) -> Result<Written, ScopeFault>
+    ensures { Walks (λ w. w)
+        (walk.settings (site_of at.now) unwritten (member_trees (map member_part all.now))
+        (state said.old lets.old)) result (state said.new lets.new) }
+{
+    let mut found = Written::nothing();
+    for item in all {
+        match item {
+            Field::Named { name, value } => {
+                expr(value, at, said, lets)?;
+                found = check_setting(at.alloc, found, name, value)?;
+            }
+            Field::Computed { name, value } => {
+                expr(name, at, said, lets)?;
+                expr(value, at, said, lets)?;
+                return Err(ScopeFault::BadOption {
+                    name: Text::new(at.alloc, "computed")?,
+                });
+            }
+        }
+    }
+    if !found.fits() {
+        return Err(ScopeFault::BadOption {
+            name: Text::new(at.alloc, "uniqueVertices")?,
+        });
+    }
+    Ok(found)
+}
+
+#[cycle(walk)]
+fn sort_keys(
+    all: &[Key],
+    at: &At<'_>,
+    said: &mut Names,
+    lets: &mut Clauses,
+) -> Result<Keys, ScopeFault>
+    ensures keys { Walks (λ ks. map (λ k. k.0) (map key_part ks))
+        (walk.exprs (site_of at.now) [] (trees (map (λ k. k.0) (map key_part all.now)))
+        (state said.old lets.old)) result (state said.new lets.new) }
+    ensures directions { IfOk result (λ ks. map (λ k. k.1) (map key_part ks)
+        ≡ map (λ k. k.1) (map key_part all.now)) }
+{
+    let mut found = Seq::new(at.alloc);
+    for item in all {
+        found.push(Key {
+            expr: expr(&item.expr, at, said, lets)?,
+            descending: item.descending,
+        })?;
+    }
+    Ok(found)
+}
+
+// COLLECT: behind it only its own names are left.
+#[cycle(walk)]
+fn collect_clause(
+    collect: &Collect,
+    at: &At<'_>,
+    scope: &mut Scope,
+    said: &mut Names,
+    lets: &mut Clauses,
+) -> Result<Clause, ScopeFault>
+    ensures clause { Walks (λ c. (clause_tree c, scope.new.own))
+        (walk.clause (site_within at.now scope.old) (grouped (collect_part collect.now))
+        (state said.old lets.old)) result (state said.new lets.new) }
+    ensures outer { scope.new.outer ≡ scope.old.outer }
+{
+    let mut behind = NameList::new(at.alloc);
+    let site = at.within(scope);
+    let groups = criteria(collect.groups.as_slice(), &site, &mut behind, said, lets)?;
+    let found = aggregates(
+        collect.aggregates.as_slice(),
+        &site,
+        &mut behind,
+        said,
+        lets,
+    )?;
+    let into = into_part_of(&collect.into, &site, &mut behind, said, lets)?;
+    scope.own = behind;
+    Ok(Clause::Collect(Collect {
+        groups,
+        aggregates: found,
+        into,
+    }))
+}
+
+#[cycle(walk)]
+fn criteria(
+    all: &[Let],
+    at: &At<'_>,
+    behind: &mut NameList,
+    said: &mut Names,
+    lets: &mut Clauses,
+) -> Result<Lets, ScopeFault>
+    ensures { Walks (λ ls. (map (λ l. l.0) (map let_part ls), map (λ l. l.1) (map let_part ls), behind.new))
+        (walk.criteria (site_of at.now) behind.old [] [] (map (λ l. l.0) (map let_part all.now))
+        (trees (map (λ l. l.1) (map let_part all.now))) (state said.old lets.old))
+        result (state said.new lets.new) }
+{
+    let mut found = Seq::new(at.alloc);
+    for item in all {
+        check_new(at.alloc, at.scope, behind, &item.var)?;
+        let number = declare(said, written(at.alloc, &item.var)?)?;
+        let value = expr(&item.expr, at, said, lets)?;
+        behind.push(copy_ident(at.alloc, &item.var)?, number)?;
+        found.push(Let {
+            var: Ident::Num(number),
+            expr: value,
+        })?;
+    }
+    Ok(found)
+}
+
+#[cycle(walk)]
+fn aggregates(
+    all: &[AggregateItem],
+    at: &At<'_>,
+    behind: &mut NameList,
+    said: &mut Names,
+    lets: &mut Clauses,
+) -> Result<Aggregates, ScopeFault>
+    ensures { Walks (λ gs. (map aggregate_part gs, behind.new))
+        (walk.aggregates (site_of at.now) behind.old [] (aggregate_trees (map aggregate_part all.now))
+        (state said.old lets.old)) result (state said.new lets.new) }
+{
+    let mut found = Seq::new(at.alloc);
+    for item in all {
+        check_new(at.alloc, at.scope, behind, &item.var)?;
+        check_aggregate(at.alloc, &item.name, &item.arg)?;
+        let number = declare(said, written(at.alloc, &item.var)?)?;
+        let arg = maybe(&item.arg, at, said, lets)?;
+        behind.push(copy_ident(at.alloc, &item.var)?, number)?;
+        found.push(AggregateItem {
+            var: Ident::Num(number),
+            name: item.name.copy(at.alloc)?,
+            arg,
+        })?;
+    }
+    Ok(found)
+}
+
+// INTO, always with its expression.
+#[cycle(walk)]
+fn into_part_of(
+    into: &Option<Into>,
+    at: &At<'_>,
+    behind: &mut NameList,
+    said: &mut Names,
+    lets: &mut Clauses,
+) -> Result<Option<Into>, ScopeFault>
+    ensures { Walks (λ i. (option_map into_part i, behind.new))
+        (walk.into_walk (site_of at.now) behind.old (into_tree (option_map into_part into.now))
+        (state said.old lets.old)) result (state said.new lets.new) }
+{
+    match into {
+        Some(into) => Ok(Some(into_some(into, at, behind, said, lets)?)),
+        None => Ok(None),
+    }
+}
+
+#[tactic(auto, using(crate::proofs::Words::named_into))]
+#[cycle(walk)]
+fn into_some(
+    into: &Into,
+    at: &At<'_>,
+    behind: &mut NameList,
+    said: &mut Names,
+    lets: &mut Clauses,
+) -> Result<Into, ScopeFault>
+    ensures { Walks (λ i. (Some (into_part i), behind.new))
+        (walk.into_walk (site_of at.now) behind.old (into_tree (Some (into_part into.now)))
+        (state said.old lets.old)) result (state said.new lets.new) }
+{
+    match &into.what {
+        Some(what) => into_expr(
+            what,
+            &into.var,
+            into.keep.as_slice(),
+            at,
+            behind,
+            said,
+            lets,
+        ),
+        None => into_names(&into.var, into.keep.as_slice(), at, behind, said),
+    }
+}
+
+#[cycle(walk)]
+fn into_expr(
+    what: &Expr,
+    var: &Ident,
+    keep: &[Text],
+    at: &At<'_>,
+    behind: &mut NameList,
+    said: &mut Names,
+    lets: &mut Clauses,
+) -> Result<Into, ScopeFault>
+    ensures { Walks (λ i. (Some (into_part i), behind.new))
+        (walk.into_walk (site_of at.now) behind.old (spec.into var.now (spec.one_expr (tree what.now)) keep.now)
+        (state said.old lets.old)) result (state said.new lets.new) }
+{
+    check_new(at.alloc, at.scope, behind, var)?;
+    let number = declare(said, written(at.alloc, var)?)?;
+    let what = expr(what, at, said, lets)?;
+    check_kept(at.alloc, &at.scope.own, keep)?;
+    behind.push(copy_ident(at.alloc, var)?, number)?;
+    Ok(Into::new(Ident::Num(number), Some(what), Seq::new(at.alloc)))
+}
