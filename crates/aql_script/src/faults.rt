@@ -71,7 +71,7 @@ pub enum LimitKind {
     /// The query's tokens nest deeper than 64. `load` does not judge this.
     #[error("nesting")]
     Nesting,
-    /// The query has more than 256 clauses. `load` does not judge this.
+    /// The query has more than 256 clause words and `=`. `load` does not judge this.
     #[error("clauses")]
     Clauses,
     /// A traversal of the query goes deeper than 32. `load` does not judge this.

@@ -1,5 +1,3 @@
-pub mod FilterTexts
-pub mod FilterAnswers
 pub mod Loading
+pub mod Answering
 pub mod Ends
-pub mod Places

@@ -1,15 +1,19 @@
 -- What loading a script says of the bytes that the source had left.
 use Rattle.std.proofs.Common.{◌≡◌, ◌≤◌, ℕ, List, [], ◌++◌, Bool, true, false, Option, Some, None, Err, length, nat_le, refl, sym, ap, ◌∙◌, subst, append-nil, arith, length-append}
 use Rattle.std.specs.Prelude.{IfSome}
+use Rattle.std.specs.Io.KnownBytes.{Keeps}
 use Rattle.std.proofs.lemmas.Bool.{false≢true}
-use Rattle.aql_tree.specs.Tree.{QueryTree}
 use Rattle.aql_script.specs.Script.{script, IsScript, HasFault, Loads, IsFaulty, Hinders}
 use Rattle.aql_script.specs.declared.loading.Loaded.{Loaded}
 use Rattle.aql_script.specs.declared.faults.LoadFault.{LoadFault}
 use Rattle.aql_script.specs.declared.faults.LoadFault.TheVariants.{Read, Limit, Line, Memory}
 use Rattle.aql_script.specs.declared.faults.LimitKind.TheVariants.{ScriptBytes}
-use Rattle.aql_top.specs.Forms.{Filters, IsOther, Shows, Accepts, HasOtherQuery, Allows}
-use Rattle.aql_top.specs.Endings.{Faulty, ReadCounts}
+use Rattle.aql_front.specs.Reading.{Refuses}
+use Rattle.aql_top.specs.Forms.{TakesWords, ReadsAs, Answers, IsScriptWith, Accepts, Allows}
+use Rattle.aql_top.specs.Refusals.{HasNoLines}
+use Rattle.aql_top.specs.Endings.{Faulty, ReadCounts, Causes, Counts, Reads, Writes}
+use Rattle.aql_top.specs.declared.ending.Ending.{Ending}
+use Rattle.aql_top.specs.declared.ending.Ending.TheVariants.{Printed, BadWords, NotLoaded, Refused, WriteFault, NoMemory, NotYet}
 
 within : (bytes : List ℕ) → length bytes ≤ 67108864 → nat_le (length bytes) 67108864 ≡ true
 within bytes h = grind (arith, h)
@@ -62,18 +66,56 @@ read_counts Memory before after faults faults' h = tt
 read_counts (Limit kind) before after faults faults' h = tt
 read_counts (Line n kind) before after faults faults' h = tt
 
-module _ (after : Option (List ℕ)) (loaded : Loaded) where
-  pub allowed : (before : Option (List ℕ)) (text : List ℕ) → Loads loaded before after → Shows loaded text
+-- what holds of the script that was loaded holds of that of the bytes
+script_with : (Holds : Loaded → Type 0) (before after : Option (List ℕ)) (loaded : Loaded)
+    → Loads loaded before after → Holds loaded → IfSome before (IsScriptWith Holds)
+script_with Holds None after loaded h k = tt
+script_with Holds (Some bytes) after loaded h k = (loaded, (whole_script (Some bytes) after loaded h, k))
+
+module _ (before after : Option (List ℕ)) (loaded : Loaded) where
+  pub allowed : (text : List ℕ) → Loads loaded before after → Answers loaded text
       → IfSome before (λ bytes. Allows bytes text)
-  allowed None text h s = tt
-  allowed (Some bytes) text h s = (loaded, whole_script (Some bytes) after loaded h, s)
+  allowed text h a = script_with (λ l. Answers l text) before after loaded h a
 
-  pub accepted : (before : Option (List ℕ)) (text : List ℕ) → Loads loaded before after → Shows loaded text
-      → IfSome before Accepts
-  accepted None text h s = tt
-  accepted (Some bytes) text h s = (loaded, whole_script (Some bytes) after loaded h, (s.query, s.filters))
+  pub accepted : Loads loaded before after → ReadsAs loaded true → IfSome before Accepts
+  accepted h r = script_with (λ l. ReadsAs l true) before after loaded h r
 
-  pub other : (before : Option (List ℕ)) → Loads loaded before after → IsOther loaded
-      → IfSome before HasOtherQuery
-  other None h s = tt
-  other (Some bytes) h s = (loaded, whole_script (Some bytes) after loaded h, s)
+  pub no_lines_causes : (e : Ending) (words : List (List ℕ)) → TakesWords words → Loads loaded before after
+      → HasNoLines loaded e → Causes e words before
+  no_lines_causes Printed words t h n = absurd n
+  no_lines_causes BadWords words t h n = absurd n
+  no_lines_causes (NotLoaded fault) words t h n = absurd n
+  no_lines_causes (Refused fault) words t h n =
+      (t, script_with (λ l. Refuses l.catalog l.query fault) before after loaded h n)
+  no_lines_causes WriteFault words t h n = absurd n
+  no_lines_causes NoMemory words t h n = tt
+  no_lines_causes NotYet words t h n = (t, script_with (λ l. ReadsAs l false) before after loaded h n)
+
+module _ (loaded : Loaded) where
+  pub no_lines_counts : (e : Ending) (r r' w w' : ℕ) → HasNoLines loaded e → Counts e r r' w w'
+  no_lines_counts Printed r r' w w' n = absurd n
+  no_lines_counts BadWords r r' w w' n = absurd n
+  no_lines_counts (NotLoaded fault) r r' w w' n = absurd n
+  no_lines_counts (Refused fault) r r' w w' n = tt
+  no_lines_counts WriteFault r r' w w' n = absurd n
+  no_lines_counts NoMemory r r' w w' n = tt
+  no_lines_counts NotYet r r' w w' n = tt
+
+  pub no_lines_reads : (e : Ending) (rest : Option (List ℕ)) → HasNoLines loaded e → Reads e rest
+  no_lines_reads Printed rest n = absurd n
+  no_lines_reads BadWords rest n = absurd n
+  no_lines_reads (NotLoaded fault) rest n = absurd n
+  no_lines_reads (Refused fault) rest n = tt
+  no_lines_reads WriteFault rest n = absurd n
+  no_lines_reads NoMemory rest n = tt
+  no_lines_reads NotYet rest n = tt
+
+  pub no_lines_writes : (e : Ending) (input before after : Option (List ℕ)) → HasNoLines loaded e
+      → Keeps before after → Writes e input before after
+  no_lines_writes Printed input before after n k = absurd n
+  no_lines_writes BadWords input before after n k = absurd n
+  no_lines_writes (NotLoaded fault) input before after n k = absurd n
+  no_lines_writes (Refused fault) input before after n k = k
+  no_lines_writes WriteFault input before after n k = absurd n
+  no_lines_writes NoMemory input before after n k = k
+  no_lines_writes NotYet input before after n k = k

@@ -1,53 +1,45 @@
 -- What the program takes, and which lines it may print for it.
-use Rattle.std.specs.Prelude.{◌≡◌, ℕ, ℤ, List, [], ◌∷◌, ◌++◌, true, is_some, flat_map}
-use Rattle.aql_value.specs.Tree.{Tree}
-use Rattle.aql_value.specs.Json.{json_text}
+use Rattle.std.specs.Prelude.{◌≡◌, ℕ, List, [], ◌∷◌, Bool, true, false, None}
 use Rattle.aql_tree.specs.Tree.{QueryTree}
-use Rattle.aql_meaning.specs.Row.{empty_row}
-use Rattle.aql_meaning.specs.Meaning.{Answer}
-use Rattle.aql_doc.specs.Held.{database}
-use Rattle.aql_doc.specs.Declarations.{place_of}
 use Rattle.aql_script.specs.Script.{IsScript}
 use Rattle.aql_script.specs.declared.loading.Loaded.{Loaded}
-use Rattle.aql_top.specs.Filters.{IsFilter, filter_query}
+use Rattle.aql_lift.specs.Lifting.{scoped}
+use Rattle.aql_scope.specs.Faults.{first_fault}
+use Rattle.aql_front.specs.Reading.{IsWritten, Refuses}
+use Rattle.aql_front.specs.declared.faults.QueryFault.{QueryFault}
+use Rattle.aql_run.specs.Forms.{runs, Shows}
 
 -- the words of the command line: the program's name alone
 abbrev pub TakesWords : List (List ℕ) → Type 0
 TakesWords (name ∷ []) = Unit {0}
 TakesWords _ = ⊥
 
--- the text of the query is a filter over a collection that the script declares, and this is its tree
-pub record Filters (loaded : Loaded) (query : QueryTree) : Type 0 where
-  pub variable : List ℕ
-  pub collection : List ℕ
-  pub attribute : List ℕ
-  pub number : ℤ
-  pub filter : IsFilter loaded.query variable collection attribute number
-  pub declared : is_some (place_of loaded.catalog collection) ≡ true
-  pub tree : query ≡ filter_query variable collection attribute number
-
--- the text of the query is no such filter
-abbrev pub IsOther : Loaded → Type 0
-IsOther loaded = (query : QueryTree) → Filters loaded query → ⊥
-
--- the lines of a list of values: of each its canonical JSON and a line feed
-abbrev pub printed : List Tree → List ℕ
-printed values = flat_map (λ t. json_text t ++ 10 ∷ []) values
-
--- the text is exactly the lines of one answer that the meaning allows
-pub record Shows (loaded : Loaded) (text : List ℕ) : Type 0 where
+-- the text of the script's query spells a query without fault; whether this, once scoped, is of the form that
+-- runs so far
+pub record ReadsAs (loaded : Loaded) (form : Bool) : Type 0 where
   pub query : QueryTree
-  pub filters : Filters loaded query
-  pub values : List Tree
-  pub answer : Answer (database loaded.catalog) query empty_row values
-  pub lines : text ≡ printed values
+  pub is_written : IsWritten loaded.query query
+  pub no_fault : first_fault loaded.catalog query ≡ None
+  pub form_is : runs (scoped [] 1 query).tree ≡ form
 
--- the same of the bytes of a script
+-- the text is exactly the lines of one answer that the meaning allows for the query as it is written
+pub record Answers (loaded : Loaded) (text : List ℕ) : Type 0 where
+  pub query : QueryTree
+  pub is_written : IsWritten loaded.query query
+  pub shows : Shows loaded.catalog query text
+
+-- the bytes are a script of which something holds
+abbrev pub IsScriptWith : (Loaded → Type 0) → List ℕ → Type 0
+IsScriptWith Holds bytes = (loaded : Loaded) × (IsScript bytes loaded × Holds loaded)
+
 abbrev pub Accepts : List ℕ → Type 0
-Accepts bytes = (loaded : Loaded) × IsScript bytes loaded × ((query : QueryTree) × Filters loaded query)
+Accepts bytes = IsScriptWith (λ loaded. ReadsAs loaded true) bytes
 
 abbrev pub HasOtherQuery : List ℕ → Type 0
-HasOtherQuery bytes = (loaded : Loaded) × IsScript bytes loaded × IsOther loaded
+HasOtherQuery bytes = IsScriptWith (λ loaded. ReadsAs loaded false) bytes
 
 abbrev pub Allows : List ℕ → List ℕ → Type 0
-Allows bytes text = (loaded : Loaded) × IsScript bytes loaded × Shows loaded text
+Allows bytes text = IsScriptWith (λ loaded. Answers loaded text) bytes
+
+abbrev pub HasQueryFault : List ℕ → QueryFault → Type 0
+HasQueryFault bytes fault = IsScriptWith (λ loaded. Refuses loaded.catalog loaded.query fault) bytes

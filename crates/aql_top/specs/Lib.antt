@@ -1,3 +1,3 @@
-pub mod Filters
 pub mod Forms
+pub mod Refusals
 pub mod Endings

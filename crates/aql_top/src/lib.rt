@@ -3,8 +3,6 @@
 
 mod answer;
 mod ending;
-mod filter;
-mod parts;
 mod shell;
 
 pub use shell::run_shell;

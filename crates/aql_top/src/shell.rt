@@ -1,41 +1,44 @@
 //! The top call: words, loading, the answer, writing.
 
-ghost use Rattle.std.specs.Prelude.{◌≡◌, ◌≢◌, ◌≤◌, ◌⊎◌, IfOk, IfErr, IfSome, IsSomeAnd, IsTrue, string_bytes, ◌↔◌};
+ghost use Rattle.std.specs.Prelude.{◌≡◌, ◌≢◌, ◌≤◌, ◌⊎◌, IfOk, IfSome, IsSomeAnd, IsTrue, MatchOption, string_bytes, ◌↔◌};
 ghost use Rattle.std.specs.Io.KnownBytes.{Keeps, Appends, IsAtEnd};
 ghost use Rattle.aql_io.specs.Bytes.{AppendsPrefix};
 ghost use Rattle.aql_io.specs.Causes.{Rose, StayedQuiet};
 ghost use Rattle.aql_script.specs.Script.{HasFault};
 ghost use Rattle.aql_script.specs.declared.faults.LoadFault.{LoadFault};
-ghost use Rattle.aql_top.specs.Forms.{TakesWords, Accepts, HasOtherQuery};
+ghost use Rattle.aql_front.specs.declared.faults.QueryFault.{QueryFault};
+ghost use Rattle.aql_top.specs.Forms.{TakesWords, Accepts, HasOtherQuery, HasQueryFault};
 ghost use Rattle.aql_top.specs.declared.ending.Ending.{Ending};
-ghost use Rattle.aql_top.specs.declared.ending.Ending.TheVariants.{NotLoaded};
-ghost use Rattle.aql_top.specs.Endings.{status_of, fault_status, line_of, told, IsToldAs, Causes, Counts, Reads, Writes, Tells, Prints, HasBadLine, IsOverLimit};
-ghost use Rattle.aql_script.specs.Texts.{fault_text};
+ghost use Rattle.aql_top.specs.Endings.{status_of, fault_status, query_status, line_of, told, IsFault, IsToldAs, Causes, Counts, Reads, Writes, Tells, Prints, HasBadLine, HasBadQuery, IsOverLimit};
 
 use crate::answer::answer;
 use crate::ending::Ending;
+use aql_front::{QueryFault, query_fault_text};
 use aql_io::{Sink, Source, write_all};
 use aql_script::{LoadFault, fault_text, load};
-use aql_value::{Names, OutOfMemory};
+use aql_value::{Names, OutOfMemory, Text};
 use std::alloc::Global;
 
-/// All that the program does: it loads the script from the source, writes the lines of one answer
-/// to `out`, and answers the exit status. With status 0 nothing is written to `err`; with any other
-/// status one line is.
+/// All that the program does: it loads the script from the source, reads the script's query, writes
+/// the lines of one of its answers to `out`, and answers the exit status. With status 0 nothing is
+/// written to `err`; with any other status one line is.
 ///
 /// | Status | It comes |
 /// |---|---|
 /// | 0 | where all lines of an answer were written |
 /// | 2 | exactly where the words are not the program's name alone, unless memory runs out |
-/// | 3 | exactly where the first fault of the script is in one of its lines, unless a read fails or memory runs out |
-/// | 5 | exactly where it is a limit that is exceeded, in the same way |
+/// | 3 | exactly where the first fault is in a line of the script (*) |
+/// | 4 | exactly where it is in the query: in its tokens, grammar, names or settings (*) |
+/// | 5 | exactly where it is a limit that the script or the query exceeds (*) |
 /// | 6 | only where a read failed |
 /// | 7 | only where a write to `out` failed; the front of an answer's lines was written |
 /// | 8 | where memory ran out, and nothing was written to `out` |
-/// | 9 | exactly where the script has a query that the program does not take yet, in the same way |
+/// | 9 | exactly where there is no fault, and the query is not of the form that runs yet (*) |
 ///
-/// With any status but 0 and 7 nothing is written to `out`. A failed write to `err` changes nothing.
-#[tactic(auto, using(crate::proofs::Ends::told_causes, crate::proofs::Ends::told_counts, crate::proofs::Ends::told_reads, crate::proofs::Ends::told_writes, crate::proofs::Ends::complete, crate::proofs::Ends::refused, crate::proofs::Ends::other_only))]
+/// (*) unless a read fails or memory runs out. The faults of the script come before those of its
+/// query. With any status but 0 and 7 nothing is written to `out`. A failed write to `err` changes
+/// nothing.
+#[tactic(auto, using(crate::proofs::Ends::told_causes, crate::proofs::Ends::told_counts, crate::proofs::Ends::told_reads, crate::proofs::Ends::told_writes, crate::proofs::Ends::refused))]
 pub fn run_shell<S: Source, K: Sink, E: Sink>(
     alloc: Global,
     words: &Names,
@@ -63,11 +66,16 @@ pub fn run_shell<S: Source, K: Sink, E: Sink>(
     ensures bad_words { (result ≡ 2) → TakesWords words.now → ⊥ }
     ensures bad_words_only { (TakesWords words.now → ⊥) → (result ≡ 2) ⊎ (result ≡ 8) }
     ensures bad_script { (result ≡ 3) → IfSome (S.left source.old) HasBadLine }
+    ensures bad_query { (result ≡ 4) → IfSome (S.left source.old) HasBadQuery }
     ensures over_limit { (result ≡ 5) → IfSome (S.left source.old) IsOverLimit }
     ensures refused { (fault : LoadFault) → TakesWords words.now
         → IsSomeAnd (S.left source.old) (λ bytes. HasFault bytes fault)
         → StayedQuiet (S.faults source.old) (S.faults source.new)
         → (result ≡ fault_status fault) ⊎ (result ≡ 8) }
+    ensures refused_query { (fault : QueryFault) → TakesWords words.now
+        → IsSomeAnd (S.left source.old) (λ bytes. HasQueryFault bytes fault)
+        → StayedQuiet (S.faults source.old) (S.faults source.new)
+        → (result ≡ query_status fault) ⊎ (result ≡ 8) }
     ensures read_fault { (result ≡ 6) → Rose (S.faults source.old) (S.faults source.new) }
     ensures write_fault { (result ≡ 7) → Rose (K.faults out.old) (K.faults out.new) }
     ensures front { (result ≡ 7)
@@ -80,11 +88,11 @@ pub fn run_shell<S: Source, K: Sink, E: Sink>(
     ensures quiet { (result ≡ 0) → Keeps (E.written err.old) (E.written err.new) }
 {
     let ending = run(alloc, words, source, out);
-    status(tell(alloc, ending, err))
+    status(&tell(alloc, ending, err))
 }
 
 // All but the line on the error output.
-#[tactic(auto, using(crate::proofs::Loading::fault_causes, crate::proofs::Loading::read_counts, crate::proofs::Loading::accepted, crate::proofs::Loading::allowed, crate::proofs::Loading::other))]
+#[tactic(auto, using(crate::proofs::Loading::fault_causes, crate::proofs::Loading::read_counts, crate::proofs::Loading::accepted, crate::proofs::Loading::allowed, crate::proofs::Loading::no_lines_causes, crate::proofs::Loading::no_lines_counts, crate::proofs::Loading::no_lines_reads, crate::proofs::Loading::no_lines_writes))]
 fn run<S: Source, K: Sink>(alloc: Global, words: &Names, source: &mut S, out: &mut K) -> Ending
     ensures causes { Causes result words.now (S.left source.old) }
     ensures counts { Counts result (S.faults source.old) (S.faults source.new) (K.faults out.old) (K.faults out.new) }
@@ -99,12 +107,11 @@ fn run<S: Source, K: Sink>(alloc: Global, words: &Names, source: &mut S, out: &m
         Err(fault) => return Ending::NotLoaded(fault),
     };
     match answer(alloc, &script) {
-        Ok(Some(text)) => match write_all(out, &text) {
+        Ok(text) => match write_all(out, &text) {
             Ok(()) => Ending::Printed,
             Err(_) => Ending::WriteFault,
         },
-        Ok(None) => Ending::NotYet,
-        Err(_) => Ending::NoMemory,
+        Err(ending) => ending,
     }
 }
 
@@ -115,33 +122,55 @@ fn takes(words: &Names) -> bool
     words.len() == 1
 }
 
-fn status(ending: Ending) -> u8
-    ensures { result ≡ status_of ending }
+fn status(ending: &Ending) -> u8
+    ensures { result ≡ status_of ending.now }
 {
     match ending {
         Ending::Printed => 0,
         Ending::BadWords => 2,
-        Ending::NotLoaded(LoadFault::Line { .. }) => 3,
-        Ending::NotLoaded(LoadFault::Limit(_)) => 5,
-        Ending::NotLoaded(LoadFault::Read) => 6,
+        Ending::NotLoaded(fault) => load_status(*fault),
+        Ending::Refused(fault) => query_status(fault),
         Ending::WriteFault => 7,
-        Ending::NotLoaded(LoadFault::Memory) | Ending::NoMemory => 8,
+        Ending::NoMemory => 8,
         Ending::NotYet => 9,
     }
 }
 
-// The line of an ending that needs no memory; the fault of the script where there is one.
-fn fixed_line(ending: Ending) -> Result<&'static [u8], LoadFault>
-    ensures line { IfOk result (λ line. line.now ≡ line_of ending) }
-    ensures fault { IfErr result (λ fault. ending ≡ NotLoaded fault) }
+fn load_status(fault: LoadFault) -> u8
+    ensures { result ≡ fault_status fault }
+{
+    match fault {
+        LoadFault::Line { .. } => 3,
+        LoadFault::Limit(_) => 5,
+        LoadFault::Read => 6,
+        LoadFault::Memory => 8,
+    }
+}
+
+fn query_status(fault: &QueryFault) -> u8
+    ensures { result ≡ query_status fault.now }
+{
+    match fault {
+        QueryFault::Lexical { .. } | QueryFault::NotInGrammar | QueryFault::Scope(_) => 4,
+        QueryFault::TooLong
+        | QueryFault::TooDeep
+        | QueryFault::TooManyClauses
+        | QueryFault::WalkTooDeep => 5,
+        QueryFault::Memory => 8,
+    }
+}
+
+// The line of an ending that needs no memory for it: of each but a fault.
+fn fixed_line(ending: &Ending) -> Option<&'static [u8]>
+    ensures { MatchOption result (IsFault ending.now) (λ line. line.now ≡ line_of ending.now) }
 {
     match ending {
-        Ending::NotLoaded(fault) => Err(fault),
-        Ending::Printed => Ok(b""),
-        Ending::BadWords => Ok(b"aql: words\n"),
-        Ending::WriteFault => Ok(b"aql: write fault\n"),
-        Ending::NoMemory => Ok(b"aql: out of memory\n"),
-        Ending::NotYet => Ok(b"aql: not yet\n"),
+        Ending::NotLoaded(_) | Ending::Refused(_) => None,
+        Ending::Printed => Some(b""),
+        Ending::BadWords => Some(b"aql: words\n"),
+        Ending::WriteFault => Some(b"aql: write fault\n"),
+        Ending::NoMemory => Some(b"aql: out of memory\n"),
+        Ending::NotYet => Some(b"aql: not yet\n"),
     }
 }
 
@@ -151,24 +180,25 @@ fn tell<E: Sink>(alloc: Global, ending: Ending, err: &mut E) -> Ending
     ensures line { Tells result (E.written err.old) (E.written err.new) (E.faults err.old) (E.faults err.new) }
     ensures same { IsToldAs ending result }
 {
-    match fixed_line(ending) {
-        Ok(line) => {
+    match fixed_line(&ending) {
+        Some(line) => {
             let _ = write_all(err, line);
             ending
         }
-        Err(fault) => tell_fault(alloc, fault, err),
+        None => tell_fault(alloc, ending, err),
     }
 }
 
-// The same where no script was loaded.
-fn tell_fault<E: Sink>(alloc: Global, fault: LoadFault, err: &mut E) -> Ending
+// The same of a fault.
+fn tell_fault<E: Sink>(alloc: Global, ending: Ending, err: &mut E) -> Ending
+    requires { IsFault ending }
     ensures line { Tells result (E.written err.old) (E.written err.new) (E.faults err.old) (E.faults err.new) }
-    ensures same { IsToldAs (NotLoaded fault) result }
+    ensures same { IsToldAs ending result }
 {
-    match line_of_fault(alloc, fault) {
+    match fault_line(alloc, &ending) {
         Ok(line) => {
             let _ = write_all(err, line.as_bytes());
-            Ending::NotLoaded(fault)
+            ending
         }
         Err(_) => {
             let _ = write_all(err, b"aql: out of memory\n");
@@ -177,9 +207,21 @@ fn tell_fault<E: Sink>(alloc: Global, fault: LoadFault, err: &mut E) -> Ending
     }
 }
 
-fn line_of_fault(alloc: Global, fault: LoadFault) -> Result<String, OutOfMemory>
-    ensures { IfOk result (λ line. string_bytes line ≡ told (fault_text fault)) }
+fn fault_line(alloc: Global, ending: &Ending) -> Result<String, OutOfMemory>
+    requires { IsFault ending.now }
+    ensures { IfOk result (λ line. string_bytes line ≡ line_of ending.now) }
 {
-    let text = fault_text(alloc, fault)?;
+    let text = text_of_fault(alloc, ending)?;
     Ok(format!(in alloc; "aql: {}\n", text.as_str())?)
+}
+
+fn text_of_fault(alloc: Global, ending: &Ending) -> Result<Text, OutOfMemory>
+    requires { IsFault ending.now }
+    ensures { IfOk result (λ text. told text ≡ line_of ending.now) }
+{
+    match ending {
+        Ending::NotLoaded(fault) => fault_text(alloc, *fault),
+        Ending::Refused(fault) => query_fault_text(alloc, fault),
+        _ => unreachable!(),
+    }
 }

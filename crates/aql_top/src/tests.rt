@@ -5,22 +5,44 @@ use std::alloc::Global;
 use std::process::Abort;
 use std::test::Fail;
 
-// The streams of a run: where the source and the output fail, and how much room the output has.
+// The streams of a run: where each fails, and how much room the output has.
 #[derive(Clone, Copy)]
 struct Streams {
     source_fails: Option<u64>,
     out_fails: Option<u64>,
+    err_fails: Option<u64>,
     room: usize,
 }
 
 const SOUND: Streams = Streams {
     source_fails: None,
     out_fails: None,
+    err_fails: None,
     room: 1000,
 };
 
+// What a run gave.
+#[derive(Drop)]
+struct Gave {
+    status: u8,
+    out: MemorySink,
+    err: MemorySink,
+}
+
+fn run_on(alloc: Global, script: &[u8], streams: &Streams) -> Result<Gave, Fail> {
+    let mut words = Names::new(alloc);
+    words.push(Text::new(alloc, "aql_shell")?)?;
+    let mut source = MemorySource::new(script.to_vec(alloc)?, 7, streams.source_fails);
+    let mut out = MemorySink::new(alloc, 5, streams.out_fails);
+    out.reserve(streams.room)?;
+    let mut err = MemorySink::new(alloc, 3, streams.err_fails);
+    err.reserve(100)?;
+    let status = run_shell(alloc, &words, &mut source, &mut out, &mut err);
+    Ok(Gave { status, out, err })
+}
+
 // Runs a script, and compares the status, what was written and the line on the error output.
-fn runs(
+fn gives(
     rt: &impl Abort,
     alloc: Global,
     script: &str,
@@ -29,23 +51,15 @@ fn runs(
     text: &str,
     line: &str,
 ) -> Result<(), Fail> {
-    let mut words = Names::new(alloc);
-    words.push(Text::new(alloc, "aql_shell")?)?;
-    let bytes = script.as_bytes().to_vec(alloc)?;
-    let mut source = MemorySource::new(bytes, 7, streams.source_fails);
-    let mut out = MemorySink::new(alloc, 5, streams.out_fails);
-    out.reserve(streams.room)?;
-    let mut err = MemorySink::new(alloc, 3, None);
-    err.reserve(100)?;
-    let answer = run_shell(alloc, &words, &mut source, &mut out, &mut err);
-    assert_eq!(rt; answer, status, "{script}");
-    assert_eq!(rt; out.written(), text.as_bytes(), "{script}");
-    assert_eq!(rt; err.written(), line.as_bytes(), "{script}");
+    let gave = run_on(alloc, script.as_bytes(), streams)?;
+    assert_eq!(rt; gave.status, status, "{script}");
+    assert_eq!(rt; gave.out.written(), text.as_bytes(), "{script}");
+    assert_eq!(rt; gave.err.written(), line.as_bytes(), "{script}");
     Ok(())
 }
 
 fn prints(rt: &impl Abort, alloc: Global, script: &str, text: &str) -> Result<(), Fail> {
-    runs(rt, alloc, script, &SOUND, 0, text, "")
+    gives(rt, alloc, script, &SOUND, 0, text, "")
 }
 
 const FIRST: &str =
@@ -54,19 +68,58 @@ const FIRST: &str =
 
 const KEPT: &str = "{\"_id\":\"c/k1\",\"_key\":\"k1\",\"a\":1,\"b\":\"x\"}\n";
 
-// A script of the collection c with these lines and this query.
+// A script of the collection c with these lines, of an edge collection e and this query.
 fn script_of(alloc: Global, lines: &str, query: &str) -> Result<String, Fail> {
-    Ok(format!(in alloc; "%document c\n{lines}%query\n{query}")?)
+    Ok(format!(in alloc; "%edge e\n%document c\n{lines}%query\n{query}")?)
+}
+
+fn is_refused(
+    rt: &impl Abort,
+    alloc: Global,
+    query: &str,
+    status: u8,
+    line: &str,
+) -> Result<(), Fail> {
+    let script = script_of(alloc, "", query)?;
+    let line = format!(in alloc; "aql: {line}\n")?;
+    gives(
+        rt,
+        alloc,
+        script.as_str(),
+        &SOUND,
+        status,
+        "",
+        line.as_str(),
+    )
+}
+
+// RETURN of something within brackets.
+fn nested(alloc: Global, depth: usize, inner: &str) -> Result<String, Fail> {
+    let opening = "(".repeat(alloc, depth)?;
+    let closing = ")".repeat(alloc, depth)?;
+    Ok(format!(in alloc; "RETURN {opening}{inner}{closing}")?)
+}
+
+// As many LETs, each of another variable, and what follows them.
+fn lets(alloc: Global, count: usize, behind: &str) -> Result<String, Fail> {
+    let mut query = String::new(alloc);
+    for number in 0..count {
+        let one = format!(in alloc; "LET x{number} = 1 ")?;
+        query.push_str(one.as_str())?;
+    }
+    query.push_str(behind)?;
+    Ok(query)
 }
 
 #[test]
-fn prints_answers(rt: HostRuntime) -> Result<(), Fail> {
+fn prints_documents(rt: HostRuntime) -> Result<(), Fail> {
     let alloc = rt.alloc();
     prints(&rt, alloc, FIRST, KEPT)?;
     let ends = format!(in alloc; "{FIRST}\n")?;
     prints(&rt, alloc, ends.as_str(), KEPT)?;
     for (lines, query, text) in [
         ("", "FOR x IN c FILTER x.a == 1 RETURN x", ""),
+        ("", "FOR X IN c FILTER X.a == -1 RETURN X\n\n", ""),
         (
             "{\"_key\":\"k\"}\n",
             "FOR y IN c FILTER y.b == 0 RETURN y",
@@ -74,7 +127,7 @@ fn prints_answers(rt: HostRuntime) -> Result<(), Fail> {
         ),
         (
             "{\"_key\":\"k\",\"b\":0}\r\n",
-            "FOR y IN c FILTER y.b == 000 RETURN y",
+            "for y in c filter y.b == +0 return y",
             "{\"_id\":\"c/k\",\"_key\":\"k\",\"b\":0}\n",
         ),
         (
@@ -88,6 +141,13 @@ fn prints_answers(rt: HostRuntime) -> Result<(), Fail> {
             "{\"_id\":\"c/a_-:.@()+,=;$!*'%Z9\",\"_key\":\"a_-:.@()+,=;$!*'%Z9\",\"n\":5}\n\
                 {\"_id\":\"c/c\",\"_key\":\"c\",\"n\":5}\n",
         ),
+        (
+            "{\"_key\":\"1\",\"n\":[4]}\n{\"_key\":\"2\"}\n{\"_key\":\"3\",\"n\":[5,6]}\n",
+            "WITH c FOR x IN c FILTER x.n FILTER LENGTH(x.n) < 2 RETURN {k: x._key, n: x.n[-1]}",
+            "{\"k\":\"1\",\"n\":4}\n",
+        ),
+        ("", "FILTER 1 > 2 RETURN 1", ""),
+        ("", "FILTER 1 < 2 FILTER true RETURN 1", "1\n"),
     ] {
         prints(&rt, alloc, script_of(alloc, lines, query)?.as_str(), text)?;
     }
@@ -95,7 +155,7 @@ fn prints_answers(rt: HostRuntime) -> Result<(), Fail> {
 }
 
 #[test]
-fn prints_answers_over_scripts(rt: HostRuntime) -> Result<(), Fail> {
+fn prints_documents_of_scripts(rt: HostRuntime) -> Result<(), Fail> {
     let alloc = rt.alloc();
     let query = "FOR x IN d FILTER x.a == 1 RETURN x";
     for (script, text) in [
@@ -115,6 +175,50 @@ fn prints_answers_over_scripts(rt: HostRuntime) -> Result<(), Fail> {
     ] {
         let script = format!(in alloc; "{script}{query}")?;
         prints(&rt, alloc, script.as_str(), text)?;
+    }
+    Ok(())
+}
+
+static VALUES: [(&str, &str); 9] = [
+    (
+        "[5/2, 6/2, 1/0, -7 % 2, \"3\"+4, 9223372036854775807+1]",
+        "[null,3,null,-1,7,null]",
+    ),
+    (
+        "[{} < {a: null}, [] < [null], {b:1} < {a:0}]",
+        "[true,true,true]",
+    ),
+    ("10 - 3 - 2", "5"),
+    (
+        "[1..3, 3..1, \"abc\" LIKE \"a%\", null || 5, 0 && 7, !\"\"]",
+        "[[1,2,3],[3,2,1],true,5,0,true]",
+    ),
+    (
+        "[[1,2] ALL > 0, [] ANY == 1, [1] NONE IN [2]]",
+        "[true,false,true]",
+    ),
+    (
+        "[SPLIT(\"\", \"\"), FLATTEN([1,[2,[3]]], 2), SLICE([1,2,3,4], -3, 2)]",
+        "[[],[1,2,3],[2,3]]",
+    ),
+    (
+        "[SUBSTRING(\"añb\", 1, 1), MERGE([{a:1},{a:2}]), APPEND([1], [1,2], true), LENGTH(true)]",
+        "[\"ñ\",{\"a\":2},[1,2],1]",
+    ),
+    ("[1,2,3][* FILTER CURRENT > 1 RETURN CURRENT * 2]", "[4,6]"),
+    (
+        "{b: 1 ? 2 : 3, [\"a\"]: 0 ? : \"x\", `c d`: NOT true}",
+        "{\"a\":\"x\",\"b\":2,\"c d\":false}",
+    ),
+];
+
+#[test]
+fn prints_values(rt: HostRuntime) -> Result<(), Fail> {
+    let alloc = rt.alloc();
+    for (value, text) in VALUES {
+        let script = format!(in alloc; "%query\nRETURN {value}")?;
+        let line = format!(in alloc; "{text}\n")?;
+        prints(&rt, alloc, script.as_str(), line.as_str())?;
     }
     Ok(())
 }
@@ -154,11 +258,16 @@ fn refuses_scripts(rt: HostRuntime) -> Result<(), Fail> {
             "aql: script: line 2: bad edge\n",
         ),
         ("%Document c\n", "aql: script: line 1: bad directive\n"),
+        // The query has faults too.
+        (
+            "%document c\n[]\n%query\nRETURN 1.5",
+            "aql: script: line 2: not an object\n",
+        ),
     ] {
-        runs(&rt, alloc, script, &SOUND, 3, "", line)?;
+        gives(&rt, alloc, script, &SOUND, 3, "", line)?;
     }
-    let shards = "%document c shards=33\n%query\n";
-    runs(
+    let shards = "%document c shards=33\n%query\nRETURN y";
+    gives(
         &rt,
         alloc,
         shards,
@@ -170,23 +279,146 @@ fn refuses_scripts(rt: HostRuntime) -> Result<(), Fail> {
 }
 
 #[test]
-fn takes_no_other_query(rt: HostRuntime) -> Result<(), Fail> {
+fn refuses_queries(rt: HostRuntime) -> Result<(), Fail> {
+    let alloc = rt.alloc();
+    for (query, line) in [
+        ("", "query: not in the grammar"),
+        ("FOR d IN", "query: not in the grammar"),
+        ("INSERT {} INTO c", "query: not in the grammar"),
+        (
+            "FOR x IN c FILTER x.a == RETURN x",
+            "query: not in the grammar",
+        ),
+        ("RETURN y", "query: unknown name y"),
+        (
+            "FOR x IN c FILTER x.a == 1 RETURN y",
+            "query: unknown name y",
+        ),
+        ("LET x = 1 LET x = 2 RETURN 1", "query: declared twice x"),
+        ("RETURN 1.5", "query: byte 7: fraction"),
+        (
+            "FOR x IN c FILTER x.a == 9223372036854775808 RETURN x",
+            "query: byte 25: number too large",
+        ),
+        (
+            "RETURN LENGTH()",
+            "query: wrong number of arguments LENGTH 0",
+        ),
+        ("RETURN FOO()", "query: unknown function FOO"),
+        ("WITH d RETURN 1", "query: unknown collection d"),
+        ("FOR x IN d RETURN x", "query: unknown collection d"),
+        (
+            "FOR v IN OUTBOUND 'c/a' c RETURN v",
+            "query: not an edge collection c",
+        ),
+        (
+            "RETURN [1][* FILTER (RETURN 1)]",
+            "query: subquery not allowed",
+        ),
+        (
+            "FOR v IN OUTBOUND 'c/a' e OPTIONS {k: 1} RETURN v",
+            "query: bad option k",
+        ),
+        // The first of several faults decides: tokens, grammar, names.
+        ("RETURN y RETURN 1.5", "query: byte 16: fraction"),
+        ("RETURN y FOR", "query: not in the grammar"),
+        ("LET x = 1 RETURN y", "query: unknown name y"),
+    ] {
+        is_refused(&rt, alloc, query, 4, line)?;
+    }
+    Ok(())
+}
+
+#[test]
+fn keeps_limits(rt: HostRuntime) -> Result<(), Fail> {
+    let alloc = rt.alloc();
+    let spaces = " ".repeat(alloc, 65_528)?;
+    let most = format!(in alloc; "%query\nRETURN 1{spaces}")?;
+    prints(&rt, alloc, most.as_str(), "1\n")?;
+    let more = format!(in alloc; "RETURN #{spaces} ")?;
+    is_refused(&rt, alloc, more.as_str(), 5, "limit: query bytes")?;
+    let deep = nested(alloc, 64, "1")?;
+    let script = format!(in alloc; "%query\n{deep}")?;
+    prints(&rt, alloc, script.as_str(), "1\n")?;
+    is_refused(
+        &rt,
+        alloc,
+        nested(alloc, 65, "1")?.as_str(),
+        5,
+        "limit: nesting",
+    )?;
+    let many = lets(alloc, 127, "RETURN 1")?;
+    is_refused(&rt, alloc, many.as_str(), 9, "not yet")?;
+    let more = lets(alloc, 128, "RETURN 1")?;
+    is_refused(&rt, alloc, more.as_str(), 5, "limit: clauses")?;
+    is_refused(
+        &rt,
+        alloc,
+        "FOR v IN 1..33 OUTBOUND 'c/a' e RETURN v",
+        5,
+        "limit: traversal depth",
+    )
+}
+
+// Where a query exceeds several limits or has faults too, the first of tokens, nesting, clauses,
+// grammar, traversals and names decides.
+#[test]
+fn orders_limits(rt: HostRuntime) -> Result<(), Fail> {
+    let alloc = rt.alloc();
+    let fraction = nested(alloc, 65, "1.5")?;
+    is_refused(&rt, alloc, fraction.as_str(), 4, "query: byte 72: fraction")?;
+    let open = nested(alloc, 65, "(")?;
+    let many = lets(alloc, 128, open.as_str())?;
+    is_refused(&rt, alloc, many.as_str(), 5, "limit: nesting")?;
+    let endless = lets(alloc, 129, "")?;
+    is_refused(&rt, alloc, endless.as_str(), 5, "limit: clauses")?;
+    for (query, status, line) in [
+        (
+            "FOR v IN 1..33 OUTBOUND 'c/a' e",
+            4,
+            "query: not in the grammar",
+        ),
+        (
+            "FOR v IN 1..33 OUTBOUND 'c/a' e RETURN y",
+            5,
+            "limit: traversal depth",
+        ),
+    ] {
+        is_refused(&rt, alloc, query, status, line)?;
+    }
+    Ok(())
+}
+
+#[test]
+fn runs_no_other_form(rt: HostRuntime) -> Result<(), Fail> {
     let alloc = rt.alloc();
     for query in [
-        "RETURN 1",
-        "FOR x IN d FILTER x.a == 1 RETURN x",
-        "FOR x IN c FILTER y.a == 1 RETURN x",
-        "FOR x IN c FILTER x.a == 1 RETURN y",
-        "FOR x IN c FILTER x.a == RETURN x",
-        "FOR x IN c FILTER x.a == -1 RETURN x",
-        "FOR x IN c FILTER x.a == +1 RETURN x",
-        "FOR x IN c FILTER x.a == 9223372036854775808 RETURN x",
-        "FOR x IN c FILTER x.a == 1 RETURN x\n\n",
-        "FOR X IN c FILTER X.a == 1 RETURN X",
-        "",
+        "LET x = 1 RETURN x",
+        "SORT 1 RETURN 1",
+        "LIMIT 1 RETURN 1",
+        "RETURN (RETURN 1)",
+        "RETURN DISTINCT 1",
+        "FOR x IN c RETURN DISTINCT x",
+        "FOR x IN [1, 2] RETURN x",
+        "FOR x IN c FOR y IN c RETURN x",
+        "FILTER true FOR x IN c RETURN x",
+        "FOR x IN c COLLECT y = x.a RETURN y",
+        "FOR v IN OUTBOUND 'c/a' e RETURN v",
     ] {
-        let script = script_of(alloc, "", query)?;
-        runs(&rt, alloc, script.as_str(), &SOUND, 9, "", "aql: not yet\n")?;
+        is_refused(&rt, alloc, query, 9, "not yet")?;
+    }
+    Ok(())
+}
+
+// Each front of a script is refused, or is a script without a query's end.
+#[test]
+fn takes_each_front(rt: HostRuntime) -> Result<(), Fail> {
+    let alloc = rt.alloc();
+    let script = FIRST.as_bytes();
+    for count in 0..script.len() {
+        let gave = run_on(alloc, &script[..count], &SOUND)?;
+        assert!(rt; matches!(gave.status, 3 | 4), "{count}");
+        assert_eq!(rt; gave.out.written(), b"".as_slice(), "{count}");
     }
     Ok(())
 }
@@ -194,32 +426,41 @@ fn takes_no_other_query(rt: HostRuntime) -> Result<(), Fail> {
 #[test]
 fn streams_fail(rt: HostRuntime) -> Result<(), Fail> {
     let alloc = rt.alloc();
-    let read = Streams {
-        source_fails: Some(5),
-        out_fails: None,
-        room: 1000,
-    };
-    runs(&rt, alloc, FIRST, &read, 6, "", "aql: read fault\n")?;
-    let written = Streams {
-        source_fails: None,
-        out_fails: Some(10),
-        room: 1000,
-    };
-    runs(
-        &rt,
-        alloc,
-        FIRST,
-        &written,
-        7,
-        "{\"_id\":\"c/",
-        "aql: write fault\n",
-    )?;
-    let full = Streams {
-        source_fails: None,
-        out_fails: None,
-        room: 3,
-    };
-    runs(&rt, alloc, FIRST, &full, 7, "{\"_", "aql: write fault\n")?;
+    for count in 0..=FIRST.len() as u64 {
+        let mut streams = SOUND;
+        streams.source_fails = Some(count);
+        gives(&rt, alloc, FIRST, &streams, 6, "", "aql: read fault\n")?;
+    }
+    let kept = KEPT.as_bytes();
+    for count in 0..kept.len() {
+        let mut streams = SOUND;
+        streams.out_fails = Some(count as u64);
+        let gave = run_on(alloc, FIRST.as_bytes(), &streams)?;
+        assert_eq!(rt; gave.status, 7, "{count}");
+        assert_eq!(rt; gave.out.written(), &kept[..count], "{count}");
+        assert_eq!(rt; gave.err.written(), b"aql: write fault\n".as_slice());
+    }
+    let mut full = SOUND;
+    full.room = 3;
+    gives(&rt, alloc, FIRST, &full, 7, "{\"_", "aql: write fault\n")
+}
+
+#[test]
+fn error_output_fails(rt: HostRuntime) -> Result<(), Fail> {
+    let alloc = rt.alloc();
+    let mut streams = SOUND;
+    streams.err_fails = Some(6);
+    for (script, status, line) in [
+        ("%query\nRETURN 1", 0, ""),
+        ("", 3, "aql: s"),
+        ("%query\nRETURN y", 4, "aql: q"),
+        ("%query\nRETURN 1.5", 4, "aql: q"),
+        ("%document c shards=33\n%query\n", 5, "aql: l"),
+        ("%query\nLET x = 1 RETURN x", 9, "aql: n"),
+    ] {
+        let text = if status == 0 { "1\n" } else { "" };
+        gives(&rt, alloc, script, &streams, status, text, line)?;
+    }
     let mut words = Names::new(alloc);
     words.push(Text::new(alloc, "aql_shell")?)?;
     words.push(Text::new(alloc, "--explain")?)?;

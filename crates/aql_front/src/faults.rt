@@ -1,0 +1,70 @@
+use aql_lex::{LexFault, LexKind};
+use aql_parse::ParseFault;
+use aql_scope::ScopeFault;
+
+/// Why a text gives no query. Where several causes hold, the first of this list is told.
+#[derive(Drop)]
+pub enum QueryFault {
+    /// The text has more than 65,536 bytes.
+    TooLong,
+    /// At this place, counted in bytes from 0, no token can be taken.
+    Lexical { place: u32, kind: LexKind },
+    /// More than 64 brackets, ternaries and signs are open at once.
+    TooDeep,
+    /// There are more than 256 clause words and assignments.
+    TooManyClauses,
+    /// The grammar has no query with these tokens.
+    NotInGrammar,
+    /// A traversal goes deeper than 32 edges.
+    WalkTooDeep,
+    /// A name, a number of arguments, a subquery or a setting that may not stand where it does; the
+    /// first in the order of the text.
+    Scope(ScopeFault),
+    /// Memory ran out.
+    Memory,
+}
+
+impl From<LexFault> for QueryFault {
+    ghost use Rattle.std.specs.Prelude.{◌≡◌};
+    ghost use Rattle.aql_front.specs.Causes.{lexical};
+
+    ghost from_gives = { λ fault given. given ≡ lexical fault };
+
+    fn from(fault: LexFault) -> QueryFault {
+        match fault {
+            LexFault::At { place, kind } => QueryFault::Lexical { place, kind },
+            LexFault::Memory => QueryFault::Memory,
+        }
+    }
+}
+
+impl From<ParseFault> for QueryFault {
+    ghost use Rattle.std.specs.Prelude.{◌≡◌};
+    ghost use Rattle.aql_front.specs.Causes.{grammatical};
+
+    ghost from_gives = { λ fault given. given ≡ grammatical fault };
+
+    fn from(fault: ParseFault) -> QueryFault {
+        match fault {
+            ParseFault::TooDeep => QueryFault::TooDeep,
+            ParseFault::TooManyClauses => QueryFault::TooManyClauses,
+            ParseFault::NotInGrammar => QueryFault::NotInGrammar,
+            ParseFault::WalkTooDeep => QueryFault::WalkTooDeep,
+            ParseFault::Memory => QueryFault::Memory,
+        }
+    }
+}
+
+impl From<ScopeFault> for QueryFault {
+    ghost use Rattle.std.specs.Prelude.{◌≡◌};
+    ghost use Rattle.aql_front.specs.Causes.{named};
+
+    ghost from_gives = { λ fault given. given ≡ named fault };
+
+    fn from(fault: ScopeFault) -> QueryFault {
+        match fault {
+            ScopeFault::Memory => QueryFault::Memory,
+            _ => QueryFault::Scope(fault),
+        }
+    }
+}

@@ -1,0 +1,14 @@
+//! From the text of a query to the scoped query, or the first cause of a refusal.
+#![tactic(auto)]
+
+mod faults;
+mod reading;
+#[cfg(test)]
+mod tests;
+mod texts;
+#[cfg(test)]
+mod writer;
+
+pub use faults::QueryFault;
+pub use reading::read_query;
+pub use texts::query_fault_text;
