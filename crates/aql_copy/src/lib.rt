@@ -5,6 +5,3 @@
 mod copying;
 
 pub use copying::copy_expr;
-
-#[cfg(test)]
-mod tests;

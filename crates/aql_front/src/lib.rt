@@ -3,11 +3,7 @@
 
 mod faults;
 mod reading;
-#[cfg(test)]
-mod tests;
 mod texts;
-#[cfg(test)]
-mod writer;
 
 pub use faults::QueryFault;
 pub use reading::read_query;

@@ -14,8 +14,6 @@ mod operators;
 mod ranges;
 mod sets;
 mod signatures;
-#[cfg(test)]
-mod tests;
 mod texts;
 mod values;
 

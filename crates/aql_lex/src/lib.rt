@@ -6,8 +6,6 @@ mod kinds;
 mod reading;
 mod signs;
 mod steps;
-#[cfg(test)]
-mod tests;
 mod texts;
 mod vocabulary;
 

@@ -7,6 +7,3 @@ mod grammar;
 
 pub use aql_grammar::ParseFault;
 pub use grammar::{one_tree, parse};
-
-#[cfg(test)]
-mod tests;

@@ -12,8 +12,6 @@ mod names;
 mod options;
 mod pieces;
 mod step;
-#[cfg(test)]
-mod tests;
 mod texts;
 
 pub use faults::{LimitKind, LineKind, LoadFault};

@@ -1,9 +1,8 @@
 -- Which ending comes.
-use Rattle.std.proofs.Common.{◌≡◌, ℕ, ◌⊎◌, inl, inr, List, [], Bool, true, false, Option, Some, None, Ok, Err, refl, sym, ap, ◌∙◌, subst}
-use Rattle.std.specs.Prelude.{IfSome, IsSomeAnd, Result}
-use Rattle.std.specs.Io.KnownBytes.{Keeps}
-use Rattle.aql_io.specs.Causes.{Rose, StayedQuiet}
-use Rattle.aql_script.specs.Script.{script, IsScript, HasFault}
+use Rattle.std.proofs.Common.{◌≡◌, ℕ, ◌⊎◌, inl, inr, List, [], Bool, true, false, Option, Some, None, Err, refl, sym, ap, ◌∙◌, subst}
+use Rattle.std.specs.Prelude.{IsSomeAnd, Result}
+use Rattle.aql_io.specs.Causes.{StayedQuiet}
+use Rattle.aql_script.specs.Script.{IsScript, HasFault}
 use Rattle.aql_script.specs.declared.loading.Loaded.{Loaded}
 use Rattle.aql_script.specs.declared.faults.LoadFault.{LoadFault}
 use Rattle.aql_script.specs.declared.faults.LoadFault.TheVariants.{Read, Limit, Line, Memory}

@@ -6,6 +6,3 @@ mod ending;
 mod shell;
 
 pub use shell::run_shell;
-
-#[cfg(test)]
-mod tests;

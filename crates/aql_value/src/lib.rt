@@ -24,6 +24,3 @@ pub use reading::{JsonFault, from_json_line, text_is_read_back};
 pub use texts::Text;
 pub use values::{Items, Member, Members, Value, recall_well_formed};
 pub use writing::write_json;
-
-#[cfg(test)]
-mod tests;

@@ -1,4 +1,4 @@
-use super::*;
+use aql_copy::copy_expr;
 use aql_tree::Expr;
 use aql_value::Value;
 use std::process::Abort;

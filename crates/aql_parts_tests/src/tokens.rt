@@ -1,5 +1,5 @@
 // What `lex` gives for texts whose tokens were worked out by hand from the chapter on tokens.
-use crate::{LexFault, TokenKind, lex, text_has_one_reading};
+use aql_lex::{LexFault, TokenKind, lex, text_has_one_reading};
 use std::alloc::{AllocError, Global};
 use std::test::Fail;
 

@@ -1,4 +1,7 @@
-use super::*;
+use aql_value::{
+    CollNo, CollNos, Items, JsonFault, Members, Names, Text, Value, cmp, copy, from_json_line,
+    order_is_total, recall_well_formed, text_is_read_back, to_number, to_text, truthy, write_json,
+};
 use std::alloc::Global;
 use std::cmp::Ordering;
 use std::collections::HashSet;

@@ -1,5 +1,5 @@
-use crate::{LimitKind, LineKind, LoadFault, Loaded, fault_text, load};
 use aql_io::MemorySource;
+use aql_script::{LimitKind, LineKind, LoadFault, Loaded, load};
 use aql_value::{CollNo, DocNo, write_json};
 use std::alloc::Global;
 use std::process::Abort;

@@ -1,7 +1,7 @@
 // What `parse` gives for texts whose trees were worked out by hand from the chapter on syntax.
-use crate::{ParseFault, parse};
 use aql_func::{BinOp, UnaryOp};
 use aql_lex::lex;
+use aql_parse::{ParseFault, parse};
 use aql_tree::{
     AggregateItem, Clause, Collect, Expr, Field, Ident, Into, Key, Let, Link, Options, QuantKind,
     Query, Step, Traversal,

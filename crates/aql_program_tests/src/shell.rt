@@ -1,5 +1,5 @@
-use super::*;
 use aql_io::{MemorySink, MemorySource};
+use aql_top::run_shell;
 use aql_value::{Names, Text};
 use std::alloc::Global;
 use std::process::Abort;
@@ -236,6 +236,10 @@ fn refuses_scripts(rt: HostRuntime) -> Result<(), Fail> {
         ("%document c\n[]\n", "aql: script: line 2: not an object\n"),
         ("%document c\n{\n", "aql: script: line 2: not JSON\n"),
         (
+            "%document c\n{\"_key\":\"k1\"}\n{\"_key\":\"k2\"}\n{\"_key\":\"k3\"\n%query\nRETURN 1",
+            "aql: script: line 4: not JSON\n",
+        ),
+        (
             "%document c\n{\"a\":1.5}\n%query\n",
             "aql: script: line 2: number not whole\n",
         ),
@@ -276,6 +280,46 @@ fn refuses_scripts(rt: HostRuntime) -> Result<(), Fail> {
         "",
         "aql: limit: line 1: shards\n",
     )
+}
+
+// A script whose document nests arrays so deep.
+fn arrays_in(alloc: Global, depth: usize) -> Result<String, Fail> {
+    let before = "%document c\n{\"_key\":\"k\",\"v\":";
+    let opening = "[".repeat(alloc, depth)?;
+    let closing = "]".repeat(alloc, depth)?;
+    let behind = "}\n%query\nRETURN 1";
+    Ok(format!(in alloc; "{before}{opening}{closing}{behind}")?)
+}
+
+// A first line, and as many of another, each with its number at the end.
+fn lines_numbered(alloc: Global, first: &str, other: &str, count: usize) -> Result<String, Fail> {
+    let mut script = String::new(alloc);
+    script.push_str(first)?;
+    for number in 1..=count {
+        let line = format!(in alloc; "{other}{number}\n")?;
+        script.push_str(line.as_str())?;
+    }
+    Ok(script)
+}
+
+#[test]
+fn keeps_limits_of_scripts(rt: HostRuntime) -> Result<(), Fail> {
+    let alloc = rt.alloc();
+    prints(&rt, alloc, arrays_in(alloc, 63)?.as_str(), "1\n")?;
+    for (script, line) in [
+        (arrays_in(alloc, 64)?, "aql: limit: line 2: JSON depth\n"),
+        (
+            lines_numbered(alloc, "", "%document c", 65)?,
+            "aql: limit: line 65: collections\n",
+        ),
+        (
+            lines_numbered(alloc, "%document c\n", "%index c a", 17)?,
+            "aql: limit: line 18: indexes\n",
+        ),
+    ] {
+        gives(&rt, alloc, script.as_str(), &SOUND, 5, "", line)?;
+    }
+    Ok(())
 }
 
 #[test]

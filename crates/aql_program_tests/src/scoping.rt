@@ -1,7 +1,7 @@
 // What `read_query` gives for texts that were judged by hand from the chapter on names and scopes.
 use crate::writer::write_scoped;
-use crate::{query_fault_text, read_query};
 use aql_doc::Catalog;
+use aql_front::{query_fault_text, read_query};
 use aql_value::{Names, Text};
 use std::alloc::Global;
 use std::process::Abort;

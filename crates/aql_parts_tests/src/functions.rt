@@ -1,4 +1,4 @@
-use super::*;
+use aql_func::{BinOp, FuncName, UnaryOp, arity, binary, call, lookup, range, unary};
 use aql_value::{Items, OutOfMemory, Value, copy, from_json_line, write_json};
 use std::alloc::Global;
 use std::process::Abort;
