@@ -499,7 +499,7 @@ static COLLECTS: [(&str, &str); 29] = [
     ),
 ];
 
-static SCOPED: [(&str, &str); 47] = [
+static SCOPED: [(&str, &str); 48] = [
     ("RETURN 1", "return 1 |"),
     (
         "FOR x IN c RETURN DISTINCT x",
@@ -570,6 +570,10 @@ static SCOPED: [(&str, &str); 47] = [
     (
         "LET a = LENGTH(FOR x IN c RETURN x) RETURN a",
         "let #2 = (for #3 in c; return #3); let #1 = LENGTH( #2 ); return #1 | a sub x",
+    ),
+    (
+        "LET x = (FOR a IN c LIMIT 1 RETURN a._key) FOR i IN 1..3 RETURN x[0]",
+        "let #1 = (for #2 in c; limit 0 1; return #2._key); for #3 in 1..3; return #1[0] | x a i",
     ),
     (
         "LET a = ((RETURN 1)) RETURN a",
