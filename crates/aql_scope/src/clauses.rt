@@ -15,7 +15,7 @@ ghost use Rattle.aql_scope.specs.Walk.{Gives, Judges, Walks, site_of, site_withi
 
 use crate::ScopeFault;
 use crate::checks::{check_collection, check_kept, check_new};
-use crate::names::{At, NameList, Scope, copy_ident, declare, written};
+use crate::names::{At, NameList, Scope, declare_ident};
 use crate::options::Written;
 use aql_tree::{
     Clause, Expr, Field, Fields, Ident, Into, Options, Traversal, UniqueEdges, UniqueVertices,
@@ -87,9 +87,9 @@ pub fn for_name(
     ensures outer { scope.new.outer ≡ scope.old.outer }
 {
     check_new(at.alloc, scope, &NameList::new(at.alloc), var)?;
-    let number = declare(said, written(at.alloc, var)?)?;
+    let number = declare_ident(at.alloc, said, var)?;
     let found = number_of_name(at.alloc, scope, name)?;
-    scope.own.push(copy_ident(at.alloc, var)?, number)?;
+    scope.own.enter(at.alloc, var, number)?;
     source(at, number, name, found)
 }
 
@@ -108,8 +108,8 @@ pub fn documents_clause(
 {
     check_new(at.alloc, scope, &NameList::new(at.alloc), var)?;
     check_collection(at.alloc, at.catalog, collection)?;
-    let number = declare(said, written(at.alloc, var)?)?;
-    scope.own.push(copy_ident(at.alloc, var)?, number)?;
+    let number = declare_ident(at.alloc, said, var)?;
+    scope.own.enter(at.alloc, var, number)?;
     Ok(Clause::ForDocs {
         var: Ident::Num(number),
         collection: collection.copy(at.alloc)?,
@@ -147,7 +147,7 @@ fn check_maybe(
 {
     if let Some(ident) = ident {
         check_new(alloc, scope, earlier, ident)?;
-        earlier.push(copy_ident(alloc, ident)?, 0)?;
+        earlier.enter(alloc, ident, 0)?;
     }
     Ok(())
 }
@@ -165,7 +165,7 @@ pub fn check_walk_vars(
 {
     let mut earlier = NameList::new(alloc);
     check_new(alloc, scope, &earlier, &traversal.vertex)?;
-    earlier.push(copy_ident(alloc, &traversal.vertex)?, 0)?;
+    earlier.enter(alloc, &traversal.vertex, 0)?;
     check_maybe(alloc, scope, &mut earlier, &traversal.edge)?;
     check_maybe(alloc, scope, &mut earlier, &traversal.path)
 }
@@ -184,8 +184,8 @@ fn declare_maybe(
 {
     match ident {
         Some(ident) => {
-            let number = declare(said, written(alloc, ident)?)?;
-            behind.push(copy_ident(alloc, ident)?, number)?;
+            let number = declare_ident(alloc, said, ident)?;
+            behind.enter(alloc, ident, number)?;
             Ok(Some(Ident::Num(number)))
         }
         None => Ok(None),
@@ -208,8 +208,8 @@ pub fn declare_walk(
         ≡ said.old ++ map text_of (fault.walk_vars (traversal_part traversal.now).0)) }
 {
     let mut behind = own.copy(alloc)?;
-    let number = declare(said, written(alloc, &traversal.vertex)?)?;
-    behind.push(copy_ident(alloc, &traversal.vertex)?, number)?;
+    let number = declare_ident(alloc, said, &traversal.vertex)?;
+    behind.enter(alloc, &traversal.vertex, number)?;
     let edge = declare_maybe(alloc, &traversal.edge, &mut behind, said)?;
     let path = declare_maybe(alloc, &traversal.path, &mut behind, said)?;
     Ok(WalkVars {
@@ -333,16 +333,17 @@ fn walk_like(
     }
 }
 
-/// The clause of a traversal, from its numbered names and its parts.
+/// The clause of a traversal, from its numbered names, its edge collections and its parts.
 pub fn walk_of(
     alloc: Global,
     traversal: &Traversal,
     vertex: Ident,
     edge: Option<Ident>,
     path: Option<Ident>,
+    collections: Names,
     parts: WalkParts,
-) -> Result<Clause, OutOfMemory>
-    ensures { IfOk result (λ c. clause_tree c ≡ walked (
+) -> Clause
+    ensures { clause_tree result ≡ walked (
       record (traversal_part traversal.now).0 {
         vertex = vertex;
         edge = edge;
@@ -351,14 +352,13 @@ pub fn walk_of(
             (traversal_part traversal.now).0.options parts.written;
       },
       tree parts.start,
-      (traversal_part traversal.now).2,
+      collections,
       option_map tree parts.prune,
       [],
-    )) }
+    ) }
 {
-    let collections = copy_texts(alloc, traversal.collections.as_slice())?;
     let options = options_behind(alloc, &traversal.options, parts.written);
-    Ok(Clause::Walk(walk_like(
+    Clause::Walk(walk_like(
         traversal,
         vertex,
         edge,
@@ -367,7 +367,7 @@ pub fn walk_of(
         collections,
         parts.prune,
         options,
-    )))
+    ))
 }
 
 // A member with a variable by its name.
@@ -375,15 +375,13 @@ fn named_member(at: &At<'_>, name: &Text) -> Result<Field, OutOfMemory>
     ensures { IfOk result (λ f. member_part f
         ≡ named name.now (numbered (number_of (walk.visible (site_of at.now)) (Name name.now)))) }
 {
-    let ident = Ident::Name(name.copy(at.alloc)?);
-    let value = match at.scope.find(&ident) {
+    let number = number_of_name(at.alloc, at.scope, name)?;
+    let name = name.copy(at.alloc)?;
+    let value = match number {
         Some(number) => Expr::Var(Ident::Num(number)),
         None => Expr::Lit(Value::Null),
     };
-    Ok(Field::Named {
-        name: name.copy(at.alloc)?,
-        value,
-    })
+    Ok(Field::Named { name, value })
 }
 
 fn object(fields: Fields) -> Expr
@@ -432,8 +430,8 @@ pub fn into_names(
 {
     check_new(at.alloc, at.scope, behind, var)?;
     check_kept(at.alloc, &at.scope.own, keep)?;
-    let number = declare(said, written(at.alloc, var)?)?;
+    let number = declare_ident(at.alloc, said, var)?;
+    behind.enter(at.alloc, var, number)?;
     let what = variables_object(at, keep)?;
-    behind.push(copy_ident(at.alloc, var)?, number)?;
     Ok(Into::new(Ident::Num(number), Some(what), Seq::new(at.alloc)))
 }

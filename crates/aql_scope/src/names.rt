@@ -141,10 +141,11 @@ impl NameList {
         }
     }
 
-    pub fn push(&mut self, ident: Ident, number: u32) -> Result<(), OutOfMemory>
-        ensures { OnOk result (self.new ≡ (ident, number) ∷ self.old) }
+    /// Puts a copy of a name before these.
+    pub fn enter(&mut self, alloc: Global, ident: &Ident, number: u32) -> Result<(), OutOfMemory>
+        ensures { OnOk result (self.new ≡ (ident.now, number) ∷ self.old) }
     {
-        self.items.push((ident, number))?;
+        self.items.push((copy_ident(alloc, ident)?, number))?;
         Ok(())
     }
 
@@ -236,6 +237,14 @@ pub fn declare(said: &mut Names, name: Text) -> Result<u32, OutOfMemory>
     };
     said.push(name)?;
     Ok(number)
+}
+
+/// The next number, for a variable that is written like this one.
+pub fn declare_ident(alloc: Global, said: &mut Names, ident: &Ident) -> Result<u32, OutOfMemory>
+    ensures number { IfOk result (λ n. n ≡ suc (length said.old)) }
+    ensures said { OnOk result (said.new ≡ said.old ++ text_of ident.now ∷ []) }
+{
+    declare(said, written(alloc, ident)?)
 }
 
 impl<'a> At<'a> {

@@ -20,7 +20,7 @@ use crate::clauses::{
     WalkParts, check_depth, check_setting, check_walk_vars, copy_texts, declare_walk,
     documents_clause, for_name, into_names, single_name, walk_of,
 };
-use crate::names::{At, NameList, Scope, copy_ident, declare, written};
+use crate::names::{At, NameList, Scope, declare, declare_ident, written};
 use crate::options::Written;
 use aql_tree::{
     AggregateItem, Aggregates, Clause, Clauses, Collect, Expr, Exprs, Field, Fields, Ident, Into,
@@ -373,12 +373,12 @@ fn for_list(
     ensures outer { scope.new.outer ≡ scope.old.outer }
 {
     check_new(at.alloc, scope, &NameList::new(at.alloc), var)?;
-    let number = declare(said, written(at.alloc, var)?)?;
-    let list = expr(list, &at.within(scope), said, lets)?;
-    scope.own.push(copy_ident(at.alloc, var)?, number)?;
+    let number = declare_ident(at.alloc, said, var)?;
+    let list = boxed(list, &at.within(scope), said, lets)?;
+    scope.own.enter(at.alloc, var, number)?;
     Ok(Clause::For {
         var: Ident::Num(number),
-        list,
+        list: Box::into_inner(list),
     })
 }
 
@@ -419,13 +419,13 @@ fn let_subquery(
     ensures outer { scope.new.outer ≡ scope.old.outer }
 {
     check_new(at.alloc, scope, &NameList::new(at.alloc), var)?;
-    let number = declare(said, written(at.alloc, var)?)?;
+    let number = declare_ident(at.alloc, said, var)?;
     let inner = query_within(query, &at.within(scope), said)?;
-    let expr = Expr::Sub(Box::new(at.alloc, inner)?);
-    scope.own.push(copy_ident(at.alloc, var)?, number)?;
+    let inner = Box::new(at.alloc, inner)?;
+    scope.own.enter(at.alloc, var, number)?;
     Ok(Clause::Let {
         var: Ident::Num(number),
-        expr,
+        expr: Expr::Sub(inner),
     })
 }
 
@@ -445,12 +445,12 @@ fn let_value(
     ensures outer { scope.new.outer ≡ scope.old.outer }
 {
     check_new(at.alloc, scope, &NameList::new(at.alloc), var)?;
-    let number = declare(said, written(at.alloc, var)?)?;
-    let expr = expr(value, &at.within(scope), said, lets)?;
-    scope.own.push(copy_ident(at.alloc, var)?, number)?;
+    let number = declare_ident(at.alloc, said, var)?;
+    let value = boxed(value, &at.within(scope), said, lets)?;
+    scope.own.enter(at.alloc, var, number)?;
     Ok(Clause::Let {
         var: Ident::Num(number),
-        expr,
+        expr: Box::into_inner(value),
     })
 }
 
@@ -472,6 +472,7 @@ fn walk_clause(
     check_walk_vars(at.alloc, scope, traversal)?;
     check_depth(at.alloc, traversal)?;
     let vars = declare_walk(at.alloc, traversal, &scope.own, said)?;
+    let collections = copy_texts(at.alloc, traversal.collections.as_slice())?;
     let parts = walk_parts(traversal, at, scope, &vars.behind, said, lets)?;
     let scoped = walk_of(
         at.alloc,
@@ -479,8 +480,9 @@ fn walk_clause(
         vars.vertex,
         vars.edge,
         vars.path,
+        collections,
         parts,
-    )?;
+    );
     scope.own = vars.behind;
     Ok(scoped)
 }
@@ -501,12 +503,12 @@ fn walk_parts(
         (member_trees (traversal_part traversal.now).4) (state said.old lets.old))
         result (state said.new lets.new) }
 {
-    let start = expr(&traversal.start, &at.within(scope), said, lets)?;
+    let start = boxed(&traversal.start, &at.within(scope), said, lets)?;
     check_edges(at.alloc, at.catalog, traversal.collections.as_slice())?;
     let prune = pruned(&traversal.prune, at, scope, behind, said, lets)?;
     let written = written_options(&traversal.options, &at.within(scope).inline(), said, lets)?;
     Ok(WalkParts {
-        start,
+        start: Box::into_inner(start),
         prune,
         written,
     })
@@ -561,12 +563,12 @@ fn written_settings(
     for item in all {
         match item {
             Field::Named { name, value } => {
-                expr(value, at, said, lets)?;
+                boxed(value, at, said, lets)?;
                 found = check_setting(at.alloc, found, name, value)?;
             }
             Field::Computed { name, value } => {
-                expr(name, at, said, lets)?;
-                expr(value, at, said, lets)?;
+                boxed(name, at, said, lets)?;
+                boxed(value, at, said, lets)?;
                 return Err(ScopeFault::BadOption {
                     name: Text::new(at.alloc, "computed")?,
                 });
@@ -653,12 +655,11 @@ fn criteria(
     let mut found = Seq::new(at.alloc);
     for item in all {
         check_new(at.alloc, at.scope, behind, &item.var)?;
-        let number = declare(said, written(at.alloc, &item.var)?)?;
-        let value = expr(&item.expr, at, said, lets)?;
-        behind.push(copy_ident(at.alloc, &item.var)?, number)?;
+        let number = declare_ident(at.alloc, said, &item.var)?;
+        behind.enter(at.alloc, &item.var, number)?;
         found.push(Let {
             var: Ident::Num(number),
-            expr: value,
+            expr: expr(&item.expr, at, said, lets)?,
         })?;
     }
     Ok(found)
@@ -680,13 +681,12 @@ fn aggregates(
     for item in all {
         check_new(at.alloc, at.scope, behind, &item.var)?;
         check_aggregate(at.alloc, &item.name, &item.arg)?;
-        let number = declare(said, written(at.alloc, &item.var)?)?;
-        let arg = maybe(&item.arg, at, said, lets)?;
-        behind.push(copy_ident(at.alloc, &item.var)?, number)?;
+        let number = declare_ident(at.alloc, said, &item.var)?;
+        behind.enter(at.alloc, &item.var, number)?;
         found.push(AggregateItem {
             var: Ident::Num(number),
             name: item.name.copy(at.alloc)?,
-            arg,
+            arg: maybe(&item.arg, at, said, lets)?,
         })?;
     }
     Ok(found)
@@ -753,9 +753,13 @@ fn into_expr(
         (state said.old lets.old)) result (state said.new lets.new) }
 {
     check_new(at.alloc, at.scope, behind, var)?;
-    let number = declare(said, written(at.alloc, var)?)?;
-    let what = expr(what, at, said, lets)?;
+    let number = declare_ident(at.alloc, said, var)?;
+    behind.enter(at.alloc, var, number)?;
+    let what = boxed(what, at, said, lets)?;
     check_kept(at.alloc, &at.scope.own, keep)?;
-    behind.push(copy_ident(at.alloc, var)?, number)?;
-    Ok(Into::new(Ident::Num(number), Some(what), Seq::new(at.alloc)))
+    Ok(Into::new(
+        Ident::Num(number),
+        Some(Box::into_inner(what)),
+        Seq::new(at.alloc),
+    ))
 }

@@ -123,15 +123,18 @@ walk_clause-returns-clause-clause t c =
     let vars = c.in_ok-vars.vars in
     let last = state c.walk_parts.new.said c.walk_parts.new.lets in
     let options = walk.written_options (members part.4) part.0.options parts.written in
-    let clause : clause_tree c.in_ok-scoped.scoped
+    let collections : c.in_ok-collections.collections ≡ part.2 =
+    c.in_ok-collections.ensures ∙ c.as_slice.ensures ∙ ap (λ p. p.2) (sym by_part) in
+    let clause : clause_tree c.walk_of-scoped.result
     ≡ for_paths (walk.walk_with options (numbered_walk (next c.args.said.now) part.0)) (tree parts.start) part.2
     (maybe (option_map tree parts.prune)) no_members =
-    c.in_ok-scoped.ensures
+    c.walk_of-scoped.ensures
+    ∙ ap (λ cs. for_paths (record part.0 { vertex = vars.vertex; edge = vars.edge; path = vars.path; options = options }) (tree parts.start) cs (maybe (option_map tree parts.prune)) no_members) collections
     ∙ ap (λ w. for_paths w (tree parts.start) part.2 (maybe (option_map tree parts.prune)) no_members)
     (shape_is part.0 (next c.args.said.now) options vars.vertex vars.edge vars.path c.in_ok-vars.ensures.vars.0
     c.in_ok-vars.ensures.vars.1 c.in_ok-vars.ensures.vars.2) in
     let h : walk.clause s (walked part) (state c.args.said.now c.args.lets.now)
-    ≡ Ok ((clause_tree c.in_ok-scoped.scoped, vars.behind), last) =
+    ≡ Ok ((clause_tree c.walk_of-scoped.result, vars.behind), last) =
     walk_has_parts s part.0 part.1 part.2 (maybe part.3) (members part.4) c.args.said.now
     c.declare_walk.new.said (map clause_tree c.args.lets.now) vars.behind new depth
     c.in_ok-vars.ensures.said c.in_ok-vars.ensures.behind
@@ -148,10 +151,10 @@ walk_parts-returns-in_err-written t c =
     let inner = site_of c.inline.result in
     let narrow = inline_site (with_own c.args.behind.now s) in
     let first = state c.args.said.now c.args.lets.now in
-    let second = state c.expr.new.said c.expr.new.lets in
+    let second = state c.boxed.new.said c.boxed.new.lets in
     let third = state c.pruned.new.said c.pruned.new.lets in
     let last = state c.written_options.new.said c.written_options.new.lets in
-    let found : walk.expr here part.1 first ≡ Ok (tree c.in_ok-start.start, second) =
+    let found : walk.expr here part.1 first ≡ Ok (tree c.in_ok-start.start.value, second) =
     ap (λ p. walk.expr here p.1 first) by_part ∙ c.in_ok-start.ensures in
     let edges : edge_collections s.held part.2 ≡ None =
     ap (λ p. edge_collections s.held p.2) by_part ∙ ap (edge_collections s.held) (sym c.as_slice.ensures)
@@ -164,7 +167,7 @@ walk_parts-returns-in_err-written t c =
     subst (λ p. Walks (λ w. w) (walk.settings inner unwritten (members p.4) third) c.written_options.result last)
     (sym by_part) c.written_options.ensures in
     let h = settings_have_fault (λ p. (tree p.start, option_map tree p.prune, p.written)) (λ w. w) s c.args.behind.now
-    part.1 part.2 (maybe part.3) (members part.4) first second third last here inner (tree c.in_ok-start.start)
+    part.1 part.2 (maybe part.3) (members part.4) first second third last here inner (tree c.in_ok-start.start.value)
     (option_map tree c.in_ok-prune.prune) c.written_options.result c.from_residual-in_err-written.result
     c.in_err-written.field-0.0 c.within.ensures (c.inline.ensures ∙ ap inline_site c.within-2.ensures) found edges
     pruned is is' written in
