@@ -9,8 +9,6 @@ mod document;
 mod faults;
 mod info;
 mod keys;
-#[cfg(test)]
-mod tests;
 
 pub use catalog::Catalog;
 pub use faults::{CatalogFault, DocFault};

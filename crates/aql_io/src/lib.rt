@@ -8,8 +8,6 @@
 mod memory;
 mod ports;
 mod streams;
-#[cfg(test)]
-mod tests;
 mod whole;
 
 pub use memory::{MemorySink, MemorySource};

@@ -1,6 +1,7 @@
 use aql_copy::copy_expr;
 use aql_tree::Expr;
-use aql_value::Value;
+use aql_value::{OutOfMemory, Value};
+use std::alloc::Global;
 use std::process::Abort;
 use std::test::Fail;
 
@@ -18,15 +19,24 @@ fn is_current(expr: &Expr) -> bool {
     }
 }
 
-#[test]
-fn copies(rt: HostRuntime) -> Result<(), Fail> {
-    let alloc = rt.alloc();
-    let expr = Expr::range(alloc, Expr::Lit(Value::Num(7)), Expr::Current)?;
-    let copied = copy_expr(alloc, &expr)?;
-    let is_equal = match &copied {
+fn is_range(expr: &Expr) -> bool {
+    match expr {
         Expr::Range { low, high } => is_seven(low) && is_current(high),
         _ => false,
-    };
-    assert!(rt; is_equal);
+    }
+}
+
+fn is_copied(alloc: Global, expr: &Expr) -> Result<bool, OutOfMemory> {
+    Ok(is_range(&copy_expr(alloc, expr)?))
+}
+
+fn range_is_copied(alloc: Global) -> Result<bool, OutOfMemory> {
+    let expr = Expr::range(alloc, Expr::Lit(Value::Num(7)), Expr::Current)?;
+    is_copied(alloc, &expr)
+}
+
+#[test]
+fn copies(rt: HostRuntime) -> Result<(), Fail> {
+    assert!(rt; range_is_copied(rt.alloc())?);
     Ok(())
 }

@@ -3,19 +3,29 @@ use aql_value::{Items, OutOfMemory, Value, copy, from_json_line, write_json};
 use std::alloc::Global;
 use std::process::Abort;
 
+fn text_of(alloc: Global, value: &Value) -> Result<Vec<u8>, OutOfMemory> {
+    let mut out = Vec::new(alloc);
+    write_json(value, &mut out)?;
+    Ok(out)
+}
+
 // The text of the value of a call; empty where there is no such call.
 fn called(alloc: Global, name: &str, args: &str) -> Result<Vec<u8>, OutOfMemory> {
-    let mut out = Vec::new(alloc);
     let Some(f) = lookup(name) else {
-        return Ok(out);
+        return Ok(Vec::new(alloc));
     };
-    let Ok(Value::List(args)) = from_json_line(alloc, args.as_bytes()) else {
-        return Ok(out);
-    };
-    if arity(f).allows(args.len()) {
-        write_json(&call(alloc, f, &args)?, &mut out)?;
+    match from_json_line(alloc, args.as_bytes()) {
+        Ok(Value::List(args)) => called_with(alloc, f, &args),
+        _ => Ok(Vec::new(alloc)),
     }
-    Ok(out)
+}
+
+fn called_with(alloc: Global, f: FuncName, args: &Items) -> Result<Vec<u8>, OutOfMemory> {
+    if arity(f).allows(args.len()) {
+        text_of(alloc, &call(alloc, f, args)?)
+    } else {
+        Ok(Vec::new(alloc))
+    }
 }
 
 fn is_text(got: &Result<Vec<u8>, OutOfMemory>, want: &str) -> bool {
@@ -434,13 +444,17 @@ fn check_binary(rt: &impl Abort, alloc: Global, rows: &[(BinOp, &str, &str, &str
 }
 
 fn combined(alloc: Global, op: BinOp, a: &str, b: &str) -> Result<Vec<u8>, OutOfMemory> {
-    let mut out = Vec::new(alloc);
-    if let Ok(a) = from_json_line(alloc, a.as_bytes()) {
-        if let Ok(b) = from_json_line(alloc, b.as_bytes()) {
-            write_json(&binary(alloc, op, &a, &b)?, &mut out)?;
-        }
+    match from_json_line(alloc, a.as_bytes()) {
+        Ok(a) => combined_with(alloc, op, &a, b),
+        Err(_) => Ok(Vec::new(alloc)),
     }
-    Ok(out)
+}
+
+fn combined_with(alloc: Global, op: BinOp, a: &Value, b: &str) -> Result<Vec<u8>, OutOfMemory> {
+    match from_json_line(alloc, b.as_bytes()) {
+        Ok(b) => text_of(alloc, &binary(alloc, op, a, &b)?),
+        Err(_) => Ok(Vec::new(alloc)),
+    }
 }
 
 #[test]
@@ -515,11 +529,10 @@ fn check_unary(rt: &impl Abort, alloc: Global, rows: &[(UnaryOp, &str, &str)]) {
 }
 
 fn turned(alloc: Global, op: UnaryOp, a: &str) -> Result<Vec<u8>, OutOfMemory> {
-    let mut out = Vec::new(alloc);
-    if let Ok(a) = from_json_line(alloc, a.as_bytes()) {
-        write_json(&unary(op, &a)?, &mut out)?;
+    match from_json_line(alloc, a.as_bytes()) {
+        Ok(a) => text_of(alloc, &unary(op, &a)?),
+        Err(_) => Ok(Vec::new(alloc)),
     }
-    Ok(out)
 }
 
 #[test]
@@ -541,33 +554,77 @@ fn unary_operators(rt: HostRuntime) {
     );
 }
 
+static NAMES: [(&str, Option<FuncName>); 5] = [
+    ("Length", Some(FuncName::Length)),
+    ("is_null", Some(FuncName::IsNull)),
+    ("LENGTHS", None),
+    ("", None),
+    ("IS NULL", None),
+];
+
+static ARITIES: [(FuncName, usize, bool); 6] = [
+    (FuncName::Length, 0, false),
+    (FuncName::Length, 2, false),
+    (FuncName::Concat, 1000, true),
+    (FuncName::Concat, 0, false),
+    (FuncName::Slice, 3, true),
+    (FuncName::Slice, 4, false),
+];
+
 #[test]
 fn names_and_arities(rt: HostRuntime) {
-    assert_eq!(rt; lookup("Length"), Some(FuncName::Length));
-    assert_eq!(rt; lookup("is_null"), Some(FuncName::IsNull));
-    assert_eq!(rt; lookup("LENGTHS"), None);
-    assert_eq!(rt; lookup(""), None);
-    assert_eq!(rt; lookup("IS NULL"), None);
-    assert!(rt; !arity(FuncName::Length).allows(0) && !arity(FuncName::Length).allows(2));
-    assert!(rt; arity(FuncName::Concat).allows(1000) && !arity(FuncName::Concat).allows(0));
-    assert!(rt; arity(FuncName::Slice).allows(3) && !arity(FuncName::Slice).allows(4));
+    for (name, want) in &NAMES {
+        assert_eq!(rt; lookup(name), *want, "{name}");
+    }
+    for (f, count, is_allowed) in &ARITIES {
+        assert!(rt; arity(*f).allows(*count) == *is_allowed, "{f:?} {count}");
+    }
 }
+
+// So many copies of a list.
+fn copies(alloc: Global, list: &Value, count: usize) -> Result<Items, OutOfMemory> {
+    let mut args = Items::new(alloc);
+    for _ in 0..count {
+        args.push(copy(alloc, list)?)?;
+    }
+    Ok(args)
+}
+
+// Whether a call with so many copies of a list gives a list so long.
+fn gives_length(
+    alloc: Global,
+    f: FuncName,
+    list: &Value,
+    count: usize,
+    length: usize,
+) -> Result<bool, OutOfMemory> {
+    let args = copies(alloc, list, count)?;
+    if arity(f).allows(args.len()) {
+        Ok(has_length(&call(alloc, f, &args)?, length))
+    } else {
+        Ok(false)
+    }
+}
+
+static LARGE: [(FuncName, usize, usize); 5] = [
+    (FuncName::Unique, 1, 100_000),
+    (FuncName::Sorted, 1, 100_000),
+    (FuncName::Intersection, 2, 100_000),
+    (FuncName::Minus, 2, 0),
+    (FuncName::UnionDistinct, 2, 100_000),
+];
 
 // None of these takes a time that is quadratic in the number of elements.
 #[test]
 fn large_arrays(rt: HostRuntime) -> Result<(), OutOfMemory> {
     let alloc = rt.alloc();
     let numbers = range(alloc, 0, 99_999)?;
-    let mut one = Items::new(alloc);
-    one.push(copy(alloc, &numbers)?)?;
-    let mut two = Items::new(alloc);
-    two.push(copy(alloc, &numbers)?)?;
-    two.push(numbers)?;
-    assert!(rt; has_length(&call(alloc, FuncName::Unique, &one)?, 100_000));
-    assert!(rt; has_length(&call(alloc, FuncName::Sorted, &one)?, 100_000));
-    assert!(rt; has_length(&call(alloc, FuncName::Intersection, &two)?, 100_000));
-    assert!(rt; has_length(&call(alloc, FuncName::Minus, &two)?, 0));
-    assert!(rt; has_length(&call(alloc, FuncName::UnionDistinct, &two)?, 100_000));
+    for (f, count, length) in &LARGE {
+        assert!(rt;
+            gives_length(alloc, *f, &numbers, *count, *length)?,
+            "{f:?}"
+        );
+    }
     Ok(())
 }
 

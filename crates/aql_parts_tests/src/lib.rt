@@ -1,8 +1,10 @@
-//! Tests of the libraries below a query's meaning: values, tokens, functions, copies and parsing.
+//! Tests of the lower libraries: values, tokens, functions, copies, parsing and evaluation.
 #![tactic(auto)]
 
 #[cfg(test)]
 mod copies;
+#[cfg(test)]
+mod evaluation;
 #[cfg(test)]
 mod functions;
 #[cfg(test)]

@@ -659,23 +659,22 @@ fn fault(alloc: Global, pieces: &[(&str, usize)]) -> Result<Option<ParseFault>, 
     Ok(parsed(alloc, text.as_str())?.err())
 }
 
+fn check_faults(
+    rt: &impl Abort,
+    alloc: Global,
+    rows: &[Pieces],
+    want: Option<ParseFault>,
+) -> Result<(), Fail> {
+    for pieces in rows {
+        assert!(rt; fault(alloc, pieces)? == want, "{pieces:?}");
+    }
+    Ok(())
+}
+
 #[test]
 fn limits(rt: HostRuntime) -> Result<(), Fail> {
     let alloc = rt.alloc();
-    for pieces in &WITHIN {
-        assert!(rt; fault(alloc, pieces)? == None, "{pieces:?}");
-    }
-    for pieces in &TOO_DEEP {
-        assert!(rt;
-            fault(alloc, pieces)? == Some(ParseFault::TooDeep),
-            "{pieces:?}"
-        );
-    }
-    for pieces in &TOO_MANY {
-        assert!(rt;
-            fault(alloc, pieces)? == Some(ParseFault::TooManyClauses),
-            "{pieces:?}"
-        );
-    }
-    Ok(())
+    check_faults(&rt, alloc, &WITHIN, None)?;
+    check_faults(&rt, alloc, &TOO_DEEP, Some(ParseFault::TooDeep))?;
+    check_faults(&rt, alloc, &TOO_MANY, Some(ParseFault::TooManyClauses))
 }

@@ -1,31 +1,49 @@
 // What `lex` gives for texts whose tokens were worked out by hand from the chapter on tokens.
-use aql_lex::{LexFault, TokenKind, lex, text_has_one_reading};
+use aql_lex::{LexFault, Token, TokenKind, lex, text_has_one_reading};
 use std::alloc::{AllocError, Global};
+use std::process::Abort;
 use std::test::Fail;
 
+fn write_kind(kind: &TokenKind, out: &mut String) -> Result<(), AllocError> {
+    match kind {
+        TokenKind::Word(name) => write!(out, "w:{}", name.as_str())?,
+        TokenKind::Quoted(name) => write!(out, "q:{}", name.as_str())?,
+        TokenKind::Keyword(keyword) => write!(out, "k:{keyword:?}")?,
+        TokenKind::Number(number) => write!(out, "n:{number}")?,
+        TokenKind::Text(value) => write!(out, "t:{}", value.as_str())?,
+        TokenKind::Symbol(symbol) => write!(out, "s:{symbol:?}")?,
+    }
+    Ok(())
+}
+
 // Each token as its first byte, the byte behind it, a letter for its kind, and what it holds.
+fn write_tokens(tokens: &[Token], out: &mut String) -> Result<(), AllocError> {
+    for token in tokens {
+        if !out.is_empty() {
+            out.push_str(", ")?;
+        }
+        write!(out, "{}-{} ", token.start, token.end)?;
+        write_kind(&token.kind, out)?;
+    }
+    Ok(())
+}
+
+fn write_fault(fault: &LexFault, out: &mut String) -> Result<(), AllocError> {
+    match fault {
+        LexFault::At { place, kind } => write!(out, "{place}: {kind}")?,
+        LexFault::Memory => write!(out, "no memory")?,
+    }
+    Ok(())
+}
+
 fn shown(alloc: Global, text: &str) -> Result<String, AllocError> {
     let mut out = String::new(alloc);
     if text.len() > 65536 {
         return Ok(out);
     }
     match lex(alloc, text) {
-        Err(LexFault::At { place, kind }) => write!(out, "{place}: {kind}")?,
-        Err(LexFault::Memory) => write!(out, "no memory")?,
-        Ok(tokens) => for token in tokens.as_slice() {
-            if !out.is_empty() {
-                out.push_str(", ")?;
-            }
-            write!(out, "{}-{} ", token.start, token.end)?;
-            match &token.kind {
-                TokenKind::Word(name) => write!(out, "w:{}", name.as_str())?,
-                TokenKind::Quoted(name) => write!(out, "q:{}", name.as_str())?,
-                TokenKind::Keyword(keyword) => write!(out, "k:{keyword:?}")?,
-                TokenKind::Number(number) => write!(out, "n:{number}")?,
-                TokenKind::Text(value) => write!(out, "t:{}", value.as_str())?,
-                TokenKind::Symbol(symbol) => write!(out, "s:{symbol:?}")?,
-            }
-        },
+        Ok(tokens) => write_tokens(tokens.as_slice(), &mut out)?,
+        Err(fault) => write_fault(&fault, &mut out)?,
     }
     Ok(out)
 }
@@ -199,13 +217,18 @@ static FAULTS: [(&str, &str); 51] = [
     ("1.5 $", "0: fraction"),
 ];
 
+fn check(rt: &impl Abort, alloc: Global, rows: &[(&str, &str)]) -> Result<(), Fail> {
+    for (text, want) in rows {
+        assert_eq!(rt; shown(alloc, text)?.as_str(), *want, "of {text:?}");
+    }
+    Ok(())
+}
+
 #[test]
 fn texts_give_these_tokens_and_faults(rt: HostRuntime) -> Result<(), Fail> {
-    for table in [TOKENS.as_slice(), FAULTS.as_slice()] {
-        for (text, want) in table {
-            assert_eq!(rt; shown(rt.alloc(), text)?.as_str(), *want, "of {text:?}");
-        }
-    }
+    let alloc = rt.alloc();
+    check(&rt, alloc, &TOKENS)?;
+    check(&rt, alloc, &FAULTS)?;
     text_has_one_reading();
     Ok(())
 }

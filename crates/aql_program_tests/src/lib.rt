@@ -1,11 +1,17 @@
-//! Tests of what the program does with a script: loading, reading the query, and the whole run.
+//! Tests of what the program is made of: streams, the catalog, scripts, queries, and the whole run.
 #![tactic(auto)]
 
+#[cfg(test)]
+mod catalogs;
+#[cfg(test)]
+mod runs;
 #[cfg(test)]
 mod scoping;
 #[cfg(test)]
 mod scripts;
 #[cfg(test)]
 mod shell;
+#[cfg(test)]
+mod streams;
 #[cfg(test)]
 mod writer;

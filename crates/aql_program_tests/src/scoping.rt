@@ -767,25 +767,27 @@ fn repeated(
     Ok(text)
 }
 
+static LONG: [(&str, &str, u32, &str, &str); 10] = [
+    ("RETURN 1", " ", 65528, "", "return 1 |"),
+    ("RETURN 1", " ", 65529, "", "limit: query bytes"),
+    ("RETURN #", " ", 65529, "", "limit: query bytes"),
+    ("RETURN ", "!", 64, "x", "query: unknown name x"),
+    ("RETURN ", "!", 65, "x", "limit: nesting"),
+    ("RETURN ", "[", 65, "#", "query: byte 72: bad character"),
+    ("RETURN ", "[", 65, "", "limit: nesting"),
+    ("", "FILTER x ", 255, "RETURN 1", "query: unknown name x"),
+    ("", "FILTER x ", 256, "RETURN 1", "limit: clauses"),
+    ("", "FILTER ", 257, "1", "limit: clauses"),
+];
+
 #[test]
 fn limits(rt: HostRuntime) -> Result<(), Fail> {
     let alloc = rt.alloc();
     let catalog = collections(&rt, alloc)?;
-    for (before, part, times, behind, expected) in [
-        ("RETURN 1", " ", 65528, "", "return 1 |"),
-        ("RETURN 1", " ", 65529, "", "limit: query bytes"),
-        ("RETURN #", " ", 65529, "", "limit: query bytes"),
-        ("RETURN ", "!", 64, "x", "query: unknown name x"),
-        ("RETURN ", "!", 65, "x", "limit: nesting"),
-        ("RETURN ", "[", 65, "#", "query: byte 72: bad character"),
-        ("RETURN ", "[", 65, "", "limit: nesting"),
-        ("", "FILTER x ", 255, "RETURN 1", "query: unknown name x"),
-        ("", "FILTER x ", 256, "RETURN 1", "limit: clauses"),
-        ("", "FILTER ", 257, "1", "limit: clauses"),
-    ] {
-        let text = repeated(alloc, before, part, times, behind)?;
+    for (before, part, times, behind, expected) in &LONG {
+        let text = repeated(alloc, before, part, *times, behind)?;
         let found = shown(alloc, text.as_str(), &catalog)?;
-        assert_eq!(rt; found.as_str(), expected, "{before}{part}{behind}");
+        assert_eq!(rt; found.as_str(), *expected, "{before}{part}{behind}");
     }
     Ok(())
 }

@@ -1,3 +1,5 @@
+ghost use Rattle.std.specs.Prelude.{◌≤◌};
+
 use aql_io::{MemorySink, MemorySource};
 use aql_top::run_shell;
 use aql_value::{Names, Text};
@@ -29,14 +31,36 @@ struct Gave {
     err: MemorySink,
 }
 
+impl Gave {
+    fn check(&self, rt: &impl Abort, script: &str, status: u8, text: &[u8], line: &[u8]) {
+        assert_eq!(rt; self.status, status, "{script}");
+        assert_eq!(rt; self.out.written(), text, "{script}");
+        assert_eq!(rt; self.err.written(), line, "{script}");
+    }
+}
+
+fn names(alloc: Global, list: &[&str]) -> Result<Names, Fail> {
+    let mut names = Names::new(alloc);
+    for name in list {
+        names.push(Text::new(alloc, name)?)?;
+    }
+    Ok(names)
+}
+
+fn sink(alloc: Global, piece: usize, fail_at: Option<u64>, room: usize) -> Result<MemorySink, Fail>
+    requires { 1 ≤ piece }
+{
+    let mut sink = MemorySink::new(alloc, piece, fail_at);
+    sink.reserve(room)?;
+    Ok(sink)
+}
+
 fn run_on(alloc: Global, script: &[u8], streams: &Streams) -> Result<Gave, Fail> {
-    let mut words = Names::new(alloc);
-    words.push(Text::new(alloc, "aql_shell")?)?;
-    let mut source = MemorySource::new(script.to_vec(alloc)?, 7, streams.source_fails);
-    let mut out = MemorySink::new(alloc, 5, streams.out_fails);
-    out.reserve(streams.room)?;
-    let mut err = MemorySink::new(alloc, 3, streams.err_fails);
-    err.reserve(100)?;
+    let script = script.to_vec(alloc)?;
+    let words = names(alloc, &["aql_shell"])?;
+    let mut out = sink(alloc, 5, streams.out_fails, streams.room)?;
+    let mut err = sink(alloc, 3, streams.err_fails, 100)?;
+    let mut source = MemorySource::new(script, 7, streams.source_fails);
     let status = run_shell(alloc, &words, &mut source, &mut out, &mut err);
     Ok(Gave { status, out, err })
 }
@@ -52,9 +76,7 @@ fn gives(
     line: &str,
 ) -> Result<(), Fail> {
     let gave = run_on(alloc, script.as_bytes(), streams)?;
-    assert_eq!(rt; gave.status, status, "{script}");
-    assert_eq!(rt; gave.out.written(), text.as_bytes(), "{script}");
-    assert_eq!(rt; gave.err.written(), line.as_bytes(), "{script}");
+    gave.check(rt, script, status, text.as_bytes(), line.as_bytes());
     Ok(())
 }
 
@@ -71,6 +93,11 @@ const KEPT: &str = "{\"_id\":\"c/k1\",\"_key\":\"k1\",\"a\":1,\"b\":\"x\"}\n";
 // A script of the collection c with these lines, of an edge collection e and this query.
 fn script_of(alloc: Global, lines: &str, query: &str) -> Result<String, Fail> {
     Ok(format!(in alloc; "%edge e\n%document c\n{lines}%query\n{query}")?)
+}
+
+// A script without collections.
+fn alone(alloc: Global, query: &str) -> Result<String, Fail> {
+    Ok(format!(in alloc; "%query\n{query}")?)
 }
 
 fn is_refused(
@@ -93,6 +120,17 @@ fn is_refused(
     )
 }
 
+// The same of a query that is made for it.
+fn is_refused_long(
+    rt: &impl Abort,
+    alloc: Global,
+    query: String,
+    status: u8,
+    line: &str,
+) -> Result<(), Fail> {
+    is_refused(rt, alloc, query.as_str(), status, line)
+}
+
 // RETURN of something within brackets.
 fn nested(alloc: Global, depth: usize, inner: &str) -> Result<String, Fail> {
     let opening = "(".repeat(alloc, depth)?;
@@ -104,12 +142,44 @@ fn nested(alloc: Global, depth: usize, inner: &str) -> Result<String, Fail> {
 fn lets(alloc: Global, count: usize, behind: &str) -> Result<String, Fail> {
     let mut query = String::new(alloc);
     for number in 0..count {
-        let one = format!(in alloc; "LET x{number} = 1 ")?;
-        query.push_str(one.as_str())?;
+        write!(query, "LET x{number} = 1 ")?;
     }
     query.push_str(behind)?;
     Ok(query)
 }
+
+static DOCUMENTS: [(&str, &str, &str); 9] = [
+    ("", "FOR x IN c FILTER x.a == 1 RETURN x", ""),
+    ("", "FOR X IN c FILTER X.a == -1 RETURN X\n\n", ""),
+    (
+        "{\"_key\":\"k\"}\n",
+        "FOR y IN c FILTER y.b == 0 RETURN y",
+        "",
+    ),
+    (
+        "{\"_key\":\"k\",\"b\":0}\r\n",
+        "for y in c filter y.b == +0 return y",
+        "{\"_id\":\"c/k\",\"_key\":\"k\",\"b\":0}\n",
+    ),
+    (
+        "{\"_key\":\"k\",\"c\":9223372036854775807}\n",
+        "FOR c IN c FILTER c.c == 9223372036854775807 RETURN c",
+        "{\"_id\":\"c/k\",\"_key\":\"k\",\"c\":9223372036854775807}\n",
+    ),
+    (
+        "{\"_key\":\"a_-:.@()+,=;$!*'%Z9\",\"n\":5}\n{\"n\":\"5\",\"_key\":\"b\"}\n{\"_key\":\"c\",\"n\":5}\n",
+        "FOR x IN c FILTER x.n == 5 RETURN x",
+        "{\"_id\":\"c/a_-:.@()+,=;$!*'%Z9\",\"_key\":\"a_-:.@()+,=;$!*'%Z9\",\"n\":5}\n\
+            {\"_id\":\"c/c\",\"_key\":\"c\",\"n\":5}\n",
+    ),
+    (
+        "{\"_key\":\"1\",\"n\":[4]}\n{\"_key\":\"2\"}\n{\"_key\":\"3\",\"n\":[5,6]}\n",
+        "WITH c FOR x IN c FILTER x.n FILTER LENGTH(x.n) < 2 RETURN {k: x._key, n: x.n[-1]}",
+        "{\"k\":\"1\",\"n\":4}\n",
+    ),
+    ("", "FILTER 1 > 2 RETURN 1", ""),
+    ("", "FILTER 1 < 2 FILTER true RETURN 1", "1\n"),
+];
 
 #[test]
 fn prints_documents(rt: HostRuntime) -> Result<(), Fail> {
@@ -117,62 +187,33 @@ fn prints_documents(rt: HostRuntime) -> Result<(), Fail> {
     prints(&rt, alloc, FIRST, KEPT)?;
     let ends = format!(in alloc; "{FIRST}\n")?;
     prints(&rt, alloc, ends.as_str(), KEPT)?;
-    for (lines, query, text) in [
-        ("", "FOR x IN c FILTER x.a == 1 RETURN x", ""),
-        ("", "FOR X IN c FILTER X.a == -1 RETURN X\n\n", ""),
-        (
-            "{\"_key\":\"k\"}\n",
-            "FOR y IN c FILTER y.b == 0 RETURN y",
-            "",
-        ),
-        (
-            "{\"_key\":\"k\",\"b\":0}\r\n",
-            "for y in c filter y.b == +0 return y",
-            "{\"_id\":\"c/k\",\"_key\":\"k\",\"b\":0}\n",
-        ),
-        (
-            "{\"_key\":\"k\",\"c\":9223372036854775807}\n",
-            "FOR c IN c FILTER c.c == 9223372036854775807 RETURN c",
-            "{\"_id\":\"c/k\",\"_key\":\"k\",\"c\":9223372036854775807}\n",
-        ),
-        (
-            "{\"_key\":\"a_-:.@()+,=;$!*'%Z9\",\"n\":5}\n{\"n\":\"5\",\"_key\":\"b\"}\n{\"_key\":\"c\",\"n\":5}\n",
-            "FOR x IN c FILTER x.n == 5 RETURN x",
-            "{\"_id\":\"c/a_-:.@()+,=;$!*'%Z9\",\"_key\":\"a_-:.@()+,=;$!*'%Z9\",\"n\":5}\n\
-                {\"_id\":\"c/c\",\"_key\":\"c\",\"n\":5}\n",
-        ),
-        (
-            "{\"_key\":\"1\",\"n\":[4]}\n{\"_key\":\"2\"}\n{\"_key\":\"3\",\"n\":[5,6]}\n",
-            "WITH c FOR x IN c FILTER x.n FILTER LENGTH(x.n) < 2 RETURN {k: x._key, n: x.n[-1]}",
-            "{\"k\":\"1\",\"n\":4}\n",
-        ),
-        ("", "FILTER 1 > 2 RETURN 1", ""),
-        ("", "FILTER 1 < 2 FILTER true RETURN 1", "1\n"),
-    ] {
+    for (lines, query, text) in &DOCUMENTS {
         prints(&rt, alloc, script_of(alloc, lines, query)?.as_str(), text)?;
     }
     Ok(())
 }
 
+static SCRIPTS: [(&str, &str); 3] = [
+    (
+        "%document c shards=3 keys=a,b\n{\"_key\":\"k\",\"a\":1}\n%document d\n\
+            {\"_id\":\"d/1\",\"a\":1}\n \t\r\n{\"_key\":\"2\"}\n%index d a,b\n%index d a,b\n%query\n",
+        "{\"_id\":\"d/1\",\"_key\":\"1\",\"a\":1}\n",
+    ),
+    (
+        "%edge\td\r\n{\"a\":1,\"_key\":\"e\",\"_from\":\"c/1\",\"_to\":\"c/2\"}\r\n%query \r\n",
+        "{\"_from\":\"c/1\",\"_id\":\"d/e\",\"_key\":\"e\",\"_to\":\"c/2\",\"a\":1}\n",
+    ),
+    (
+        "%document d\n%document c\n{\"_key\":\"k\",\"a\":1}\n%query\n",
+        "",
+    ),
+];
+
 #[test]
 fn prints_documents_of_scripts(rt: HostRuntime) -> Result<(), Fail> {
     let alloc = rt.alloc();
     let query = "FOR x IN d FILTER x.a == 1 RETURN x";
-    for (script, text) in [
-        (
-            "%document c shards=3 keys=a,b\n{\"_key\":\"k\",\"a\":1}\n%document d\n\
-                {\"_id\":\"d/1\",\"a\":1}\n \t\r\n{\"_key\":\"2\"}\n%index d a,b\n%index d a,b\n%query\n",
-            "{\"_id\":\"d/1\",\"_key\":\"1\",\"a\":1}\n",
-        ),
-        (
-            "%edge\td\r\n{\"a\":1,\"_key\":\"e\",\"_from\":\"c/1\",\"_to\":\"c/2\"}\r\n%query \r\n",
-            "{\"_from\":\"c/1\",\"_id\":\"d/e\",\"_key\":\"e\",\"_to\":\"c/2\",\"a\":1}\n",
-        ),
-        (
-            "%document d\n%document c\n{\"_key\":\"k\",\"a\":1}\n%query\n",
-            "",
-        ),
-    ] {
+    for (script, text) in &SCRIPTS {
         let script = format!(in alloc; "{script}{query}")?;
         prints(&rt, alloc, script.as_str(), text)?;
     }
@@ -212,62 +253,67 @@ static VALUES: [(&str, &str); 9] = [
     ),
 ];
 
+fn prints_value(rt: &impl Abort, alloc: Global, value: &str, text: &str) -> Result<(), Fail> {
+    let script = format!(in alloc; "%query\nRETURN {value}")?;
+    let line = format!(in alloc; "{text}\n")?;
+    prints(rt, alloc, script.as_str(), line.as_str())
+}
+
 #[test]
 fn prints_values(rt: HostRuntime) -> Result<(), Fail> {
-    let alloc = rt.alloc();
-    for (value, text) in VALUES {
-        let script = format!(in alloc; "%query\nRETURN {value}")?;
-        let line = format!(in alloc; "{text}\n")?;
-        prints(&rt, alloc, script.as_str(), line.as_str())?;
+    for (value, text) in &VALUES {
+        prints_value(&rt, rt.alloc(), value, text)?;
     }
     Ok(())
 }
 
+static BAD_SCRIPTS: [(&str, &str); 15] = [
+    ("", "aql: script: line 0: no query\n"),
+    ("%document c\n", "aql: script: line 1: no query\n"),
+    (
+        "{}\n%query\n",
+        "aql: script: line 1: document outside a collection\n",
+    ),
+    ("%document c\n[]\n", "aql: script: line 2: not an object\n"),
+    ("%document c\n{\n", "aql: script: line 2: not JSON\n"),
+    (
+        "%document c\n{\"_key\":\"k1\"}\n{\"_key\":\"k2\"}\n{\"_key\":\"k3\"\n%query\nRETURN 1",
+        "aql: script: line 4: not JSON\n",
+    ),
+    (
+        "%document c\n{\"a\":1.5}\n%query\n",
+        "aql: script: line 2: number not whole\n",
+    ),
+    (
+        "%document c\n{\"_key\":\"k\"}\n\n{\"_key\":\"k\"}\n%query\n",
+        "aql: script: line 4: duplicate key\n",
+    ),
+    (
+        "%document c\n%edge c\n%query\n",
+        "aql: script: line 2: collection declared twice\n",
+    ),
+    ("%index c a\n", "aql: script: line 1: unknown collection\n"),
+    ("%document c\n{\"a\":1}\n", "aql: script: line 2: bad key\n"),
+    (
+        "%document c\n{\"_key\":\"k\",\"_id\":\"d/k\"}\n",
+        "aql: script: line 2: id mismatch\n",
+    ),
+    (
+        "%edge c\n{\"_key\":\"k\"}\n",
+        "aql: script: line 2: bad edge\n",
+    ),
+    ("%Document c\n", "aql: script: line 1: bad directive\n"),
+    // The query has faults too.
+    (
+        "%document c\n[]\n%query\nRETURN 1.5",
+        "aql: script: line 2: not an object\n",
+    ),
+];
+
 #[test]
 fn refuses_scripts(rt: HostRuntime) -> Result<(), Fail> {
     let alloc = rt.alloc();
-    for (script, line) in [
-        ("", "aql: script: line 0: no query\n"),
-        ("%document c\n", "aql: script: line 1: no query\n"),
-        (
-            "{}\n%query\n",
-            "aql: script: line 1: document outside a collection\n",
-        ),
-        ("%document c\n[]\n", "aql: script: line 2: not an object\n"),
-        ("%document c\n{\n", "aql: script: line 2: not JSON\n"),
-        (
-            "%document c\n{\"_key\":\"k1\"}\n{\"_key\":\"k2\"}\n{\"_key\":\"k3\"\n%query\nRETURN 1",
-            "aql: script: line 4: not JSON\n",
-        ),
-        (
-            "%document c\n{\"a\":1.5}\n%query\n",
-            "aql: script: line 2: number not whole\n",
-        ),
-        (
-            "%document c\n{\"_key\":\"k\"}\n\n{\"_key\":\"k\"}\n%query\n",
-            "aql: script: line 4: duplicate key\n",
-        ),
-        (
-            "%document c\n%edge c\n%query\n",
-            "aql: script: line 2: collection declared twice\n",
-        ),
-        ("%index c a\n", "aql: script: line 1: unknown collection\n"),
-        ("%document c\n{\"a\":1}\n", "aql: script: line 2: bad key\n"),
-        (
-            "%document c\n{\"_key\":\"k\",\"_id\":\"d/k\"}\n",
-            "aql: script: line 2: id mismatch\n",
-        ),
-        (
-            "%edge c\n{\"_key\":\"k\"}\n",
-            "aql: script: line 2: bad edge\n",
-        ),
-        ("%Document c\n", "aql: script: line 1: bad directive\n"),
-        // The query has faults too.
-        (
-            "%document c\n[]\n%query\nRETURN 1.5",
-            "aql: script: line 2: not an object\n",
-        ),
-    ] {
+    for (script, line) in &BAD_SCRIPTS {
         gives(&rt, alloc, script, &SOUND, 3, "", line)?;
     }
     let shards = "%document c shards=33\n%query\nRETURN y";
@@ -296,8 +342,7 @@ fn lines_numbered(alloc: Global, first: &str, other: &str, count: usize) -> Resu
     let mut script = String::new(alloc);
     script.push_str(first)?;
     for number in 1..=count {
-        let line = format!(in alloc; "{other}{number}\n")?;
-        script.push_str(line.as_str())?;
+        write!(script, "{other}{number}\n")?;
     }
     Ok(script)
 }
@@ -306,95 +351,113 @@ fn lines_numbered(alloc: Global, first: &str, other: &str, count: usize) -> Resu
 fn keeps_limits_of_scripts(rt: HostRuntime) -> Result<(), Fail> {
     let alloc = rt.alloc();
     prints(&rt, alloc, arrays_in(alloc, 63)?.as_str(), "1\n")?;
-    for (script, line) in [
-        (arrays_in(alloc, 64)?, "aql: limit: line 2: JSON depth\n"),
+    let line = "aql: limit: line 2: JSON depth\n";
+    gives(
+        &rt,
+        alloc,
+        arrays_in(alloc, 64)?.as_str(),
+        &SOUND,
+        5,
+        "",
+        line,
+    )?;
+    for (first, other, count, line) in [
+        ("", "%document c", 65, "aql: limit: line 65: collections\n"),
         (
-            lines_numbered(alloc, "", "%document c", 65)?,
-            "aql: limit: line 65: collections\n",
-        ),
-        (
-            lines_numbered(alloc, "%document c\n", "%index c a", 17)?,
+            "%document c\n",
+            "%index c a",
+            17,
             "aql: limit: line 18: indexes\n",
         ),
     ] {
+        let script = lines_numbered(alloc, first, other, count)?;
         gives(&rt, alloc, script.as_str(), &SOUND, 5, "", line)?;
     }
     Ok(())
 }
 
+static BAD_QUERIES: [(&str, &str); 19] = [
+    ("", "query: not in the grammar"),
+    ("FOR d IN", "query: not in the grammar"),
+    ("INSERT {} INTO c", "query: not in the grammar"),
+    (
+        "FOR x IN c FILTER x.a == RETURN x",
+        "query: not in the grammar",
+    ),
+    ("RETURN y", "query: unknown name y"),
+    (
+        "FOR x IN c FILTER x.a == 1 RETURN y",
+        "query: unknown name y",
+    ),
+    ("LET x = 1 LET x = 2 RETURN 1", "query: declared twice x"),
+    ("RETURN 1.5", "query: byte 7: fraction"),
+    (
+        "FOR x IN c FILTER x.a == 9223372036854775808 RETURN x",
+        "query: byte 25: number too large",
+    ),
+    (
+        "RETURN LENGTH()",
+        "query: wrong number of arguments LENGTH 0",
+    ),
+    ("RETURN FOO()", "query: unknown function FOO"),
+    ("WITH d RETURN 1", "query: unknown collection d"),
+    ("FOR x IN d RETURN x", "query: unknown collection d"),
+    (
+        "FOR v IN OUTBOUND 'c/a' c RETURN v",
+        "query: not an edge collection c",
+    ),
+    (
+        "RETURN [1][* FILTER (RETURN 1)]",
+        "query: subquery not allowed",
+    ),
+    (
+        "FOR v IN OUTBOUND 'c/a' e OPTIONS {k: 1} RETURN v",
+        "query: bad option k",
+    ),
+    // The first of several faults decides: tokens, grammar, names.
+    ("RETURN y RETURN 1.5", "query: byte 16: fraction"),
+    ("RETURN y FOR", "query: not in the grammar"),
+    ("LET x = 1 RETURN y", "query: unknown name y"),
+];
+
 #[test]
 fn refuses_queries(rt: HostRuntime) -> Result<(), Fail> {
     let alloc = rt.alloc();
-    for (query, line) in [
-        ("", "query: not in the grammar"),
-        ("FOR d IN", "query: not in the grammar"),
-        ("INSERT {} INTO c", "query: not in the grammar"),
-        (
-            "FOR x IN c FILTER x.a == RETURN x",
-            "query: not in the grammar",
-        ),
-        ("RETURN y", "query: unknown name y"),
-        (
-            "FOR x IN c FILTER x.a == 1 RETURN y",
-            "query: unknown name y",
-        ),
-        ("LET x = 1 LET x = 2 RETURN 1", "query: declared twice x"),
-        ("RETURN 1.5", "query: byte 7: fraction"),
-        (
-            "FOR x IN c FILTER x.a == 9223372036854775808 RETURN x",
-            "query: byte 25: number too large",
-        ),
-        (
-            "RETURN LENGTH()",
-            "query: wrong number of arguments LENGTH 0",
-        ),
-        ("RETURN FOO()", "query: unknown function FOO"),
-        ("WITH d RETURN 1", "query: unknown collection d"),
-        ("FOR x IN d RETURN x", "query: unknown collection d"),
-        (
-            "FOR v IN OUTBOUND 'c/a' c RETURN v",
-            "query: not an edge collection c",
-        ),
-        (
-            "RETURN [1][* FILTER (RETURN 1)]",
-            "query: subquery not allowed",
-        ),
-        (
-            "FOR v IN OUTBOUND 'c/a' e OPTIONS {k: 1} RETURN v",
-            "query: bad option k",
-        ),
-        // The first of several faults decides: tokens, grammar, names.
-        ("RETURN y RETURN 1.5", "query: byte 16: fraction"),
-        ("RETURN y FOR", "query: not in the grammar"),
-        ("LET x = 1 RETURN y", "query: unknown name y"),
-    ] {
+    for (query, line) in &BAD_QUERIES {
         is_refused(&rt, alloc, query, 4, line)?;
     }
     Ok(())
 }
 
+// So many spaces behind a text that eight bytes more make a query as long as may be.
+fn spaced(alloc: Global, before: &str, behind: &str) -> Result<String, Fail> {
+    let spaces = " ".repeat(alloc, 65_528)?;
+    Ok(format!(in alloc; "{before}{spaces}{behind}")?)
+}
+
 #[test]
 fn keeps_limits(rt: HostRuntime) -> Result<(), Fail> {
     let alloc = rt.alloc();
-    let spaces = " ".repeat(alloc, 65_528)?;
-    let most = format!(in alloc; "%query\nRETURN 1{spaces}")?;
+    let most = spaced(alloc, "%query\nRETURN 1", "")?;
     prints(&rt, alloc, most.as_str(), "1\n")?;
-    let more = format!(in alloc; "RETURN #{spaces} ")?;
-    is_refused(&rt, alloc, more.as_str(), 5, "limit: query bytes")?;
-    let deep = nested(alloc, 64, "1")?;
-    let script = format!(in alloc; "%query\n{deep}")?;
-    prints(&rt, alloc, script.as_str(), "1\n")?;
-    is_refused(
+    let deep = alone(alloc, nested(alloc, 64, "1")?.as_str())?;
+    prints(&rt, alloc, deep.as_str(), "1\n")
+}
+
+#[test]
+fn refuses_beyond_limits(rt: HostRuntime) -> Result<(), Fail> {
+    let alloc = rt.alloc();
+    let bytes = "limit: query bytes";
+    is_refused_long(&rt, alloc, spaced(alloc, "RETURN #", " ")?, 5, bytes)?;
+    is_refused_long(&rt, alloc, nested(alloc, 65, "1")?, 5, "limit: nesting")?;
+    is_refused_long(&rt, alloc, lets(alloc, 127, "RETURN 1")?, 9, "not yet")?;
+    is_refused_long(
         &rt,
         alloc,
-        nested(alloc, 65, "1")?.as_str(),
+        lets(alloc, 128, "RETURN 1")?,
         5,
-        "limit: nesting",
+        "limit: clauses",
     )?;
-    let many = lets(alloc, 127, "RETURN 1")?;
-    is_refused(&rt, alloc, many.as_str(), 9, "not yet")?;
-    let more = lets(alloc, 128, "RETURN 1")?;
-    is_refused(&rt, alloc, more.as_str(), 5, "limit: clauses")?;
     is_refused(
         &rt,
         alloc,
@@ -409,13 +472,17 @@ fn keeps_limits(rt: HostRuntime) -> Result<(), Fail> {
 #[test]
 fn orders_limits(rt: HostRuntime) -> Result<(), Fail> {
     let alloc = rt.alloc();
-    let fraction = nested(alloc, 65, "1.5")?;
-    is_refused(&rt, alloc, fraction.as_str(), 4, "query: byte 72: fraction")?;
+    let fraction = "query: byte 72: fraction";
+    is_refused_long(&rt, alloc, nested(alloc, 65, "1.5")?, 4, fraction)?;
     let open = nested(alloc, 65, "(")?;
-    let many = lets(alloc, 128, open.as_str())?;
-    is_refused(&rt, alloc, many.as_str(), 5, "limit: nesting")?;
-    let endless = lets(alloc, 129, "")?;
-    is_refused(&rt, alloc, endless.as_str(), 5, "limit: clauses")?;
+    is_refused_long(
+        &rt,
+        alloc,
+        lets(alloc, 128, open.as_str())?,
+        5,
+        "limit: nesting",
+    )?;
+    is_refused_long(&rt, alloc, lets(alloc, 129, "")?, 5, "limit: clauses")?;
     for (query, status, line) in [
         (
             "FOR v IN 1..33 OUTBOUND 'c/a' e",
@@ -433,22 +500,24 @@ fn orders_limits(rt: HostRuntime) -> Result<(), Fail> {
     Ok(())
 }
 
+static OTHER_FORMS: [&str; 11] = [
+    "LET x = 1 RETURN x",
+    "SORT 1 RETURN 1",
+    "LIMIT 1 RETURN 1",
+    "RETURN (RETURN 1)",
+    "RETURN DISTINCT 1",
+    "FOR x IN c RETURN DISTINCT x",
+    "FOR x IN [1, 2] RETURN x",
+    "FOR x IN c FOR y IN c RETURN x",
+    "FILTER true FOR x IN c RETURN x",
+    "FOR x IN c COLLECT y = x.a RETURN y",
+    "FOR v IN OUTBOUND 'c/a' e RETURN v",
+];
+
 #[test]
 fn runs_no_other_form(rt: HostRuntime) -> Result<(), Fail> {
     let alloc = rt.alloc();
-    for query in [
-        "LET x = 1 RETURN x",
-        "SORT 1 RETURN 1",
-        "LIMIT 1 RETURN 1",
-        "RETURN (RETURN 1)",
-        "RETURN DISTINCT 1",
-        "FOR x IN c RETURN DISTINCT x",
-        "FOR x IN [1, 2] RETURN x",
-        "FOR x IN c FOR y IN c RETURN x",
-        "FILTER true FOR x IN c RETURN x",
-        "FOR x IN c COLLECT y = x.a RETURN y",
-        "FOR v IN OUTBOUND 'c/a' e RETURN v",
-    ] {
+    for query in &OTHER_FORMS {
         is_refused(&rt, alloc, query, 9, "not yet")?;
     }
     Ok(())
@@ -457,10 +526,9 @@ fn runs_no_other_form(rt: HostRuntime) -> Result<(), Fail> {
 // Each front of a script is refused, or is a script without a query's end.
 #[test]
 fn takes_each_front(rt: HostRuntime) -> Result<(), Fail> {
-    let alloc = rt.alloc();
     let script = FIRST.as_bytes();
     for count in 0..script.len() {
-        let gave = run_on(alloc, &script[..count], &SOUND)?;
+        let gave = run_on(rt.alloc(), &script[..count], &SOUND)?;
         assert!(rt; matches!(gave.status, 3 | 4), "{count}");
         assert_eq!(rt; gave.out.written(), b"".as_slice(), "{count}");
     }
@@ -468,50 +536,59 @@ fn takes_each_front(rt: HostRuntime) -> Result<(), Fail> {
 }
 
 #[test]
-fn streams_fail(rt: HostRuntime) -> Result<(), Fail> {
-    let alloc = rt.alloc();
+fn sources_fail(rt: HostRuntime) -> Result<(), Fail> {
     for count in 0..=FIRST.len() as u64 {
         let mut streams = SOUND;
         streams.source_fails = Some(count);
-        gives(&rt, alloc, FIRST, &streams, 6, "", "aql: read fault\n")?;
+        gives(&rt, rt.alloc(), FIRST, &streams, 6, "", "aql: read fault\n")?;
     }
+    Ok(())
+}
+
+#[test]
+fn outputs_fail(rt: HostRuntime) -> Result<(), Fail> {
+    let alloc = rt.alloc();
     let kept = KEPT.as_bytes();
+    let line = b"aql: write fault\n";
     for count in 0..kept.len() {
         let mut streams = SOUND;
         streams.out_fails = Some(count as u64);
         let gave = run_on(alloc, FIRST.as_bytes(), &streams)?;
-        assert_eq!(rt; gave.status, 7, "{count}");
-        assert_eq!(rt; gave.out.written(), &kept[..count], "{count}");
-        assert_eq!(rt; gave.err.written(), b"aql: write fault\n".as_slice());
+        gave.check(&rt, FIRST, 7, &kept[..count], line);
     }
     let mut full = SOUND;
     full.room = 3;
     gives(&rt, alloc, FIRST, &full, 7, "{\"_", "aql: write fault\n")
 }
 
+static ENDS: [(&str, u8, &str, &str); 6] = [
+    ("%query\nRETURN 1", 0, "1\n", ""),
+    ("", 3, "", "aql: s"),
+    ("%query\nRETURN y", 4, "", "aql: q"),
+    ("%query\nRETURN 1.5", 4, "", "aql: q"),
+    ("%document c shards=33\n%query\n", 5, "", "aql: l"),
+    ("%query\nLET x = 1 RETURN x", 9, "", "aql: n"),
+];
+
 #[test]
 fn error_output_fails(rt: HostRuntime) -> Result<(), Fail> {
-    let alloc = rt.alloc();
     let mut streams = SOUND;
     streams.err_fails = Some(6);
-    for (script, status, line) in [
-        ("%query\nRETURN 1", 0, ""),
-        ("", 3, "aql: s"),
-        ("%query\nRETURN y", 4, "aql: q"),
-        ("%query\nRETURN 1.5", 4, "aql: q"),
-        ("%document c shards=33\n%query\n", 5, "aql: l"),
-        ("%query\nLET x = 1 RETURN x", 9, "aql: n"),
-    ] {
-        let text = if status == 0 { "1\n" } else { "" };
-        gives(&rt, alloc, script, &streams, status, text, line)?;
+    for (script, status, text, line) in &ENDS {
+        gives(&rt, rt.alloc(), script, &streams, *status, text, line)?;
     }
-    let mut words = Names::new(alloc);
-    words.push(Text::new(alloc, "aql_shell")?)?;
-    words.push(Text::new(alloc, "--explain")?)?;
-    let mut source = MemorySource::new(FIRST.as_bytes().to_vec(alloc)?, 9, None);
+    Ok(())
+}
+
+// Words that are refused, on an error output that fails.
+#[test]
+fn words_fail(rt: HostRuntime) -> Result<(), Fail> {
+    let alloc = rt.alloc();
+    let script = FIRST.as_bytes().to_vec(alloc)?;
+    let words = names(alloc, &["aql_shell", "--explain"])?;
+    let mut err = sink(alloc, 4, Some(6), 100)?;
+    let mut source = MemorySource::new(script, 9, None);
     let mut out = MemorySink::new(alloc, 1, None);
-    let mut err = MemorySink::new(alloc, 4, Some(6));
-    err.reserve(100)?;
     assert_eq!(rt;
         run_shell(alloc, &words, &mut source, &mut out, &mut err),
         2

@@ -6,6 +6,3 @@ mod rows;
 mod running;
 
 pub use running::run;
-
-#[cfg(test)]
-mod tests;

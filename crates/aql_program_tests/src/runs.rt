@@ -4,8 +4,8 @@ ghost use Rattle.aql_tree.specs.View.{clauses as clause_trees};
 ghost use Rattle.aql_meaning.specs.Plain.{IsPlain};
 ghost use Rattle.aql_lift.specs.Lifted.{ClauseLifted, ClausesLifted, IsLifted};
 
-use crate::run;
 use aql_doc::Catalog;
+use aql_run::run;
 use aql_tree::{Clause, Clauses, Expr, Ident, Query, Step};
 use aql_value::{Names, OutOfMemory, Seq, Text, Value, from_json_line};
 use std::alloc::Global;
@@ -63,23 +63,28 @@ fn add(alloc: Global, catalog: &mut Catalog, json: &str) -> bool {
     }
 }
 
-// The collection `c` with four documents.
-fn catalog(alloc: Global) -> Result<Catalog, OutOfMemory> {
-    let mut catalog = Catalog::new(alloc);
+fn declare(alloc: Global, catalog: &mut Catalog) -> Result<(), OutOfMemory> {
+    let name = Text::new(alloc, "c")?;
     let mut keys = Names::new(alloc);
     keys.push(Text::new(alloc, "_key")?)?;
-    let _ = catalog.declare(alloc, Text::new(alloc, "c")?, false, 1, keys);
+    let _ = catalog.declare(alloc, name, false, 1, keys);
+    Ok(())
+}
+
+// The collection `c` with four documents.
+fn fill(alloc: Global, catalog: &mut Catalog) -> Result<(), OutOfMemory> {
+    declare(alloc, catalog)?;
     for json in [
         r#"{"_key":"1","a":true,"b":0}"#,
         r#"{"_key":"2","a":1,"b":"x"}"#,
         r#"{"_key":"3","a":"","b":1}"#,
         r#"{"_key":"4","a":[],"b":{}}"#,
     ] {
-        if !add(alloc, &mut catalog, json) {
+        if !add(alloc, catalog, json) {
             return Err(OutOfMemory);
         }
     }
-    Ok(catalog)
+    Ok(())
 }
 
 fn is_text(lines: &Option<Vec<u8>>, want: Option<&str>) -> bool {
@@ -92,6 +97,16 @@ fn is_text(lines: &Option<Vec<u8>>, want: Option<&str>) -> bool {
     }
 }
 
+// Whether the lines of a query over the four documents are these.
+fn prints(alloc: Global, asked: &Query, want: Option<&str>) -> Result<bool, OutOfMemory>
+    requires { IsLifted (query_tree asked.now) }
+{
+    let mut catalog = Catalog::new(alloc);
+    fill(alloc, &mut catalog)?;
+    let lines = run(alloc, asked, &catalog)?;
+    Ok(is_text(&lines, want))
+}
+
 fn gives(
     alloc: Global,
     clauses: Clauses,
@@ -101,8 +116,7 @@ fn gives(
     requires { ClausesLifted (clause_trees (map clause_tree clauses)) }
 {
     let asked = query(alloc, clauses, distinct)?;
-    let lines = run(alloc, &asked, &catalog(alloc)?)?;
-    Ok(is_text(&lines, want))
+    prints(alloc, &asked, want)
 }
 
 #[test]
