@@ -2,8 +2,8 @@
 
 ghost use Rattle.std.specs.Prelude.{◌≡◌, [], ◌∷◌, ◌++◌, map, length, suc, Some, IfOk, OnOk, option_to_list, option_map, nat_le, codes};
 ghost use Rattle.aql_tree.specs.Tree as spec;
-ghost use Rattle.aql_tree.specs.View.{tree, clause_tree, into_part, traversal_part, options_part, members, member_part, named, walked};
-ghost use Rattle.aql_tree.specs.declared.syntax.Ident.TheVariants.{Name};
+ghost use Rattle.aql_tree.specs.View.{tree, clause_tree, query_tree, into_part, traversal_part, options_part, members, member_part, named, walked};
+ghost use Rattle.aql_tree.specs.declared.syntax.Ident.TheVariants.{Name, Num};
 ghost use Rattle.aql_doc.specs.Declarations.{place_of};
 ghost use Rattle.aql_meaning.specs.Groups.{names_taken};
 ghost use Rattle.aql_meaning.specs.Visible.{onto};
@@ -18,7 +18,8 @@ use crate::checks::{check_collection, check_kept, check_new};
 use crate::names::{At, NameList, Scope, declare_ident};
 use crate::options::Written;
 use aql_tree::{
-    Clause, Expr, Field, Fields, Ident, Into, Options, Traversal, UniqueEdges, UniqueVertices,
+    Clause, Clauses, Expr, Field, Fields, Ident, Into, Options, Query, Traversal, UniqueEdges,
+    UniqueVertices,
 };
 use aql_value::{Names, OutOfMemory, Seq, Text, Value};
 use std::alloc::Global;
@@ -50,6 +51,24 @@ pub fn number_of_name(alloc: Global, scope: &Scope, name: &Text) -> Result<Optio
 {
     let ident = Ident::Name(name.copy(alloc)?);
     Ok(scope.find(&ident))
+}
+
+/// The variable of a subquery, whose LET then stands before the clause at hand.
+pub fn standing_before(
+    alloc: Global,
+    inner: Query,
+    number: u32,
+    lets: &mut Clauses,
+) -> Result<Expr, OutOfMemory>
+    ensures variable { IfOk result (λ e. tree e ≡ spec.variable (Num number)) }
+    ensures lets { OnOk result (map clause_tree lets.new ≡ map clause_tree lets.old
+        ++ spec.define (Num number) (spec.subquery (query_tree inner)) ∷ []) }
+{
+    lets.push(Clause::Let {
+        var: Ident::Num(number),
+        expr: Expr::Sub(Box::new(alloc, inner)?),
+    })?;
+    Ok(Expr::Var(Ident::Num(number)))
 }
 
 /// FOR over a single name: the variable of the number that it has, or else a collection.

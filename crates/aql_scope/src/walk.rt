@@ -18,7 +18,7 @@ use crate::checks::{
 };
 use crate::clauses::{
     WalkParts, check_depth, check_setting, check_walk_vars, copy_texts, declare_walk,
-    documents_clause, for_name, into_names, single_name, walk_of,
+    documents_clause, for_name, into_names, single_name, standing_before, walk_of,
 };
 use crate::names::{At, NameList, Scope, declare, declare_ident, written};
 use crate::options::Written;
@@ -133,11 +133,7 @@ fn lifted(
     }
     let number = declare(said, Text::new(at.alloc, "sub")?)?;
     let inner = query_within(query, at, said)?;
-    lets.push(Clause::Let {
-        var: Ident::Num(number),
-        expr: Expr::Sub(Box::new(at.alloc, inner)?),
-    })?;
-    Ok(Expr::Var(Ident::Num(number)))
+    Ok(standing_before(at.alloc, inner, number, lets)?)
 }
 
 #[cycle(walk)]
@@ -208,10 +204,13 @@ fn members(
                 name: name.copy(at.alloc)?,
                 value: expr(value, at, said, lets)?,
             },
-            Field::Computed { name, value } => Field::Computed {
-                name: expr(name, at, said, lets)?,
-                value: expr(value, at, said, lets)?,
-            },
+            Field::Computed { name, value } => {
+                let name = boxed(name, at, said, lets)?;
+                Field::Computed {
+                    value: expr(value, at, said, lets)?,
+                    name: Box::into_inner(name),
+                }
+            }
         };
         found.push(member)?;
     }
