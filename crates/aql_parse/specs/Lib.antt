@@ -1,3 +1,4 @@
 pub mod Nests
 pub mod Shapes
 pub mod Parsed
+pub mod Parts

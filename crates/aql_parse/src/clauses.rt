@@ -5,6 +5,7 @@ ghost use Rattle.std.specs.Prelude.{◌∷◌, ◌++◌};
 ghost use Rattle.aql_grammar.specs.Clauses.{says};
 ghost use Rattle.aql_grammar.specs.Input.{ReadsAs, separated, separated_onto};
 ghost use Rattle.aql_parse.specs.Nests.{Nests};
+ghost use Rattle.aql_parse.specs.Parts.{alone};
 ghost use Rattle.aql_parse.specs.Shapes.{shape_of, shape_with};
 ghost use Rattle.aql_tree.specs.Made.{default_options, written_shape};
 ghost use Rattle.aql_tree.specs.View.{options_part, traversal_part};
@@ -14,7 +15,7 @@ ghost use Rattle.aql_tree.specs.Made as made;
 ghost use Rattle.aql_tree.specs.View.{tree, query_tree, clause_tree, member_part, key_part};
 ghost use Rattle.aql_tree.specs.View.{let_part, aggregate_part, into_part, walked};
 
-use crate::expressions::Grammar;
+use crate::expressions::{Grammar, both};
 use aql_grammar::{Cursor, Depth, ParseFault, WalkNames, begins_clause, is_name};
 use aql_lex::{Keyword, Symbol, TokenKind};
 use aql_tree::{
@@ -30,6 +31,16 @@ fn named(name: Option<Text>) -> Option<Ident>
     match name {
         Some(name) => Some(Ident::Name(name)),
         None => None,
+    }
+}
+
+// The variable, where no edge is named beside it.
+fn alone(names: WalkNames) -> Option<Text>
+    ensures { result ≡ alone names.vertex names.edge }
+{
+    match names.edge {
+        Some(_) => None,
+        None => Some(names.vertex),
     }
 }
 
@@ -157,10 +168,10 @@ impl<F: Fn(Global, &mut Cursor<'_>, usize, bool) -> Result<Expr, ParseFault>> Gr
         ensures { ReadsAs let_part (reader.assigned (reader.expr self.now.depth) self.now.inside
             tokens.old) result tokens.new }
     {
-        let var = Ident::Name(tokens.name(self.alloc)?);
+        let name = tokens.name(self.alloc)?;
         tokens.expect(Symbol::Assign)?;
         let expr = self.expr(tokens)?;
-        Ok(Let::new(var, expr))
+        Ok(Let::new(Ident::Name(name), expr))
     }
 
     fn assigned_list(&self, tokens: &mut Cursor<'_>) -> Result<Lets, ParseFault>
@@ -198,9 +209,10 @@ impl<F: Fn(Global, &mut Cursor<'_>, usize, bool) -> Result<Expr, ParseFault>> Gr
         ensures { ReadsAs clause_tree (reader.let_clause (reader.expr self.now.depth)
             self.now.inside tokens.old) result tokens.new }
     {
-        let var = Ident::Name(tokens.name(self.alloc)?);
+        let name = tokens.name(self.alloc)?;
         tokens.expect(Symbol::Assign)?;
         let expr = self.expr(tokens)?;
+        let var = Ident::Name(name);
         Ok(Clause::Let { var, expr })
     }
 
@@ -264,9 +276,7 @@ impl<F: Fn(Global, &mut Cursor<'_>, usize, bool) -> Result<Expr, ParseFault>> Gr
         if tokens.eat(Symbol::CloseParen) {
             return Ok(None);
         }
-        let argument = self.expr(tokens)?;
-        tokens.expect(Symbol::CloseParen)?;
-        Ok(Some(argument))
+        Ok(Some(self.closed(tokens, Symbol::CloseParen)?))
     }
 
     #[tactic(auto, unfolding(aql_grammar::specs::Reader::aggregate))]
@@ -275,12 +285,12 @@ impl<F: Fn(Global, &mut Cursor<'_>, usize, bool) -> Result<Expr, ParseFault>> Gr
         ensures { ReadsAs aggregate_part (reader.aggregate (reader.expr self.now.depth)
             self.now.inside tokens.old) result tokens.new }
     {
-        let var = Ident::Name(tokens.name(self.alloc)?);
+        let var = tokens.name(self.alloc)?;
         tokens.expect(Symbol::Assign)?;
         let name = tokens.word(self.alloc)?;
         tokens.expect(Symbol::OpenParen)?;
         let arg = self.optional_argument(tokens)?;
-        Ok(AggregateItem::new(var, name, arg))
+        Ok(AggregateItem::new(Ident::Name(var), name, arg))
     }
 
     fn aggregate_list(&self, tokens: &mut Cursor<'_>) -> Result<Aggregates, ParseFault>
@@ -359,11 +369,9 @@ impl<F: Fn(Global, &mut Cursor<'_>, usize, bool) -> Result<Expr, ParseFault>> Gr
         }
         let aggregates = self.aggregates(tokens)?;
         let into = self.into(tokens)?;
-        if says(&groups, &aggregates, into.as_ref()) {
-            Ok(Clause::collect(groups, aggregates, into))
-        } else {
-            Err(ParseFault::NotInGrammar)
-        }
+        let says = says(&groups, &aggregates, into.as_ref());
+        let clause = Clause::collect(groups, aggregates, into);
+        says.then_some(clause).ok_or(ParseFault::NotInGrammar)
     }
 
     #[tactic(auto, unfolding(aql_grammar::specs::Reader::prune))]
@@ -402,11 +410,12 @@ impl<F: Fn(Global, &mut Cursor<'_>, usize, bool) -> Result<Expr, ParseFault>> Gr
     {
         let depth = tokens.depth()?;
         let direction = tokens.way()?;
-        let start = self.expr(tokens)?;
-        let collections = tokens.names(self.alloc)?;
-        let prune = self.prune(tokens)?;
-        let settings = self.settings(tokens)?;
         let shape = walk_shape(names, depth, direction);
+        let from = both(shape, self.expr(tokens))?;
+        let along = both(from, tokens.names(self.alloc))?;
+        let until = both(along, self.prune(tokens))?;
+        let all = both(until, self.settings(tokens))?;
+        let ((((shape, start), collections), prune), settings) = all;
         Ok(walk_clause(shape, start, collections, prune, settings))
     }
 
@@ -418,20 +427,16 @@ impl<F: Fn(Global, &mut Cursor<'_>, usize, bool) -> Result<Expr, ParseFault>> Gr
             self.now.inside tokens.old) result tokens.new }
     {
         let names = tokens.walk_names(self.alloc)?;
-        tokens.expect_keyword(Keyword::In)?;
+        let names = tokens.expect_keyword(Keyword::In).and(Ok(names))?;
         if tokens.begins_walk() {
             return self.walk(tokens, names);
         }
-        match names.edge {
-            Some(_) => Err(ParseFault::NotInGrammar),
-            None => {
-                let list = self.expr(tokens)?;
-                Ok(Clause::For {
-                    var: Ident::Name(names.vertex),
-                    list,
-                })
-            }
-        }
+        let name = alone(names).ok_or(ParseFault::NotInGrammar)?;
+        let list = self.expr(tokens)?;
+        Ok(Clause::For {
+            var: Ident::Name(name),
+            list,
+        })
     }
 
     // A clause, behind those that were found.
@@ -441,38 +446,34 @@ impl<F: Fn(Global, &mut Cursor<'_>, usize, bool) -> Result<Expr, ParseFault>> Gr
         ensures { ReadsAs (map clause_tree) (reader.clause (reader.expr self.now.depth)
             self.now.inside (map clause_tree found) tokens.old) result tokens.new }
     {
-        match tokens.peek() {
+        let clause = match tokens.peek() {
             Some(TokenKind::Keyword(Keyword::For)) => {
                 tokens.take();
-                let clause = self.for_clause(tokens)?;
-                Ok(pushed(found, clause)?)
+                self.for_clause(tokens)?
             }
             Some(TokenKind::Keyword(Keyword::Filter)) => {
                 tokens.take();
-                let clause = Clause::Filter(self.expr(tokens)?);
-                Ok(pushed(found, clause)?)
+                Clause::Filter(self.expr(tokens)?)
             }
             Some(TokenKind::Keyword(Keyword::Let)) => {
                 tokens.take();
-                self.let_clauses(tokens, found)
+                return self.let_clauses(tokens, found);
             }
             Some(TokenKind::Keyword(Keyword::Sort)) => {
                 tokens.take();
-                let clause = Clause::Sort(self.sort_keys(tokens)?);
-                Ok(pushed(found, clause)?)
+                Clause::Sort(self.sort_keys(tokens)?)
             }
             Some(TokenKind::Keyword(Keyword::Limit)) => {
                 tokens.take();
-                let clause = tokens.limit()?;
-                Ok(pushed(found, clause)?)
+                tokens.limit()?
             }
             Some(TokenKind::Keyword(Keyword::Collect)) => {
                 tokens.take();
-                let clause = self.collect(tokens)?;
-                Ok(pushed(found, clause)?)
+                self.collect(tokens)?
             }
-            _ => Err(ParseFault::NotInGrammar),
-        }
+            _ => return Err(ParseFault::NotInGrammar),
+        };
+        Ok(pushed(found, clause)?)
     }
 
     fn clauses(&self, tokens: &mut Cursor<'_>) -> Result<Clauses, ParseFault>

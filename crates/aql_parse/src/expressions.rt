@@ -2,8 +2,10 @@
 //! those one bracket deeper as a parameter, so that each is proved by itself.
 
 ghost use Rattle.std.specs.Prelude.{◌≡◌, ◌≤◌, ◌-◌, IfOk, map, option_map, true};
+ghost use Rattle.std.specs.Result.{result_map_both};
 ghost use Rattle.aql_grammar.specs.Input.{ReadsAs, many, items, separated, at_front};
 ghost use Rattle.aql_parse.specs.Nests.{Nests};
+ghost use Rattle.aql_parse.specs.Parts.{closed, value};
 ghost use Rattle.aql_grammar.specs.Objects.{unquoted};
 ghost use Rattle.aql_grammar.specs.Reader as reader;
 ghost use Rattle.aql_lex.specs.declared.vocabulary.Symbol.TheVariants as symbol;
@@ -26,6 +28,13 @@ pub struct Grammar<F> {
     pub inside: bool,
     /// Reads an expression one bracket deeper.
     pub expr: F,
+}
+
+/// What was found, with what was read behind it; or why that could not be read.
+pub fn both<A: Drop, B: Drop>(found: A, behind: Result<B, ParseFault>) -> Result<(A, B), ParseFault>
+    ensures { result ≡ result_map_both (λ b. (found, b)) (λ e. e) behind }
+{
+    Ok((found, behind?))
 }
 
 // An expression with the steps behind it, if there are any.
@@ -79,24 +88,44 @@ impl<F: Fn(Global, &mut Cursor<'_>, usize, bool) -> Result<Expr, ParseFault>> Gr
         (self.expr)(self.alloc, tokens, self.depth, true)
     }
 
+    /// An expression with the symbol behind it.
+    pub fn closed(&self, tokens: &mut Cursor<'_>, close: Symbol) -> Result<Expr, ParseFault>
+        requires { Nests self.now.depth (F.pre self.now.expr) (F.post self.now.expr) }
+        ensures { ReadsAs tree (closed close (reader.expr self.now.depth self.now.inside) tokens.old)
+            result tokens.new }
+    {
+        let found = self.expr(tokens)?;
+        tokens.expect(close).and(Ok(found))
+    }
+
     // Behind the name of a member; a name alone stands for the value of this name.
     #[tactic(auto, unfolding(aql_grammar::specs::Reader::named_member))]
     fn named_member(
         &self,
         tokens: &mut Cursor<'_>,
         name: Text,
-        short: Expr,
+        inside: bool,
     ) -> Result<Field, ParseFault>
         requires { Nests self.now.depth (F.pre self.now.expr) (F.post self.now.expr) }
         ensures { ReadsAs member_part (reader.named_member (reader.expr self.now.depth)
-            self.now.inside name (tree short) tokens.old) result tokens.new }
+            self.now.inside name (unquoted inside name) tokens.old) result tokens.new }
     {
         let value = if tokens.eat(Symbol::Colon) {
             self.expr(tokens)?
         } else {
-            short
+            unquoted(inside, name.copy(self.alloc)?)
         };
         Ok(Field::Named { name, value })
+    }
+
+    // A colon with the expression behind it.
+    fn value(&self, tokens: &mut Cursor<'_>) -> Result<Expr, ParseFault>
+        requires { Nests self.now.depth (F.pre self.now.expr) (F.post self.now.expr) }
+        ensures { ReadsAs tree (value (reader.expr self.now.depth self.now.inside) tokens.old) result
+            tokens.new }
+    {
+        tokens.expect(Symbol::Colon)?;
+        self.expr(tokens)
     }
 
     #[tactic(auto, unfolding(aql_grammar::specs::Reader::text_member))]
@@ -105,8 +134,7 @@ impl<F: Fn(Global, &mut Cursor<'_>, usize, bool) -> Result<Expr, ParseFault>> Gr
         ensures { ReadsAs member_part (reader.text_member (reader.expr self.now.depth)
             self.now.inside name tokens.old) result tokens.new }
     {
-        tokens.expect(Symbol::Colon)?;
-        let value = self.expr(tokens)?;
+        let value = self.value(tokens)?;
         Ok(Field::Named { name, value })
     }
 
@@ -116,10 +144,8 @@ impl<F: Fn(Global, &mut Cursor<'_>, usize, bool) -> Result<Expr, ParseFault>> Gr
         ensures { ReadsAs member_part (reader.computed_member (reader.expr self.now.depth)
             self.now.inside tokens.old) result tokens.new }
     {
-        let name = self.expr(tokens)?;
-        tokens.expect(Symbol::CloseBracket)?;
-        tokens.expect(Symbol::Colon)?;
-        let value = self.expr(tokens)?;
+        let name = self.closed(tokens, Symbol::CloseBracket)?;
+        let (name, value) = both(name, self.value(tokens))?;
         Ok(Field::Computed { name, value })
     }
 
@@ -132,13 +158,12 @@ impl<F: Fn(Global, &mut Cursor<'_>, usize, bool) -> Result<Expr, ParseFault>> Gr
         match tokens.peek() {
             Some(TokenKind::Word(name)) => {
                 tokens.take();
-                let short = unquoted(self.inside, name.copy(self.alloc)?);
-                self.named_member(tokens, name.copy(self.alloc)?, short)
+                self.named_member(tokens, name.copy(self.alloc)?, self.inside)
             }
             Some(TokenKind::Quoted(name)) => {
                 tokens.take();
-                let short = Expr::Var(Ident::Name(name.copy(self.alloc)?));
-                self.named_member(tokens, name.copy(self.alloc)?, short)
+                // A quoted CURRENT is a name as any other.
+                self.named_member(tokens, name.copy(self.alloc)?, false)
             }
             Some(TokenKind::Text(name)) => {
                 tokens.take();
@@ -261,8 +286,7 @@ impl<F: Fn(Global, &mut Cursor<'_>, usize, bool) -> Result<Expr, ParseFault>> Gr
             tokens.old) result tokens.new }
     {
         let found = self.argument(tokens)?;
-        tokens.expect(Symbol::CloseParen)?;
-        Ok(found)
+        tokens.expect(Symbol::CloseParen).and(Ok(found))
     }
 
     #[tactic(auto, unfolding(aql_grammar::specs::Reader::primary))]
@@ -338,13 +362,11 @@ impl<F: Fn(Global, &mut Cursor<'_>, usize, bool) -> Result<Expr, ParseFault>> Gr
     {
         if tokens.eat(Symbol::Star) {
             let filter = self.element(tokens, Keyword::Filter)?;
-            let project = self.element(tokens, Keyword::Return)?;
-            tokens.expect(Symbol::CloseBracket)?;
-            Ok(Step::each(filter, project))
+            let (filter, project) = both(filter, self.element(tokens, Keyword::Return))?;
+            let step = Step::each(filter, project);
+            tokens.expect(Symbol::CloseBracket).and(Ok(step))
         } else {
-            let at = self.expr(tokens)?;
-            tokens.expect(Symbol::CloseBracket)?;
-            Ok(Step::At(at))
+            Ok(Step::At(self.closed(tokens, Symbol::CloseBracket)?))
         }
     }
 
@@ -390,7 +412,7 @@ impl<F: Fn(Global, &mut Cursor<'_>, usize, bool) -> Result<Expr, ParseFault>> Gr
             tokens.old) result tokens.new }
     {
         let of = self.primary(tokens)?;
-        let steps = self.steps(tokens)?;
+        let (of, steps) = both(of, self.steps(tokens))?;
         Ok(accessed(self.alloc, of, steps)?)
     }
 
@@ -467,7 +489,7 @@ impl<F: Fn(Global, &mut Cursor<'_>, usize, bool) -> Result<Expr, ParseFault>> Gr
     {
         let low = self.level(tokens, level)?;
         if tokens.eat(Symbol::Range) {
-            let high = self.level(tokens, level)?;
+            let (low, high) = both(low, self.level(tokens, level))?;
             Ok(Expr::range(self.alloc, low, high)?)
         } else {
             Ok(low)
@@ -486,9 +508,9 @@ impl<F: Fn(Global, &mut Cursor<'_>, usize, bool) -> Result<Expr, ParseFault>> Gr
         if tokens.rank() != 7 {
             return Ok(left);
         }
-        let kind = tokens.quantifier()?;
-        let op = tokens.comparison()?;
-        let right = self.level(tokens, level)?;
+        let (left, kind) = both(left, tokens.quantifier())?;
+        let (left, op) = both(left, tokens.comparison())?;
+        let (left, right) = both(left, self.level(tokens, level))?;
         Ok(Expr::quantified(self.alloc, left, kind, op, right)?)
     }
 
@@ -502,7 +524,7 @@ impl<F: Fn(Global, &mut Cursor<'_>, usize, bool) -> Result<Expr, ParseFault>> Gr
             (level - 1)) tokens.old) result tokens.new }
     {
         let first = self.level(tokens, level - 1)?;
-        let rest = self.links(tokens, level)?;
+        let (first, rest) = both(first, self.links(tokens, level))?;
         Ok(chained(self.alloc, first, rest)?)
     }
 
@@ -529,12 +551,11 @@ impl<F: Fn(Global, &mut Cursor<'_>, usize, bool) -> Result<Expr, ParseFault>> Gr
             (tree test) tokens.old) result tokens.new }
     {
         if tokens.eat(Symbol::Colon) {
-            let no = self.expr(tokens)?;
+            let (test, no) = both(test, self.expr(tokens))?;
             return Ok(Expr::conditional(self.alloc, test, None, no)?);
         }
-        let yes = self.expr(tokens)?;
-        tokens.expect(Symbol::Colon)?;
-        let no = self.expr(tokens)?;
+        let asked = both(test, self.closed(tokens, Symbol::Colon))?;
+        let ((test, yes), no) = both(asked, self.expr(tokens))?;
         Ok(Expr::conditional(self.alloc, test, Some(yes), no)?)
     }
 
