@@ -8,6 +8,3 @@ mod walk;
 
 pub use rows::RowView;
 pub use walk::eval;
-
-#[cfg(test)]
-mod tests;
