@@ -1,9 +1,9 @@
 //! Copies of syntax trees.
 
-ghost use Rattle.std.specs.Prelude.{◌≡◌, map, IfOk, option_map};
+ghost use Rattle.std.specs.Prelude.{◌≡◌, map, IfOk, Ok, option_map};
 ghost use Rattle.aql_tree.specs.View.{tree, clause_tree, step_part, member_part, link_part};
-ghost use Rattle.aql_tree.specs.View.{key_part, let_part, aggregate_part, into_part, collect_part};
-ghost use Rattle.aql_tree.specs.View.{options_part, traversal_part, query_tree};
+ghost use Rattle.aql_tree.specs.View.{key_part, let_part, aggregate_part, into_part};
+ghost use Rattle.aql_tree.specs.View.{traversal_part, query_tree};
 
 use aql_tree::{
     AggregateItem, Clause, Collect, Expr, Field, Ident, Into, Key, Let, Link, Options, Query, Step,
@@ -38,6 +38,13 @@ fn copy_maybe_ident(alloc: Global, ident: &Option<Ident>) -> Result<Option<Ident
         Some(ident) => Ok(Some(copy_ident(alloc, ident)?)),
         None => Ok(None),
     }
+}
+
+// `first` beside what was made after it; where that failed, `first` is dropped.
+fn beside<A: Drop, B>(first: A, second: Result<B, OutOfMemory>) -> Result<(A, B), OutOfMemory>
+    ensures { IfOk result (λ pair. (pair.0 ≡ first) × (second ≡ Ok pair.1)) }
+{
+    Ok((first, second?))
 }
 
 /// An equal expression.
@@ -151,7 +158,10 @@ fn copy_links(alloc: Global, all: &[Link]) -> Result<Seq<Link>, OutOfMemory>
 {
     let mut out = Seq::new(alloc);
     for item in all {
-        out.push(copy_link(alloc, item)?)?;
+        out.push(Link {
+            op: item.op,
+            right: copy_expr(alloc, &item.right)?,
+        })?;
     }
     Ok(out)
 }
@@ -162,7 +172,10 @@ fn copy_keys(alloc: Global, all: &[Key]) -> Result<Seq<Key>, OutOfMemory>
 {
     let mut out = Seq::new(alloc);
     for item in all {
-        out.push(copy_key(alloc, item)?)?;
+        out.push(Key {
+            expr: copy_expr(alloc, &item.expr)?,
+            descending: item.descending,
+        })?;
     }
     Ok(out)
 }
@@ -173,7 +186,10 @@ fn copy_lets(alloc: Global, all: &[Let]) -> Result<Seq<Let>, OutOfMemory>
 {
     let mut out = Seq::new(alloc);
     for item in all {
-        out.push(copy_let(alloc, item)?)?;
+        out.push(Let {
+            var: copy_ident(alloc, &item.var)?,
+            expr: copy_expr(alloc, &item.expr)?,
+        })?;
     }
     Ok(out)
 }
@@ -184,7 +200,11 @@ fn copy_aggregates(alloc: Global, all: &[AggregateItem]) -> Result<Seq<Aggregate
 {
     let mut out = Seq::new(alloc);
     for item in all {
-        out.push(copy_aggregate(alloc, item)?)?;
+        out.push(AggregateItem {
+            var: copy_ident(alloc, &item.var)?,
+            name: item.name.copy(alloc)?,
+            arg: copy_maybe(alloc, &item.arg)?,
+        })?;
     }
     Ok(out)
 }
@@ -209,10 +229,11 @@ fn copy_field(alloc: Global, field: &Field) -> Result<Field, OutOfMemory>
             name: name.copy(alloc)?,
             value: copy_expr(alloc, value)?,
         }),
-        Field::Computed { name, value } => Ok(Field::Computed {
-            name: copy_expr(alloc, name)?,
-            value: copy_expr(alloc, value)?,
-        }),
+        Field::Computed { name, value } => {
+            let name = copy_expr(alloc, name)?;
+            let (name, value) = beside(name, copy_expr(alloc, value))?;
+            Ok(Field::Computed { name, value })
+        }
     }
 }
 
@@ -223,113 +244,55 @@ fn copy_step(alloc: Global, step: &Step) -> Result<Step, OutOfMemory>
     match step {
         Step::Name(name) => Ok(Step::Name(name.copy(alloc)?)),
         Step::At(e) => Ok(Step::At(copy_expr(alloc, e)?)),
-        Step::Each { filter, project } => Ok(Step::Each {
-            filter: copy_maybe(alloc, filter)?,
-            project: copy_maybe(alloc, project)?,
-        }),
+        Step::Each { filter, project } => {
+            let filter = copy_maybe(alloc, filter)?;
+            let (filter, project) = beside(filter, copy_maybe(alloc, project))?;
+            Ok(Step::Each { filter, project })
+        }
     }
 }
 
 #[cycle(copying)]
-fn copy_link(alloc: Global, link: &Link) -> Result<Link, OutOfMemory>
-    ensures { IfOk result (λ out. link_part out ≡ link_part link.now) }
-{
-    Ok(Link {
-        op: link.op,
-        right: copy_expr(alloc, &link.right)?,
-    })
-}
-
-#[cycle(copying)]
-fn copy_key(alloc: Global, key: &Key) -> Result<Key, OutOfMemory>
-    ensures { IfOk result (λ out. key_part out ≡ key_part key.now) }
-{
-    Ok(Key {
-        expr: copy_expr(alloc, &key.expr)?,
-        descending: key.descending,
-    })
-}
-
-#[cycle(copying)]
-fn copy_let(alloc: Global, item: &Let) -> Result<Let, OutOfMemory>
-    ensures { IfOk result (λ out. let_part out ≡ let_part item.now) }
-{
-    Ok(Let {
-        var: copy_ident(alloc, &item.var)?,
-        expr: copy_expr(alloc, &item.expr)?,
-    })
-}
-
-#[cycle(copying)]
-fn copy_aggregate(alloc: Global, item: &AggregateItem) -> Result<AggregateItem, OutOfMemory>
-    ensures { IfOk result (λ out. aggregate_part out ≡ aggregate_part item.now) }
-{
-    Ok(AggregateItem {
-        var: copy_ident(alloc, &item.var)?,
-        name: item.name.copy(alloc)?,
-        arg: copy_maybe(alloc, &item.arg)?,
-    })
-}
-
-#[cycle(copying)]
-fn copy_into(alloc: Global, into: &Into) -> Result<Into, OutOfMemory>
-    ensures { IfOk result (λ out. into_part out ≡ into_part into.now) }
-{
-    Ok(Into {
-        var: copy_ident(alloc, &into.var)?,
-        what: copy_maybe(alloc, &into.what)?,
-        keep: copy_texts(alloc, into.keep.as_slice())?,
-    })
-}
-
-#[cycle(copying)]
-fn copy_maybe_into(alloc: Global, into: &Option<Into>) -> Result<Option<Into>, OutOfMemory>
+fn copy_into(alloc: Global, into: &Option<Into>) -> Result<Option<Into>, OutOfMemory>
     ensures { IfOk result (λ j. option_map into_part j ≡ option_map into_part into.now) }
 {
     match into {
-        Some(into) => Ok(Some(copy_into(alloc, into)?)),
+        Some(into) => Ok(Some(Into {
+            var: copy_ident(alloc, &into.var)?,
+            keep: copy_texts(alloc, into.keep.as_slice())?,
+            what: copy_maybe(alloc, &into.what)?,
+        })),
         None => Ok(None),
     }
-}
-
-#[cycle(copying)]
-fn copy_collect(alloc: Global, collect: &Collect) -> Result<Collect, OutOfMemory>
-    ensures { IfOk result (λ out. collect_part out ≡ collect_part collect.now) }
-{
-    Ok(Collect {
-        groups: copy_lets(alloc, collect.groups.as_slice())?,
-        aggregates: copy_aggregates(alloc, collect.aggregates.as_slice())?,
-        into: copy_maybe_into(alloc, &collect.into)?,
-    })
-}
-
-#[cycle(copying)]
-fn copy_options(alloc: Global, options: &Options) -> Result<Options, OutOfMemory>
-    ensures { IfOk result (λ out. options_part out ≡ options_part options.now) }
-{
-    Ok(Options {
-        settings: copy_fields(alloc, options.settings.as_slice())?,
-        edges: options.edges,
-        vertices: options.vertices,
-        bfs: options.bfs,
-    })
 }
 
 #[cycle(copying)]
 fn copy_traversal(alloc: Global, walk: &Traversal) -> Result<Traversal, OutOfMemory>
     ensures { IfOk result (λ out. traversal_part out ≡ traversal_part walk.now) }
 {
+    let settings = copy_fields(alloc, walk.options.settings.as_slice())?;
+    let collections = copy_texts(alloc, walk.collections.as_slice())?;
+    let vertex = copy_ident(alloc, &walk.vertex)?;
+    let edge = copy_maybe_ident(alloc, &walk.edge)?;
+    let path = copy_maybe_ident(alloc, &walk.path)?;
+    let start = copy_expr(alloc, &walk.start)?;
+    let (start, prune) = beside(start, copy_maybe(alloc, &walk.prune))?;
     Ok(Traversal {
-        vertex: copy_ident(alloc, &walk.vertex)?,
-        edge: copy_maybe_ident(alloc, &walk.edge)?,
-        path: copy_maybe_ident(alloc, &walk.path)?,
+        vertex,
+        edge,
+        path,
         min: walk.min,
         max: walk.max,
         direction: walk.direction,
-        start: copy_expr(alloc, &walk.start)?,
-        collections: copy_texts(alloc, walk.collections.as_slice())?,
-        prune: copy_maybe(alloc, &walk.prune)?,
-        options: copy_options(alloc, &walk.options)?,
+        start,
+        collections,
+        prune,
+        options: Options {
+            settings,
+            edges: walk.options.edges,
+            vertices: walk.options.vertices,
+            bfs: walk.options.bfs,
+        },
     })
 }
 
@@ -357,7 +320,11 @@ fn copy_clause(alloc: Global, clause: &Clause) -> Result<Clause, OutOfMemory>
             offset: *offset,
             count: *count,
         }),
-        Clause::Collect(collect) => Ok(Clause::Collect(copy_collect(alloc, collect)?)),
+        Clause::Collect(collect) => Ok(Clause::Collect(Collect {
+            groups: copy_lets(alloc, collect.groups.as_slice())?,
+            aggregates: copy_aggregates(alloc, collect.aggregates.as_slice())?,
+            into: copy_into(alloc, &collect.into)?,
+        })),
     }
 }
 
