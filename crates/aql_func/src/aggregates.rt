@@ -16,7 +16,7 @@ pub(crate) fn min(alloc: Global, args: &Items) -> Result<Value, OutOfMemory>
 {
     match array_at(args, 0) {
         None => Ok(Value::Null),
-        Some(list) => Ok(copied_or_null(alloc, least(list.as_slice()))?),
+        Some(list) => copied_or_null(alloc, least(list.as_slice())),
     }
 }
 
@@ -25,7 +25,7 @@ pub(crate) fn max(alloc: Global, args: &Items) -> Result<Value, OutOfMemory>
 {
     match array_at(args, 0) {
         None => Ok(Value::Null),
-        Some(list) => Ok(copied_or_null(alloc, greatest(list.as_slice()))?),
+        Some(list) => copied_or_null(alloc, greatest(list.as_slice())),
     }
 }
 
@@ -33,7 +33,7 @@ fn copied_or_null(alloc: Global, value: Option<&Value>) -> Result<Value, OutOfMe
     ensures { IfOk result (λ v. tree_of v ≡ unwrap_or (given value.entry) null) }
 {
     match value {
-        Some(value) => Ok(copy(alloc, value)?),
+        Some(value) => copy(alloc, value),
         None => Ok(Value::Null),
     }
 }

@@ -65,7 +65,7 @@ pub(crate) fn text_at(alloc: Global, args: &Items, at: usize) -> Result<Text, Ou
     ensures { IfOk result (λ t. t ≡ convert.to_text (argument args.now at)) }
 {
     match args.get(at) {
-        Some(value) => Ok(to_text(alloc, value)?),
+        Some(value) => to_text(alloc, value),
         None => Ok(Text::new(alloc, "")?),
     }
 }
@@ -74,7 +74,7 @@ pub(crate) fn value_at(alloc: Global, args: &Items, at: usize) -> Result<Value, 
     ensures { IfOk result (λ v. tree_of v ≡ argument args.now at) }
 {
     match args.get(at) {
-        Some(value) => Ok(copy(alloc, value)?),
+        Some(value) => copy(alloc, value),
         None => Ok(Value::Null),
     }
 }

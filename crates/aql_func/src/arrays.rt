@@ -25,7 +25,7 @@ pub(crate) fn first(alloc: Global, args: &Items) -> Result<Value, OutOfMemory>
 {
     match array_at(args, 0) {
         None => Ok(Value::Null),
-        Some(list) => Ok(value_at(alloc, list, 0)?),
+        Some(list) => value_at(alloc, list, 0),
     }
 }
 
@@ -34,7 +34,7 @@ pub(crate) fn last(alloc: Global, args: &Items) -> Result<Value, OutOfMemory>
 {
     match array_at(args, 0) {
         None => Ok(Value::Null),
-        Some(list) => Ok(last_element(alloc, list)?),
+        Some(list) => last_element(alloc, list),
     }
 }
 
@@ -42,7 +42,7 @@ fn last_element(alloc: Global, list: &Items) -> Result<Value, OutOfMemory>
     ensures { IfOk result (λ v. tree_of v ≡ at_place list.now (negsuc 0)) }
 {
     match list.len().checked_sub(1) {
-        Some(place) => Ok(value_at(alloc, list, place)?),
+        Some(place) => value_at(alloc, list, place),
         None => Ok(Value::Null),
     }
 }
@@ -52,7 +52,7 @@ pub(crate) fn nth(alloc: Global, args: &Items) -> Result<Value, OutOfMemory>
 {
     match array_at(args, 0) {
         None => Ok(Value::Null),
-        Some(list) => Ok(element(alloc, list, number_at(args, 1))?),
+        Some(list) => element(alloc, list, number_at(args, 1)),
     }
 }
 
@@ -60,7 +60,7 @@ fn element(alloc: Global, list: &Items, place: i64) -> Result<Value, OutOfMemory
     ensures { IfOk result (λ v. tree_of v ≡ spec.nth list.now place) }
 {
     match usize::try_from(place) {
-        Ok(place) => Ok(value_at(alloc, list, place)?),
+        Ok(place) => value_at(alloc, list, place),
         Err(_) => Ok(Value::Null),
     }
 }
@@ -95,14 +95,14 @@ pub(crate) fn push(alloc: Global, args: &Items) -> Result<Value, OutOfMemory>
 {
     let mut more = Vec::new(alloc);
     more.push(value_at(alloc, args, 1)?)?;
-    Ok(extended(alloc, args, more)?)
+    extended(alloc, args, more)
 }
 
 pub(crate) fn append(alloc: Global, args: &Items) -> Result<Value, OutOfMemory>
     ensures { IfOk result (λ v. tree_of v ≡ call FuncName.Append args.now) }
 {
     let more = opened(alloc, args, 1)?;
-    Ok(extended(alloc, args, more)?)
+    extended(alloc, args, more)
 }
 
 // Copies of an array's elements, or of any other value by itself.
@@ -126,12 +126,11 @@ fn extended(alloc: Global, args: &Items, more: Vec<Value>) -> Result<Value, OutO
     match values_or_empty(args.get(0)) {
         None => Ok(Value::Null),
         Some(values) => {
-            let out = if is_set(args.get(2)) {
-                all_added_once(alloc, values, &more)?
+            if is_set(args.get(2)) {
+                all_added_once(alloc, values, &more).map(Value::List)
             } else {
-                all_added(alloc, values, more)?
-            };
-            Ok(Value::List(out))
+                all_added(alloc, values, more).map(Value::List)
+            }
         }
     }
 }
@@ -168,7 +167,7 @@ pub(crate) fn unique(alloc: Global, args: &Items) -> Result<Value, OutOfMemory>
         None => Ok(Value::Null),
         Some(list) => {
             let out = firsts(alloc, list.as_slice())?;
-            Ok(Value::List(array_of(alloc, out)?))
+            array_of(alloc, out).map(Value::List)
         }
     }
 }
@@ -178,7 +177,7 @@ pub(crate) fn sorted_values(alloc: Global, args: &Items) -> Result<Value, OutOfM
 {
     match array_at(args, 0) {
         None => Ok(Value::Null),
-        Some(list) => Ok(Value::List(sorted(alloc, list.as_slice())?)),
+        Some(list) => sorted(alloc, list.as_slice()).map(Value::List),
     }
 }
 
@@ -187,7 +186,7 @@ pub(crate) fn sorted_unique(alloc: Global, args: &Items) -> Result<Value, OutOfM
 {
     match array_at(args, 0) {
         None => Ok(Value::Null),
-        Some(list) => Ok(Value::List(distinct(alloc, list.as_slice())?)),
+        Some(list) => distinct(alloc, list.as_slice()).map(Value::List),
     }
 }
 
@@ -205,7 +204,7 @@ pub(crate) fn flatten(alloc: Global, args: &Items) -> Result<Value, OutOfMemory>
 {
     match array_at(args, 0) {
         None => Ok(Value::Null),
-        Some(list) => Ok(Value::List(flat(alloc, list.as_slice(), depth(args.get(1)))?)),
+        Some(list) => flat(alloc, list.as_slice(), depth(args.get(1))).map(Value::List),
     }
 }
 
@@ -225,7 +224,7 @@ pub(crate) fn sliced(alloc: Global, args: &Items) -> Result<Value, OutOfMemory>
         None => Ok(Value::Null),
         Some(list) => {
             let part = slice(list.as_slice(), number_at(args, 1), args.get(2));
-            Ok(Value::List(copied(alloc, part)?))
+            copied(alloc, part).map(Value::List)
         }
     }
 }

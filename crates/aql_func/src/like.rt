@@ -10,7 +10,7 @@ use aql_value::{OutOfMemory, Value};
 use std::alloc::Global;
 
 // One character, any run of characters, or this character.
-#[derive(Clone, Copy, Debug, PartialEq, Eq)]
+#[derive(Clone, Copy)]
 pub(crate) enum Piece {
     One,
     Run,
@@ -135,7 +135,7 @@ pub(crate) fn is_like(alloc: Global, a: &Value, b: &Value) -> Result<bool, OutOf
 {
     match a {
         Value::Text(s) => match b {
-            Value::Text(pattern) => Ok(is_text_like(alloc, s.as_str(), pattern.as_str())?),
+            Value::Text(pattern) => is_text_like(alloc, s.as_str(), pattern.as_str()),
             _ => Ok(false),
         },
         _ => Ok(false),
@@ -148,5 +148,5 @@ fn is_text_like(alloc: Global, s: &str, pattern: &str) -> Result<bool, OutOfMemo
     let pattern = characters(alloc, pattern)?;
     let pieces = pieces(alloc, &pattern)?;
     let text = characters(alloc, s)?;
-    Ok(fits(alloc, &pieces, &text)?)
+    fits(alloc, &pieces, &text)
 }

@@ -27,7 +27,7 @@ pub(crate) fn copied(alloc: Global, values: &[Value]) -> Result<Items, OutOfMemo
 {
     let mut out = Vec::new(alloc);
     append(alloc, &mut out, values)?;
-    Ok(array_of(alloc, out)?)
+    array_of(alloc, out)
 }
 
 // Puts copies at the end.
@@ -77,7 +77,7 @@ pub(crate) fn distinct(alloc: Global, values: &[Value]) -> Result<Items, OutOfMe
 {
     let mut out = firsts(alloc, values)?;
     sort(&mut out)?;
-    Ok(array_of(alloc, out)?)
+    array_of(alloc, out)
 }
 
 pub(crate) fn sorted(alloc: Global, values: &[Value]) -> Result<Items, OutOfMemory>
@@ -86,7 +86,7 @@ pub(crate) fn sorted(alloc: Global, values: &[Value]) -> Result<Items, OutOfMemo
     let mut out = Vec::new(alloc);
     append(alloc, &mut out, values)?;
     sort(&mut out)?;
-    Ok(array_of(alloc, out)?)
+    array_of(alloc, out)
 }
 
 // The values that are in the other list, where `present` says so, and else those that are not.
@@ -238,8 +238,8 @@ pub(crate) fn all_added_once(
 ) -> Result<Items, OutOfMemory>
     ensures { IfOk result (λ w. w ≡ spec.all_added true (trees_in values.now) (trees_in more.now)) }
 {
-    let mut seen = distinct_set(alloc, values)?;
     let mut out = copied(alloc, values)?;
+    let mut seen = distinct_set(alloc, values)?;
     for value in more {
         if seen.insert(copy(alloc, value)?)? {
             out.push(copy(alloc, value)?)?;

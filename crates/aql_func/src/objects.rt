@@ -86,7 +86,7 @@ fn set_all(alloc: Global, out: &mut Members, members: &Members) -> Result<(), Ou
 pub(crate) fn merge(alloc: Global, args: &Items) -> Result<Value, OutOfMemory>
     ensures { IfOk result (λ v. tree_of v ≡ call FuncName.Merge args.now) }
 {
-    Ok(merged(alloc, spread(args.as_slice()))?)
+    merged(alloc, spread(args.as_slice()))
 }
 
 fn merged(alloc: Global, values: &[Value]) -> Result<Value, OutOfMemory>
@@ -108,7 +108,7 @@ pub(crate) fn unset(alloc: Global, args: &Items) -> Result<Value, OutOfMemory>
     match args.get(0) {
         Some(value) => {
             let names = named(alloc, behind(args.as_slice(), 1))?;
-            Ok(chosen(alloc, value, &names, false)?)
+            chosen(alloc, value, &names, false)
         }
         None => Ok(Value::Null),
     }
@@ -120,7 +120,7 @@ pub(crate) fn keep(alloc: Global, args: &Items) -> Result<Value, OutOfMemory>
     match args.get(0) {
         Some(value) => {
             let names = named(alloc, behind(args.as_slice(), 1))?;
-            Ok(chosen(alloc, value, &names, true)?)
+            chosen(alloc, value, &names, true)
         }
         None => Ok(Value::Null),
     }
@@ -189,7 +189,7 @@ pub(crate) fn parse_identifier(alloc: Global, args: &Items) -> Result<Value, Out
     ensures { IfOk result (λ v. tree_of v ≡ call FuncName.ParseIdentifier args.now) }
 {
     match args.get(0) {
-        Some(value) => Ok(parsed(alloc, value)?),
+        Some(value) => parsed(alloc, value),
         None => Ok(Value::Null),
     }
 }
@@ -199,10 +199,10 @@ fn parsed(alloc: Global, value: &Value) -> Result<Value, OutOfMemory>
 {
     match value {
         Value::Object(members) => match members.value("_id") {
-            Some(id) => Ok(parsed_text(alloc, id)?),
+            Some(id) => parsed_text(alloc, id),
             None => Ok(Value::Null),
         },
-        _ => Ok(parsed_text(alloc, value)?),
+        _ => parsed_text(alloc, value),
     }
 }
 
@@ -210,7 +210,7 @@ fn parsed_text(alloc: Global, value: &Value) -> Result<Value, OutOfMemory>
     ensures { IfOk result (λ v. tree_of v ≡ spec.identified (spec.id_of_text (tree_of value.now))) }
 {
     match value {
-        Value::Text(text) => Ok(identifier(alloc, text.as_str())?),
+        Value::Text(text) => identifier(alloc, text.as_str()),
         _ => Ok(Value::Null),
     }
 }

@@ -47,8 +47,8 @@ pub fn binary(alloc: Global, op: BinOp, a: &Value, b: &Value) -> Result<Value, O
     ensures { IfOk result (λ v. tree_of v ≡ spec.binary op (tree_of a.now) (tree_of b.now)) }
 {
     match op {
-        BinOp::And => Ok(both(alloc, a, b)?),
-        BinOp::Or => Ok(either(alloc, a, b)?),
+        BinOp::And => both(alloc, a, b),
+        BinOp::Or => either(alloc, a, b),
         BinOp::Eq => Ok(Value::Bool(cmp(a, b).is_eq())),
         BinOp::Ne => Ok(Value::Bool(!cmp(a, b).is_eq())),
         BinOp::Lt => Ok(Value::Bool(cmp(a, b).is_lt())),
@@ -71,9 +71,9 @@ fn both(alloc: Global, a: &Value, b: &Value) -> Result<Value, OutOfMemory>
     ensures { IfOk result (λ v. tree_of v ≡ spec.binary BinOp.And (tree_of a.now) (tree_of b.now)) }
 {
     if truthy(a) {
-        Ok(copy(alloc, b)?)
+        copy(alloc, b)
     } else {
-        Ok(copy(alloc, a)?)
+        copy(alloc, a)
     }
 }
 
@@ -81,9 +81,9 @@ fn either(alloc: Global, a: &Value, b: &Value) -> Result<Value, OutOfMemory>
     ensures { IfOk result (λ v. tree_of v ≡ spec.binary BinOp.Or (tree_of a.now) (tree_of b.now)) }
 {
     if truthy(a) {
-        Ok(copy(alloc, a)?)
+        copy(alloc, a)
     } else {
-        Ok(copy(alloc, b)?)
+        copy(alloc, b)
     }
 }
 

@@ -16,9 +16,9 @@ pub fn range(alloc: Global, low: i64, high: i64) -> Result<Value, OutOfMemory>
         return Ok(Value::Null);
     }
     if low <= high {
-        Ok(Value::List(upwards(alloc, low, high)?))
+        upwards(alloc, low, high).map(Value::List)
     } else {
-        Ok(Value::List(downwards(alloc, low, high)?))
+        downwards(alloc, low, high).map(Value::List)
     }
 }
 

@@ -40,13 +40,13 @@ fn elements(value: &Value) -> &[Value]
 pub(crate) fn intersection(alloc: Global, args: &Items) -> Result<Value, OutOfMemory>
     ensures { IfOk result (λ v. tree_of v ≡ call FuncName.Intersection args.now) }
 {
-    Ok(sieved(alloc, args.as_slice(), true)?)
+    sieved(alloc, args.as_slice(), true)
 }
 
 pub(crate) fn minus(alloc: Global, args: &Items) -> Result<Value, OutOfMemory>
     ensures { IfOk result (λ v. tree_of v ≡ call FuncName.Minus args.now) }
 {
-    Ok(sieved(alloc, args.as_slice(), false)?)
+    sieved(alloc, args.as_slice(), false)
 }
 
 // The distinct elements of the first array that are in all the others, where `present` says so, and
@@ -62,7 +62,7 @@ fn sieved(alloc: Global, args: &[Value], present: bool) -> Result<Value, OutOfMe
         None => Ok(Value::List(Items::new(alloc))),
         Some((first, others)) => {
             let left = sieved_through(alloc, elements(first), others, present)?;
-            Ok(Value::List(distinct(alloc, &left)?))
+            distinct(alloc, &left).map(Value::List)
         }
     }
 }
@@ -92,7 +92,7 @@ pub(crate) fn union(alloc: Global, args: &Items) -> Result<Value, OutOfMemory>
         return Ok(Value::Null);
     }
     let out = gathered(alloc, lists)?;
-    Ok(Value::List(array_of(alloc, out)?))
+    array_of(alloc, out).map(Value::List)
 }
 
 pub(crate) fn union_distinct(alloc: Global, args: &Items) -> Result<Value, OutOfMemory>
@@ -103,7 +103,7 @@ pub(crate) fn union_distinct(alloc: Global, args: &Items) -> Result<Value, OutOf
         return Ok(Value::Null);
     }
     let out = gathered(alloc, lists)?;
-    Ok(Value::List(distinct(alloc, &out)?))
+    distinct(alloc, &out).map(Value::List)
 }
 
 // The elements of all the arrays, in order.

@@ -37,7 +37,7 @@ pub(crate) fn substring(alloc: Global, args: &Items) -> Result<Value, OutOfMemor
     let characters = characters(alloc, text.as_str())?;
     let start = place_from(characters.len(), number_at(args, 1));
     let part = at_most(behind(&characters, start), args.get(2));
-    Ok(Value::Text(text_of(alloc, part)?))
+    text_of(alloc, part).map(Value::Text)
 }
 
 pub(crate) fn left(alloc: Global, args: &Items) -> Result<Value, OutOfMemory>
@@ -46,7 +46,7 @@ pub(crate) fn left(alloc: Global, args: &Items) -> Result<Value, OutOfMemory>
     let text = text_at(alloc, args, 0)?;
     let characters = characters(alloc, text.as_str())?;
     let part = front(&characters, how_many(number_at(args, 1)));
-    Ok(Value::Text(text_of(alloc, part)?))
+    text_of(alloc, part).map(Value::Text)
 }
 
 pub(crate) fn right(alloc: Global, args: &Items) -> Result<Value, OutOfMemory>
@@ -55,7 +55,7 @@ pub(crate) fn right(alloc: Global, args: &Items) -> Result<Value, OutOfMemory>
     let text = text_at(alloc, args, 0)?;
     let characters = characters(alloc, text.as_str())?;
     let part = last_of(&characters, how_many(number_at(args, 1)));
-    Ok(Value::Text(text_of(alloc, part)?))
+    text_of(alloc, part).map(Value::Text)
 }
 
 pub(crate) fn contains(alloc: Global, args: &Items) -> Result<Value, OutOfMemory>
@@ -91,16 +91,16 @@ pub(crate) fn split(alloc: Global, args: &Items) -> Result<Value, OutOfMemory>
 {
     let text = text_at(alloc, args, 0)?;
     let separator = text_at(alloc, args, 1)?;
-    Ok(Value::List(parts(alloc, text.as_str(), separator.as_str())?))
+    parts(alloc, text.as_str(), separator.as_str()).map(Value::List)
 }
 
 fn parts(alloc: Global, s: &str, separator: &str) -> Result<Items, OutOfMemory>
     ensures { IfOk result (λ w. w ≡ map (λ t. text t) (parts_of separator.now s.now)) }
 {
     if separator.is_empty() {
-        Ok(letters(alloc, s)?)
+        letters(alloc, s)
     } else {
-        Ok(parts_between(alloc, s, separator)?)
+        parts_between(alloc, s, separator)
     }
 }
 
@@ -133,7 +133,7 @@ fn parts_between(alloc: Global, s: &str, separator: &str) -> Result<Items, OutOf
 pub(crate) fn concat(alloc: Global, args: &Items) -> Result<Value, OutOfMemory>
     ensures { IfOk result (λ v. tree_of v ≡ call FuncName.Concat args.now) }
 {
-    Ok(joined(alloc, "", spread(args.as_slice()))?)
+    joined(alloc, "", spread(args.as_slice()))
 }
 
 pub(crate) fn concat_separator(alloc: Global, args: &Items) -> Result<Value, OutOfMemory>
@@ -141,7 +141,7 @@ pub(crate) fn concat_separator(alloc: Global, args: &Items) -> Result<Value, Out
 {
     let separator = text_at(alloc, args, 0)?;
     let values = spread(behind(args.as_slice(), 1));
-    Ok(joined(alloc, separator.as_str(), values)?)
+    joined(alloc, separator.as_str(), values)
 }
 
 // A sole array stands for its elements.
@@ -171,7 +171,7 @@ fn joined(alloc: Global, separator: &str, values: &[Value]) -> Result<Value, Out
             started = true;
         }
     }
-    Ok(Value::Text(Text::new(alloc, &out)?))
+    Text::new(alloc, &out).map(Value::Text)
 }
 
 // Puts a text at the end, behind the separator where something was put before.

@@ -50,7 +50,7 @@ pub(crate) fn has_type(args: &Items, name: &str) -> Value
 pub(crate) fn typename(alloc: Global, args: &Items) -> Result<Value, OutOfMemory>
     ensures { IfOk result (λ v. tree_of v ≡ call FuncName.Typename args.now) }
 {
-    Ok(Value::Text(Text::new(alloc, type_at(args, 0))?))
+    Text::new(alloc, type_at(args, 0)).map(Value::Text)
 }
 
 pub(crate) fn bool_of(args: &Items) -> Value
@@ -65,14 +65,14 @@ pub(crate) fn bool_of(args: &Items) -> Value
 pub(crate) fn string_of(alloc: Global, args: &Items) -> Result<Value, OutOfMemory>
     ensures { IfOk result (λ v. tree_of v ≡ call FuncName.ToString args.now) }
 {
-    Ok(Value::Text(text_at(alloc, args, 0)?))
+    text_at(alloc, args, 0).map(Value::Text)
 }
 
 pub(crate) fn array_of_value(alloc: Global, args: &Items) -> Result<Value, OutOfMemory>
     ensures { IfOk result (λ v. tree_of v ≡ call FuncName.ToArray args.now) }
 {
     match args.get(0) {
-        Some(value) => Ok(Value::List(opened(alloc, value)?)),
+        Some(value) => opened(alloc, value).map(Value::List),
         None => Ok(Value::List(Items::new(alloc))),
     }
 }
@@ -82,11 +82,11 @@ fn opened(alloc: Global, value: &Value) -> Result<Items, OutOfMemory>
 {
     match value {
         Value::Null => Ok(Items::new(alloc)),
-        Value::List(list) => Ok(copied(alloc, list.as_slice())?),
-        Value::Object(members) => Ok(values_of(alloc, members)?),
-        Value::Bool(_) => Ok(only(alloc, value)?),
-        Value::Num(_) => Ok(only(alloc, value)?),
-        Value::Text(_) => Ok(only(alloc, value)?),
+        Value::List(list) => copied(alloc, list.as_slice()),
+        Value::Object(members) => values_of(alloc, members),
+        Value::Bool(_) => only(alloc, value),
+        Value::Num(_) => only(alloc, value),
+        Value::Text(_) => only(alloc, value),
     }
 }
 
@@ -103,7 +103,7 @@ pub(crate) fn not_null(alloc: Global, args: &Items) -> Result<Value, OutOfMemory
 {
     for value in args.as_slice() {
         if !is_null(value) {
-            return Ok(copy(alloc, value)?);
+            return copy(alloc, value);
         }
     }
     Ok(Value::Null)
@@ -118,14 +118,14 @@ pub(crate) fn abs(args: &Items) -> Value
 pub(crate) fn range_of(alloc: Global, args: &Items) -> Result<Value, OutOfMemory>
     ensures { IfOk result (λ v. tree_of v ≡ call FuncName.Range args.now) }
 {
-    Ok(range(alloc, number_at(args, 0), number_at(args, 1))?)
+    range(alloc, number_at(args, 0), number_at(args, 1))
 }
 
 pub(crate) fn length(alloc: Global, args: &Items) -> Result<Value, OutOfMemory>
     ensures { IfOk result (λ v. tree_of v ≡ spec.length_of (given_args.argument args.now 0)) }
 {
     match args.get(0) {
-        Some(value) => Ok(length_of(alloc, value)?),
+        Some(value) => length_of(alloc, value),
         None => Ok(Value::Num(0)),
     }
 }
@@ -139,8 +139,8 @@ fn length_of(alloc: Global, value: &Value) -> Result<Value, OutOfMemory>
         Value::Bool(false) => Ok(Value::Num(0)),
         Value::List(list) => Ok(count(list.len())),
         Value::Object(members) => Ok(count(members.len())),
-        Value::Num(_) => Ok(characters_in(alloc, value)?),
-        Value::Text(_) => Ok(characters_in(alloc, value)?),
+        Value::Num(_) => characters_in(alloc, value),
+        Value::Text(_) => characters_in(alloc, value),
     }
 }
 
@@ -156,7 +156,7 @@ pub(crate) fn reverse(alloc: Global, args: &Items) -> Result<Value, OutOfMemory>
     ensures { IfOk result (λ v. tree_of v ≡ call FuncName.Reverse args.now) }
 {
     match args.get(0) {
-        Some(value) => Ok(reversed(alloc, value)?),
+        Some(value) => reversed(alloc, value),
         None => Ok(Value::Null),
     }
 }
@@ -179,7 +179,7 @@ fn reversed_text(alloc: Global, s: &str) -> Result<Text, OutOfMemory>
 {
     let mut characters = characters(alloc, s)?;
     characters.reverse();
-    Ok(text_of(alloc, &characters)?)
+    text_of(alloc, &characters)
 }
 
 fn reversed_values(alloc: Global, values: &[Value]) -> Result<Items, OutOfMemory>

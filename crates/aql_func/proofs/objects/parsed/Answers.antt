@@ -1,4 +1,5 @@
 use Rattle.std.proofs.Common.{Option, unwrap_or, ap, sym, ◌∙◌}
+use Rattle.std.proofs.lemmas.Result.{IfOk-weaker}
 use Rattle.std.specs.Prelude.{codes}
 use Rattle.aql_value.specs.Tree.{Tree, null}
 use Rattle.aql_value.specs.View.{tree_of}
@@ -10,9 +11,9 @@ use Rattle.aql_func.proofs.objects.parsed.Goals as goal
 abbrev id_in : Option Tree → Tree
 id_in o = identified (id_of_text (unwrap_or o null))
 
-pub returns-in_ok-parsed_text-in-Some : goal.returns-in_ok-parsed_text-in-Some
-returns-in_ok-parsed_text-in-Some c =
-    c.in_ok-parsed_text-in-Some.ensures ∙ ap id_in c.in-Some.ensures ∙ ap (λ fs. id_in (attribute (codes "_id") fs)) (sym (fields_listed c.in-Object.members)) ∙ ap (λ v. parsed_identifier (tree_of v)) (sym c.in-Object.is)
+pub returns-in-Some : goal.returns-in-Some
+returns-in-Some c =
+    IfOk-weaker c.parsed_text.result _ _ (λ v gives. gives ∙ ap id_in c.in-Some.ensures ∙ ap (λ fs. id_in (attribute (codes "_id") fs)) (sym (fields_listed c.in-Object.members)) ∙ ap (λ v. parsed_identifier (tree_of v)) (sym c.in-Object.is)) c.parsed_text.ensures
 
 pub returns-in-None : goal.returns-in-None
 returns-in-None c =

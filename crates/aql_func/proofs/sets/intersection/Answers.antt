@@ -1,4 +1,5 @@
 use Rattle.std.proofs.Common.{cond, map, drop, ap, ◌∙◌}
+use Rattle.std.proofs.lemmas.Result.{IfOk-weaker}
 use Rattle.std.specs.List.{list_all}
 use Rattle.aql_value.specs.Tree.{null}
 use Rattle.aql_value.specs.View.{trees_in}
@@ -13,5 +14,6 @@ use Rattle.aql_func.proofs.sets.intersection.Goals as goal
 pub returns : goal.returns
 returns c =
     let lists = map elements (trees_in c.as_slice.result.now) in
-    c.in_ok-sieved.ensures ∙ ap (λ ts. cond (list_all is_array (trees_in c.as_slice.result.now)) (list (distinct ts)) null) (sieve_all (drop 1 lists) (head lists))
-    ∙ ap (call Intersection) c.as_slice.ensures
+    IfOk-weaker c.sieved.result _ _ (λ v gives. gives
+    ∙ ap (λ ts. cond (list_all is_array (trees_in c.as_slice.result.now)) (list (distinct ts)) null) (sieve_all (drop 1 lists) (head lists))
+    ∙ ap (call Intersection) c.as_slice.ensures) c.sieved.ensures

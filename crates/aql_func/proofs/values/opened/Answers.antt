@@ -1,4 +1,5 @@
 use Rattle.std.proofs.Common.{ℕ, List, map, ap, sym, ◌∙◌}
+use Rattle.std.proofs.lemmas.Result.{IfOk-weaker}
 use Rattle.aql_value.specs.Tree.{Tree}
 use Rattle.aql_value.specs.View.{tree_of}
 use Rattle.aql_value.specs.Parts.{list}
@@ -6,10 +7,10 @@ use Rattle.aql_func.specs.Functions.{to_array}
 use Rattle.aql_func.proofs.Listed.{listed, fields_listed}
 use Rattle.aql_func.proofs.values.opened.Goals as goal
 
-pub returns-in_ok-copied-in-List : goal.returns-in_ok-copied-in-List
-returns-in_ok-copied-in-List c =
-    ap list (c.in_ok-copied-in-List.ensures ∙ c.as_slice.ensures ∙ sym (listed c.in-List.list)) ∙ ap (λ v. to_array (tree_of v)) (sym c.in-List.is)
+pub returns-in-List : goal.returns-in-List
+returns-in-List c =
+    IfOk-weaker c.copied.result _ _ (λ w gives. ap list (gives ∙ c.as_slice.ensures ∙ sym (listed c.in-List.list)) ∙ ap (λ v. to_array (tree_of v)) (sym c.in-List.is)) c.copied.ensures
 
-pub returns-in_ok-values_of-in-Object : goal.returns-in_ok-values_of-in-Object
-returns-in_ok-values_of-in-Object c =
-    ap list (c.in_ok-values_of-in-Object.ensures ∙ ap (map (λ (f : List ℕ × Tree). f.1)) (sym (fields_listed c.in-Object.members))) ∙ ap (λ v. to_array (tree_of v)) (sym c.in-Object.is)
+pub returns-in-Object : goal.returns-in-Object
+returns-in-Object c =
+    IfOk-weaker c.values_of.result _ _ (λ w gives. ap list (gives ∙ ap (map (λ (f : List ℕ × Tree). f.1)) (sym (fields_listed c.in-Object.members))) ∙ ap (λ v. to_array (tree_of v)) (sym c.in-Object.is)) c.values_of.ensures
