@@ -45,6 +45,5 @@ pub(crate) fn copied<R: RowView>(
 ) -> Result<Value, OutOfMemory>
     ensures { IfOk result (λ v. tree_of v ≡ value_at (R.vars row.now) ident.now) }
 {
-    let null = Value::Null;
-    copy(alloc, value_of(row, ident, &null))
+    copy(alloc, value_of(row, ident, &Value::Null))
 }

@@ -35,8 +35,7 @@ pub fn eval<R: RowView>(alloc: Global, expr: &Expr, row: &R) -> Result<Value, Ou
     ensures meaning { IfOk result (λ v. (db : Database)
         → Ev db (tree expr.now) null (R.vars row.now) (tree_of v)) }
 {
-    let null = Value::Null;
-    evaluate(alloc, expr, row, &null)
+    evaluate(alloc, expr, row, &Value::Null)
 }
 
 // `cur` is the value of CURRENT; a subquery counts as null.
@@ -159,13 +158,12 @@ fn set_member<R: RowView>(
 {
     match field {
         Field::Named { name, value } => {
-            let value = evaluate(alloc, value, row, cur)?;
-            out.set(name.copy(alloc)?, value)?;
+            let name = name.copy(alloc)?;
+            out.set(name, evaluate(alloc, value, row, cur)?)?;
         }
         Field::Computed { name, value } => {
-            let name = evaluate(alloc, name, row, cur)?;
-            let value = evaluate(alloc, value, row, cur)?;
-            out.set(to_text(alloc, &name)?, value)?;
+            let name = to_text(alloc, &evaluate(alloc, name, row, cur)?)?;
+            out.set(name, evaluate(alloc, value, row, cur)?)?;
         }
     }
     Ok(())
@@ -183,8 +181,7 @@ fn of_variable<R: RowView>(
     ensures { IfOk result (λ v. tree_of v ≡ spec.stepped (steps (map step_part all.now))
         (tree_of cur.now) (R.vars row.now) (value_at (R.vars row.now) ident.now)) }
 {
-    let null = Value::Null;
-    stepped(alloc, all, 0, row, cur, value_of(row, ident, &null))
+    stepped(alloc, all, 0, row, cur, value_of(row, ident, &Value::Null))
 }
 
 // The steps from the one at `start` on.
@@ -201,14 +198,14 @@ fn stepped<R: RowView>(
         ≡ spec.stepped (steps (map step_part (drop start all.now)))
         (tree_of cur.now) (R.vars row.now) (tree_of from.now)) }
 {
-    let null = Value::Null;
+    let null = &Value::Null;
     let mut value = from;
     for at in start..all.len() {
         match &all[at] {
-            Step::Name(name) => value = named(value, name.as_str(), &null),
+            Step::Name(name) => value = named(value, name.as_str(), null),
             Step::At(which) => {
                 let which = evaluate(alloc, which, row, cur)?;
-                value = chosen(value, &which, &null);
+                value = chosen(value, &which, null);
             }
             Step::Each { filter, project } => {
                 let mut out = Items::new(alloc);
@@ -309,16 +306,9 @@ fn linked_once<R: RowView>(
         (spec.value (link_part link.now).1 (tree_of cur.now) (R.vars row.now))) }
 {
     match link.op {
-        BinOp::And => if truthy(&left) {
-            evaluate(alloc, &link.right, row, cur)
-        } else {
-            Ok(left)
-        },
-        BinOp::Or => if truthy(&left) {
-            Ok(left)
-        } else {
-            evaluate(alloc, &link.right, row, cur)
-        },
+        BinOp::And if !truthy(&left) => Ok(left),
+        BinOp::Or if truthy(&left) => Ok(left),
+        BinOp::And | BinOp::Or => evaluate(alloc, &link.right, row, cur),
         op => {
             let right = evaluate(alloc, &link.right, row, cur)?;
             binary(alloc, op, &left, &right)
