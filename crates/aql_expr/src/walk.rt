@@ -40,7 +40,7 @@ pub fn eval<R: RowView>(alloc: Global, expr: &Expr, row: &R) -> Result<Value, Ou
 
 // `cur` is the value of CURRENT; a subquery counts as null.
 #[cycle(walk)]
-pub(crate) fn evaluate<R: RowView>(
+fn evaluate<R: RowView>(
     alloc: Global,
     expr: &Expr,
     row: &R,

@@ -1,12 +1,12 @@
 -- The levels of precedence as the code tells them apart.
-use Rattle.std.proofs.Common.{◌≡◌, ℕ, zero, suc, ◌-◌, ◌<◌, Bool, true, false, cond, ⊎_elim, refl, ap, ◌∙◌}
-use Rattle.std.proofs.Common.{rules, arith}
+use Rattle.std.proofs.Common.{◌≡◌, ℕ, zero, suc, ◌-◌, Bool, false, ⊎_elim, refl, ap}
+use Rattle.std.proofs.Common.{arith}
 use Rattle.std.specs.Prelude.{◌==◌, ◌≢◌}
 use Rattle.std.proofs.lemmas.Bool.Decides.{eqb_tells}
 use Rattle.aql_tree.specs.Tree.{ExprTree}
 use Rattle.aql_grammar.specs.Kinds.{Tokens}
-use Rattle.aql_grammar.specs.Input.{Parser, Outcome}
-use Rattle.aql_grammar.specs.Reader.{level_at, level_by, chain, range, array_comparison}
+use Rattle.aql_grammar.specs.Input.{Parser}
+use Rattle.aql_grammar.specs.Reader.{level_at, chain}
 
 unequal : (m n : ℕ) → m ≢ n → (m == n) ≡ false
 unequal m n h = ⊎_elim (λ m. absurd (h m.1)) (λ m. m.0) (eqb_tells m n)

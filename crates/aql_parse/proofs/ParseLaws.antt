@@ -1,7 +1,7 @@
 -- Each clause of `parse` from the one answer that holds.
-use Rattle.std.proofs.Common.{◌≡◌, ℕ, ◌<◌, ◌≤◌, Bool, true, false, Option, Some, None, ⊎_elim, refl, sym}
-use Rattle.std.proofs.Common.{ap, ◌∙◌, rules, arith}
-use Rattle.std.specs.Prelude.{Result, Ok, Err, IfOk, IsErrOf, nat_lt}
+use Rattle.std.proofs.Common.{◌≡◌, ◌<◌, ◌≤◌, None}
+use Rattle.std.proofs.Common.{ap, arith}
+use Rattle.std.specs.Prelude.{Result, Ok, Err, IfOk, IsErrOf}
 use Rattle.aql_tree.specs.Tree.{QueryTree}
 use Rattle.aql_tree.specs.View.{query_tree}
 use Rattle.aql_tree.specs.declared.syntax.Query.{Query}
@@ -13,7 +13,7 @@ use Rattle.aql_grammar.specs.Reader.{whole}
 use Rattle.aql_grammar.specs.declared.faults.ParseFault.{ParseFault}
 use Rattle.aql_grammar.specs.declared.faults.ParseFault.TheVariants.{TooDeep, TooManyClauses, NotInGrammar}
 use Rattle.aql_grammar.specs.declared.faults.ParseFault.TheVariants.{WalkTooDeep, Memory}
-use Rattle.aql_grammar.specs.laws.TreeLaws.{tree_whole, whole_tree, one_tree}
+use Rattle.aql_grammar.specs.laws.TreeLaws.{tree_whole, one_tree}
 use Rattle.aql_parse.specs.Parsed.{WithinLimits, IsShallow, HasNoTree, WalksTooDeep, Gives, Parsed, ReadsWhole}
 
 pub no_tree : (ts : Tokens) → whole ts ≡ None → HasNoTree ts

@@ -1,6 +1,6 @@
 -- What a list of tokens is answered with: its tree, or the first cause of a refusal. Nesting and
 -- clause marks are judged over the tokens, then the grammar, then the depth of the traversals.
-use Rattle.std.specs.Prelude.{◌≡◌, ℕ, ◌≤◌, ◌<◌, Bool, true, false, Option, Some, None, Result, Ok, Err}
+use Rattle.std.specs.Prelude.{◌≡◌, ◌≤◌, ◌<◌, true, false, Option, Some, None, Result, Ok, Err}
 use Rattle.aql_tree.specs.Tree.{QueryTree}
 use Rattle.aql_tree.specs.View.{query_tree}
 use Rattle.aql_tree.specs.declared.syntax.Query.{Query}

@@ -1,5 +1,4 @@
 use Rattle.std.proofs.Common.{◌≡◌, ◌-◌, map, ap, rules, arith}
-use Rattle.std.specs.Prelude.{◌≢◌}
 use Rattle.std.proofs.lemmas.Grind.{common_steps}
 use Rattle.aql_tree.specs.View.{link_part}
 use Rattle.aql_grammar.specs.Input.{many, many_from}

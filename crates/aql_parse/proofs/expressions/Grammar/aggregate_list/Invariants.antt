@@ -1,4 +1,4 @@
-use Rattle.std.proofs.Common.{[], map, ◌≡◌, ◌-◌}
+use Rattle.std.proofs.Common.{map, ◌≡◌, ◌-◌}
 use Rattle.aql_grammar.specs.Input.{separated, separated_from}
 use Rattle.aql_grammar.specs.Reader.{expr, aggregate}
 use Rattle.aql_tree.specs.View.{aggregate_part}

@@ -1,4 +1,4 @@
-use Rattle.std.proofs.Common.{[], map, ◌≡◌, ◌-◌}
+use Rattle.std.proofs.Common.{map, ◌≡◌, ◌-◌}
 use Rattle.aql_grammar.specs.Reader.{expr, clauses, clauses_from}
 use Rattle.aql_tree.specs.View.{clause_tree}
 use Rattle.aql_parse.proofs.expressions.Grammar.clauses.Given as goal

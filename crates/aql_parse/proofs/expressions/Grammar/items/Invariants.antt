@@ -1,4 +1,4 @@
-use Rattle.std.proofs.Common.{[], map, ◌≡◌, ◌-◌}
+use Rattle.std.proofs.Common.{map, ◌≡◌, ◌-◌}
 use Rattle.aql_lex.specs.declared.vocabulary.Symbol.TheVariants as s
 use Rattle.aql_grammar.specs.Input.{items, items_from}
 use Rattle.aql_grammar.specs.Reader.{expr}

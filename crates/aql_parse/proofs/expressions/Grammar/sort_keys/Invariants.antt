@@ -1,4 +1,4 @@
-use Rattle.std.proofs.Common.{[], map, ◌≡◌, ◌-◌}
+use Rattle.std.proofs.Common.{map, ◌≡◌, ◌-◌}
 use Rattle.aql_grammar.specs.Input.{separated, separated_from}
 use Rattle.aql_grammar.specs.Reader.{expr, sort_key}
 use Rattle.aql_tree.specs.View.{key_part}

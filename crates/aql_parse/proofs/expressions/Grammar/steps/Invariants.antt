@@ -1,4 +1,4 @@
-use Rattle.std.proofs.Common.{[], map, ◌≡◌, ◌-◌}
+use Rattle.std.proofs.Common.{map, ◌≡◌, ◌-◌}
 use Rattle.aql_grammar.specs.Input.{many, many_from, at_front}
 use Rattle.aql_grammar.specs.Reader.{expr, step, begins_step}
 use Rattle.aql_tree.specs.View.{step_part}
