@@ -11,7 +11,6 @@ use aql_tree::{Expr, Field, Ident, Link, Links, QuantKind, Step, Steps};
 use aql_value::{Items, OutOfMemory, Seq, Text, Value, from_json_line, write_json};
 use std::alloc::Global;
 use std::process::Abort;
-use std::test::Fail;
 
 // The variables 0, 1, .. in order.
 #[derive(Drop)]
@@ -94,7 +93,14 @@ fn one(alloc: Global, step: Step) -> Result<Steps, OutOfMemory>
     Ok(steps)
 }
 
-// `op right`, behind nothing.
+// `.name`.
+fn named(alloc: Global, name: &str) -> Result<Steps, OutOfMemory>
+    ensures { IfOk result (λ ss. StepsPlain (step_trees (map step_part ss))) }
+{
+    one(alloc, Step::Name(Text::new(alloc, name)?))
+}
+
+// `op right`.
 fn link(alloc: Global, op: BinOp, right: &str) -> Result<Links, OutOfMemory>
     ensures { IfOk result (λ ls. LinksPlain (link_trees (map link_part ls))) }
 {
@@ -156,21 +162,32 @@ fn quantified(
     Expr::quantified(alloc, lit(alloc, left), kind, op, lit(alloc, right))
 }
 
-fn attribute(alloc: Global, of: Expr, name: &str) -> Result<Expr, OutOfMemory>
-    requires { IsPlain (tree of) }
+fn attribute(alloc: Global, number: u32, name: &str) -> Result<Expr, OutOfMemory>
     ensures { IfOk result (λ e. IsPlain (tree e)) }
 {
-    let mut steps = Seq::new(alloc);
-    steps.push(Step::Name(Text::new(alloc, name)?))?;
-    Expr::access(alloc, of, steps)
+    let steps = named(alloc, name)?;
+    Expr::access(alloc, var(number), steps)
 }
 
-fn at(alloc: Global, of: Expr, place: &str) -> Result<Expr, OutOfMemory>
-    requires { IsPlain (tree of) }
+fn place_in_variable(alloc: Global, number: u32, place: &str) -> Result<Expr, OutOfMemory>
     ensures { IfOk result (λ e. IsPlain (tree e)) }
 {
     let steps = one(alloc, Step::At(lit(alloc, place)))?;
-    Expr::access(alloc, of, steps)
+    Expr::access(alloc, var(number), steps)
+}
+
+fn place_in(alloc: Global, of: &str, place: &str) -> Result<Expr, OutOfMemory>
+    ensures { IfOk result (λ e. IsPlain (tree e)) }
+{
+    let steps = one(alloc, Step::At(lit(alloc, place)))?;
+    Expr::access(alloc, lit(alloc, of), steps)
+}
+
+// `[0]`.
+fn first_place(alloc: Global) -> Step
+    ensures { StepsPlain (step_trees (step_part result ∷ [])) }
+{
+    Step::At(lit(alloc, "0"))
 }
 
 // As many steps as a query has room for.
@@ -179,7 +196,7 @@ fn long(alloc: Global) -> Result<Expr, OutOfMemory>
 {
     let mut steps = Seq::new(alloc);
     for _ in 0..20_000 {
-        steps.push(Step::At(lit(alloc, "0")))?;
+        steps.push(first_place(alloc))?;
     }
     Expr::access(alloc, lit(alloc, "[[1]]"), steps)
 }
@@ -206,7 +223,8 @@ fn inline(alloc: Global) -> Result<Expr, OutOfMemory>
 fn filtered(alloc: Global, of: &str) -> Result<Expr, OutOfMemory>
     ensures { IfOk result (λ e. IsPlain (tree e)) }
 {
-    let filter = attribute(alloc, Expr::Current, "p")?;
+    let behind_current = named(alloc, "p")?;
+    let filter = Expr::access(alloc, Expr::Current, behind_current)?;
     let mut steps = Seq::new(alloc);
     steps.push(Step::each(Some(filter), None))?;
     steps.push(Step::Name(Text::new(alloc, "p")?))?;
@@ -345,13 +363,13 @@ fn accesses(rt: HostRuntime) {
         (0, "other", "null"),
         (1, "name", "null"),
     ] {
-        let expr = attribute(alloc, var(number), name);
+        let expr = attribute(alloc, number, name);
         assert!(rt; has_value(alloc, expr, want), "{number} {name}");
     }
-    let tags = at(alloc, var(0), r#""tags""#);
+    let tags = place_in_variable(alloc, 0, r#""tags""#);
     assert!(rt; has_value(alloc, tags, "[1,2,3]"));
     for (of, place, want) in &PLACES {
-        let expr = at(alloc, lit(alloc, of), place);
+        let expr = place_in(alloc, of, place);
         assert!(rt; has_value(alloc, expr, want), "{of} {place}");
     }
     assert!(rt; has_value(alloc, long(alloc), "null"));
@@ -386,13 +404,15 @@ fn literals_and_calls(rt: HostRuntime) {
     }
 }
 
+fn is_five(alloc: Global, expr: &Expr) -> Result<bool, OutOfMemory>
+    requires { IsPlain (tree expr.now) }
+{
+    let row = row(alloc)?;
+    Ok(matches!(eval(alloc, expr, &row)?, Value::Num(5)))
+}
+
 #[test]
-fn is_called(rt: HostRuntime) -> Result<(), Fail> {
-    let alloc = rt.alloc();
-    let is_five = match eval(alloc, &var(1), &row(alloc)?)? {
-        Value::Num(number) => number == 5,
-        _ => false,
-    };
+fn is_called(rt: HostRuntime) {
+    let is_five = is_five(rt.alloc(), &var(1)).unwrap_or(false);
     assert!(rt; is_five);
-    Ok(())
 }

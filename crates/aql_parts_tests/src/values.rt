@@ -270,9 +270,7 @@ fn some_members(alloc: Global) -> Result<Members, OutOfMemory> {
     Ok(members)
 }
 
-#[test]
-fn members(rt: HostRuntime) -> Result<(), Fail> {
-    let members = some_members(rt.alloc())?;
+fn check_members(rt: &impl Abort, members: &Members) -> Result<(), Fail> {
     assert_eq!(rt; members.len(), 3);
     assert!(rt; members.value("b") == Some(&Value::Num(3)) && members.value("d").is_none());
     assert!(rt; members.name(2).ok_or("no name")?.as_str() == "c" && members.name(3).is_none());
@@ -283,12 +281,21 @@ fn members(rt: HostRuntime) -> Result<(), Fail> {
 }
 
 #[test]
-fn texts_of_values(rt: HostRuntime) -> Result<(), Fail> {
+fn members(rt: HostRuntime) -> Result<(), Fail> {
+    let members = some_members(rt.alloc())?;
+    check_members(&rt, &members)
+}
+
+fn has_text(alloc: Global, value: &Value, want: &str) -> bool {
+    match to_text(alloc, value) {
+        Ok(text) => text.as_str() == want,
+        Err(_) => false,
+    }
+}
+
+#[test]
+fn texts_of_values(rt: HostRuntime) {
     let alloc = rt.alloc();
-    assert_eq!(rt; to_text(alloc, &Value::Num(-7))?.as_str(), "-7");
-    assert_eq!(rt;
-        to_text(alloc, &Value::Object(Members::new(alloc)))?.as_str(),
-        "{}"
-    );
-    Ok(())
+    assert!(rt; has_text(alloc, &Value::Num(-7), "-7"));
+    assert!(rt; has_text(alloc, &Value::Object(Members::new(alloc)), "{}"));
 }

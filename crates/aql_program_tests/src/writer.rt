@@ -15,18 +15,19 @@ fn write_ident(out: &mut String, ident: &Ident) -> Result<(), AllocError> {
 
 fn write_names(out: &mut String, names: &[Text]) -> Result<(), AllocError> {
     for name in names {
-        write!(out, " {}", name.as_str())?;
+        out.push_str(" ")?;
+        out.push_str(name.as_str())?;
     }
     Ok(())
 }
 
 fn write_value(out: &mut String, value: &Value) -> Result<(), AllocError> {
     match value {
-        Value::Null => write!(out, "null")?,
+        Value::Null => out.push_str("null")?,
         Value::Bool(is_true) => write!(out, "{is_true}")?,
         Value::Num(number) => write!(out, "{number}")?,
         Value::Text(text) => write!(out, "'{}'", text.as_str())?,
-        _ => write!(out, "?")?,
+        _ => out.push_str("?")?,
     }
     Ok(())
 }
@@ -56,28 +57,29 @@ fn write_expr(expr: &Expr, out: &mut String) -> Result<(), AllocError> {
     match expr {
         Expr::Lit(value) => write_value(out, value),
         Expr::Var(ident) => write_ident(out, ident),
-        Expr::Current => Ok(write!(out, "@")?),
+        Expr::Current => out.push_str("@"),
         Expr::List(items) => {
-            write!(out, "[")?;
+            out.push_str("[")?;
             write_exprs(items.as_slice(), out)?;
-            Ok(write!(out, " ]")?)
+            out.push_str(" ]")
         }
         Expr::Object(fields) => {
-            write!(out, "{{")?;
+            out.push_str("{")?;
             write_fields(fields.as_slice(), out)?;
-            Ok(write!(out, " }}")?)
+            out.push_str(" }")
         }
         Expr::Access { of, steps } => {
             write_expr(of, out)?;
             write_steps(steps.as_slice(), out)
         }
         Expr::Call { name, args } => {
-            write!(out, "{}(", name.as_str())?;
+            out.push_str(name.as_str())?;
+            out.push_str("(")?;
             write_exprs(args.as_slice(), out)?;
-            Ok(write!(out, " )")?)
+            out.push_str(" )")
         }
         Expr::Unary { op, of } => {
-            write!(out, "{}", sign(*op))?;
+            out.push_str(sign(*op))?;
             write_expr(of, out)
         }
         Expr::Chain { first, rest } => {
@@ -96,23 +98,23 @@ fn write_expr(expr: &Expr, out: &mut String) -> Result<(), AllocError> {
         }
         Expr::Cond { test, yes, no } => {
             write_expr(test, out)?;
-            write!(out, " ?")?;
+            out.push_str(" ?")?;
             if let Some(yes) = yes {
-                write!(out, " ")?;
+                out.push_str(" ")?;
                 write_expr(yes, out)?;
             }
-            write!(out, " : ")?;
+            out.push_str(" : ")?;
             write_expr(no, out)
         }
         Expr::Range { low, high } => {
             write_expr(low, out)?;
-            write!(out, "..")?;
+            out.push_str("..")?;
             write_expr(high, out)
         }
         Expr::Sub(query) => {
-            write!(out, "(")?;
+            out.push_str("(")?;
             write_query(query, out)?;
-            Ok(write!(out, ")")?)
+            out.push_str(")")
         }
     }
 }
@@ -120,7 +122,7 @@ fn write_expr(expr: &Expr, out: &mut String) -> Result<(), AllocError> {
 #[cycle(write)]
 fn write_exprs(exprs: &[Expr], out: &mut String) -> Result<(), AllocError> {
     for expr in exprs {
-        write!(out, " ")?;
+        out.push_str(" ")?;
         write_expr(expr, out)?;
     }
     Ok(())
@@ -130,7 +132,7 @@ fn write_exprs(exprs: &[Expr], out: &mut String) -> Result<(), AllocError> {
 #[cycle(write)]
 fn write_part(word: &str, part: &Option<Expr>, out: &mut String) -> Result<(), AllocError> {
     if let Some(expr) = part {
-        write!(out, "{word}")?;
+        out.push_str(word)?;
         write_expr(expr, out)?;
     }
     Ok(())
@@ -141,13 +143,15 @@ fn write_fields(fields: &[Field], out: &mut String) -> Result<(), AllocError> {
     for field in fields {
         match field {
             Field::Named { name, value } => {
-                write!(out, " {}: ", name.as_str())?;
+                out.push_str(" ")?;
+                out.push_str(name.as_str())?;
+                out.push_str(": ")?;
                 write_expr(value, out)?;
             }
             Field::Computed { name, value } => {
-                write!(out, " [")?;
+                out.push_str(" [")?;
                 write_expr(name, out)?;
-                write!(out, "]: ")?;
+                out.push_str("]: ")?;
                 write_expr(value, out)?;
             }
         }
@@ -158,7 +162,9 @@ fn write_fields(fields: &[Field], out: &mut String) -> Result<(), AllocError> {
 #[cycle(write)]
 fn write_links(links: &[Link], out: &mut String) -> Result<(), AllocError> {
     for link in links {
-        write!(out, " {} ", operator(link.op))?;
+        out.push_str(" ")?;
+        out.push_str(operator(link.op))?;
+        out.push_str(" ")?;
         write_expr(&link.right, out)?;
     }
     Ok(())
@@ -168,17 +174,20 @@ fn write_links(links: &[Link], out: &mut String) -> Result<(), AllocError> {
 fn write_steps(steps: &[Step], out: &mut String) -> Result<(), AllocError> {
     for step in steps {
         match step {
-            Step::Name(name) => write!(out, ".{}", name.as_str())?,
+            Step::Name(name) => {
+                out.push_str(".")?;
+                out.push_str(name.as_str())?;
+            }
             Step::At(expr) => {
-                write!(out, "[")?;
+                out.push_str("[")?;
                 write_expr(expr, out)?;
-                write!(out, "]")?;
+                out.push_str("]")?;
             }
             Step::Each { filter, project } => {
-                write!(out, "[*")?;
+                out.push_str("[*")?;
                 write_part(" filter ", filter, out)?;
                 write_part(" return ", project, out)?;
-                write!(out, "]")?;
+                out.push_str("]")?;
             }
         }
     }
@@ -188,10 +197,10 @@ fn write_steps(steps: &[Step], out: &mut String) -> Result<(), AllocError> {
 #[cycle(write)]
 fn write_keys(keys: &[Key], out: &mut String) -> Result<(), AllocError> {
     for key in keys {
-        write!(out, " ")?;
+        out.push_str(" ")?;
         write_expr(&key.expr, out)?;
         if key.descending {
-            write!(out, " desc")?;
+            out.push_str(" desc")?;
         }
     }
     Ok(())
@@ -199,19 +208,19 @@ fn write_keys(keys: &[Key], out: &mut String) -> Result<(), AllocError> {
 
 #[cycle(write)]
 fn write_walk(walk: &Traversal, out: &mut String) -> Result<(), AllocError> {
-    write!(out, "walk ")?;
+    out.push_str("walk ")?;
     write_ident(out, &walk.vertex)?;
     if let Some(edge) = &walk.edge {
-        write!(out, " ")?;
+        out.push_str(" ")?;
         write_ident(out, edge)?;
     }
     if let Some(path) = &walk.path {
-        write!(out, " ")?;
+        out.push_str(" ")?;
         write_ident(out, path)?;
     }
     write!(out, " in {}..{} {:?} ", walk.min, walk.max, walk.direction)?;
     write_expr(&walk.start, out)?;
-    write!(out, " over")?;
+    out.push_str(" over")?;
     write_names(out, walk.collections.as_slice())?;
     write_part(" prune ", &walk.prune, out)?;
     write!(
@@ -220,29 +229,31 @@ fn write_walk(walk: &Traversal, out: &mut String) -> Result<(), AllocError> {
         walk.options.edges, walk.options.vertices
     )?;
     if walk.options.bfs {
-        write!(out, " bfs")?;
+        out.push_str(" bfs")?;
     }
     write_fields(walk.options.settings.as_slice(), out)
 }
 
 #[cycle(write)]
 fn write_collect(collect: &Collect, out: &mut String) -> Result<(), AllocError> {
-    write!(out, "collect")?;
+    out.push_str("collect")?;
     for group in collect.groups.as_slice() {
-        write!(out, " ")?;
+        out.push_str(" ")?;
         write_ident(out, &group.var)?;
-        write!(out, " = ")?;
+        out.push_str(" = ")?;
         write_expr(&group.expr, out)?;
     }
     for item in collect.aggregates.as_slice() {
-        write!(out, " aggregate ")?;
+        out.push_str(" aggregate ")?;
         write_ident(out, &item.var)?;
-        write!(out, " = {}(", item.name.as_str())?;
+        out.push_str(" = ")?;
+        out.push_str(item.name.as_str())?;
+        out.push_str("(")?;
         write_part(" ", &item.arg, out)?;
-        write!(out, " )")?;
+        out.push_str(" )")?;
     }
     if let Some(into) = &collect.into {
-        write!(out, " into ")?;
+        out.push_str(" into ")?;
         write_ident(out, &into.var)?;
         write_part(" = ", &into.what, out)?;
         write_names(out, into.keep.as_slice())?;
@@ -254,29 +265,30 @@ fn write_collect(collect: &Collect, out: &mut String) -> Result<(), AllocError> 
 fn write_clause(clause: &Clause, out: &mut String) -> Result<(), AllocError> {
     match clause {
         Clause::For { var, list } => {
-            write!(out, "for ")?;
+            out.push_str("for ")?;
             write_ident(out, var)?;
-            write!(out, " in ")?;
+            out.push_str(" in ")?;
             write_expr(list, out)
         }
         Clause::ForDocs { var, collection } => {
-            write!(out, "for ")?;
+            out.push_str("for ")?;
             write_ident(out, var)?;
-            Ok(write!(out, " in {}", collection.as_str())?)
+            out.push_str(" in ")?;
+            out.push_str(collection.as_str())
         }
         Clause::Walk(walk) => write_walk(walk, out),
         Clause::Filter(expr) => {
-            write!(out, "filter ")?;
+            out.push_str("filter ")?;
             write_expr(expr, out)
         }
         Clause::Let { var, expr } => {
-            write!(out, "let ")?;
+            out.push_str("let ")?;
             write_ident(out, var)?;
-            write!(out, " = ")?;
+            out.push_str(" = ")?;
             write_expr(expr, out)
         }
         Clause::Sort(keys) => {
-            write!(out, "sort")?;
+            out.push_str("sort")?;
             write_keys(keys.as_slice(), out)
         }
         Clause::Limit { offset, count } => Ok(write!(out, "limit {offset} {count}")?),
@@ -287,17 +299,17 @@ fn write_clause(clause: &Clause, out: &mut String) -> Result<(), AllocError> {
 #[cycle(write)]
 fn write_query(query: &Query, out: &mut String) -> Result<(), AllocError> {
     if query.with.len() > 0 {
-        write!(out, "with")?;
+        out.push_str("with")?;
         write_names(out, query.with.as_slice())?;
-        write!(out, "; ")?;
+        out.push_str("; ")?;
     }
     for clause in query.clauses.as_slice() {
         write_clause(clause, out)?;
-        write!(out, "; ")?;
+        out.push_str("; ")?;
     }
-    write!(out, "return ")?;
+    out.push_str("return ")?;
     if query.distinct {
-        write!(out, "distinct ")?;
+        out.push_str("distinct ")?;
     }
     write_expr(&query.result, out)
 }
@@ -305,6 +317,6 @@ fn write_query(query: &Query, out: &mut String) -> Result<(), AllocError> {
 // The query, and behind a bar the names of its variables.
 pub fn write_scoped(scoped: &Scoped, out: &mut String) -> Result<(), AllocError> {
     write_query(&scoped.query, out)?;
-    write!(out, " |")?;
+    out.push_str(" |")?;
     write_names(out, scoped.names.as_slice())
 }

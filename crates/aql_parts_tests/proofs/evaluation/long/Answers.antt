@@ -3,4 +3,4 @@ use Rattle.aql_parts_tests.proofs.evaluation.long.Goals as goal
 
 pub loop-preserved : goal.loop-preserved
 loop-preserved c =
-    pushed_plain _ _ _ c.in_ok-push.ensures.ok c.loop.invariant (c.lit.ensures, tt)
+    pushed_plain _ _ _ c.in_ok-push.ensures.ok c.loop.invariant c.first_place.ensures
