@@ -5,8 +5,8 @@ use Rattle.aql_lex.specs.declared.faults.LexKind.{LexKind}
 use Rattle.aql_lex.specs.declared.faults.LexKind.TheVariants.{BadChar, OpenString, OpenComment, BadEscape, Fraction, NumberTooLarge}
 use Rattle.aql_script.specs.Texts.{limit_text}
 use Rattle.aql_script.specs.declared.faults.LimitKind.TheVariants.{QueryBytes, Nesting, Clauses, WalkDepth}
-use Rattle.aql_scope.specs.declared.faults.ScopeFault.{ScopeFault}
-use Rattle.aql_scope.specs.declared.faults.ScopeFault.TheVariants as scope
+use Rattle.aql_names.specs.declared.faults.ScopeFault.{ScopeFault}
+use Rattle.aql_names.specs.declared.faults.ScopeFault.TheVariants as scope
 use Rattle.aql_front.specs.declared.faults.QueryFault.{QueryFault}
 use Rattle.aql_front.specs.declared.faults.QueryFault.TheVariants.{TooLong, Lexical, TooDeep, TooManyClauses, NotInGrammar, WalkTooDeep, Scope, Memory}
 

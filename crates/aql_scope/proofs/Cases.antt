@@ -13,13 +13,13 @@ use Rattle.aql_lift.proofs.Places.{placed}
 use Rattle.aql_lift.specs.laws.PlainTakesNothing.{plain_maybe_takes_nothing}
 use Rattle.aql_lift.proofs.Within.{idents_clause}
 use Rattle.aql_doc.specs.Declarations.{place_of}
-use Rattle.aql_scope.specs.declared.faults.ScopeFault.{ScopeFault}
-use Rattle.aql_scope.specs.declared.faults.ScopeFault.TheVariants.{UnknownName, UnknownCollection, SubqueryNotAllowed, BadOption}
-use Rattle.aql_scope.specs.declared.options.Written.{Written}
-use Rattle.aql_scope.specs.Options.{unwritten}
-use Rattle.aql_scope.specs.Faults.{seen, inline, opened, unless, first, new_name, new_names, edge_collections, walk_vars, in_expr, in_maybe, in_settings, in_query}
-use Rattle.aql_scope.specs.Walk as W
-use Rattle.aql_scope.specs.Walk.{Site, State, Outcome, place, visible, next, say, say_all, on, judged, variable_at, source, keeping, inline_site, with_own, walk_with, written_options}
+use Rattle.aql_names.specs.declared.faults.ScopeFault.{ScopeFault}
+use Rattle.aql_names.specs.declared.faults.ScopeFault.TheVariants.{UnknownName, UnknownCollection, SubqueryNotAllowed, BadOption}
+use Rattle.aql_names.specs.declared.options.Written.{Written}
+use Rattle.aql_names.specs.Options.{unwritten}
+use Rattle.aql_names.specs.Faults.{seen, inline, opened, unless, first, new_name, new_names, edge_collections, walk_vars, in_expr, in_maybe, in_settings, in_query}
+use Rattle.aql_names.specs.Walk as W
+use Rattle.aql_names.specs.Walk.{Site, State, Outcome, place, visible, next, say, say_all, on, judged, variable_at, source, keeping, inline_site, with_own, walk_with, written_options}
 use Rattle.aql_scope.proofs.Outcomes.{let_of, after, outcome, state_is, outcome_whole, used, same_where, judged_first, then_is, declared, quiet, alone, next_append, placed_nothing, placed_one}
 use Rattle.aql_scope.proofs.Back.{option_of, maybe_back}
 use Rattle.aql_scope.proofs.Seen.{idents_append, seen_is, placed_walk}

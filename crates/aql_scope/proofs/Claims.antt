@@ -9,11 +9,11 @@ use Rattle.aql_lift.specs.Names.{Names, idents, entered}
 use Rattle.aql_lift.specs.Lifting as L
 use Rattle.aql_lift.specs.Lifting.{Scoped, ScopedClauses, whole, over}
 use Rattle.aql_doc.specs.Held.{Held}
-use Rattle.aql_scope.specs.declared.faults.ScopeFault.{ScopeFault}
-use Rattle.aql_scope.specs.declared.options.Written.{Written}
-use Rattle.aql_scope.specs.Faults.{in_expr, in_exprs, in_maybe, in_members, in_steps, in_links, in_settings, in_criteria, in_aggregates, in_into, in_clause, in_clauses, in_query}
-use Rattle.aql_scope.specs.Walk as W
-use Rattle.aql_scope.specs.Walk.{Site, State, Outcome, place, visible, next}
+use Rattle.aql_names.specs.declared.faults.ScopeFault.{ScopeFault}
+use Rattle.aql_names.specs.declared.options.Written.{Written}
+use Rattle.aql_names.specs.Faults.{in_expr, in_exprs, in_maybe, in_members, in_steps, in_links, in_settings, in_criteria, in_aggregates, in_into, in_clause, in_clauses, in_query}
+use Rattle.aql_names.specs.Walk as W
+use Rattle.aql_names.specs.Walk.{Site, State, Outcome, place, visible, next}
 use Rattle.aql_scope.proofs.Outcomes.{outcome}
 use Rattle.aql_scope.proofs.Back.{list_of, option_of, members_of, steps_of, links_of, aggregates_of, into_of, clauses_of}
 use Rattle.aql_scope.proofs.Settled.{settled}

@@ -15,13 +15,13 @@ use Rattle.aql_lift.specs.Lifting.{Scoped, whole, over, both, declares, followed
 use Rattle.aql_lift.proofs.Places.{placed, placed_maybe, placed_criteria, placed_aggregates}
 use Rattle.aql_lift.specs.laws.PlainTakesNothing.{plain_takes_nothing}
 use Rattle.aql_lift.proofs.Within.{named_criteria, named_aggregates}
-use Rattle.aql_scope.specs.declared.faults.ScopeFault.{ScopeFault}
-use Rattle.aql_scope.specs.declared.faults.ScopeFault.TheVariants.{BadOption}
-use Rattle.aql_scope.specs.declared.options.Written.{Written}
-use Rattle.aql_scope.specs.Options.{global_fits, is_breadth}
-use Rattle.aql_scope.specs.Faults.{seen, unless, first, new_name, new_names, known_collection, aggregate_fault, kept_names, setting_fault, setting_of, taken_over, in_expr, in_exprs, in_maybe, in_settings, in_criteria, in_aggregates, in_into}
-use Rattle.aql_scope.specs.Walk as W
-use Rattle.aql_scope.specs.Walk.{Site, State, Outcome, place, visible, next, say, say_all, on, judged}
+use Rattle.aql_names.specs.declared.faults.ScopeFault.{ScopeFault}
+use Rattle.aql_names.specs.declared.faults.ScopeFault.TheVariants.{BadOption}
+use Rattle.aql_names.specs.declared.options.Written.{Written}
+use Rattle.aql_names.specs.Options.{global_fits, is_breadth}
+use Rattle.aql_names.specs.Faults.{seen, unless, first, new_name, new_names, known_collection, aggregate_fault, kept_names, setting_fault, setting_of, taken_over, in_expr, in_exprs, in_maybe, in_settings, in_criteria, in_aggregates, in_into}
+use Rattle.aql_names.specs.Walk as W
+use Rattle.aql_names.specs.Walk.{Site, State, Outcome, place, visible, next, say, say_all, on, judged}
 use Rattle.aql_scope.proofs.Outcomes.{after, outcome, first_none, outcome_whole, used, used_judged, same_over, judged_first, then_is, declared, quiet, placed_one}
 use Rattle.aql_scope.proofs.Back.{list_of, trees_back, option_of, aggregates_of, aggregates_back, into_of, into_back}
 use Rattle.aql_scope.proofs.Seen.{idents_entered, placed_all}

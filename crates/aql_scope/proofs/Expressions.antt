@@ -11,10 +11,10 @@ use Rattle.aql_value.specs.Tree.{Tree}
 use Rattle.aql_lift.specs.Lifting as L
 use Rattle.aql_lift.specs.Lifting.{Scoped, whole, over, both}
 use Rattle.aql_lift.proofs.Places.{placed, placed_maybe}
-use Rattle.aql_scope.specs.declared.faults.ScopeFault.{ScopeFault}
-use Rattle.aql_scope.specs.Faults.{first, count, call_fault, in_expr, in_exprs, in_maybe, in_members, in_steps, in_links}
-use Rattle.aql_scope.specs.Walk as W
-use Rattle.aql_scope.specs.Walk.{Site, State, Outcome, place, visible, next, on, inline_site}
+use Rattle.aql_names.specs.declared.faults.ScopeFault.{ScopeFault}
+use Rattle.aql_names.specs.Faults.{first, count, call_fault, in_expr, in_exprs, in_maybe, in_members, in_steps, in_links}
+use Rattle.aql_names.specs.Walk as W
+use Rattle.aql_names.specs.Walk.{Site, State, Outcome, place, visible, next, on, inline_site}
 use Rattle.aql_scope.proofs.Outcomes.{after, outcome, outcome_whole, used, same_over, judged_first, then_is}
 use Rattle.aql_scope.proofs.Back.{list_of, trees_back, option_of, maybe_back, members_of, members_back, steps_of, steps_back, links_of, links_back}
 use Rattle.aql_scope.proofs.Claims.{ExprIs, MaybeIs, ExprsAre, MembersAre, StepsAre, LinksAre}

@@ -11,5 +11,4 @@ pub mod ClauseForms
 pub mod Queries
 pub mod Walked
 pub mod WholeQuery
-pub mod Words
 pub mod Turns

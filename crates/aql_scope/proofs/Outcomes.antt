@@ -9,9 +9,9 @@ use Rattle.aql_lift.specs.Names.{text_of}
 use Rattle.aql_lift.specs.Lifting.{Taken, Scoped, whole, over, both, declares}
 use Rattle.aql_lift.proofs.Places.{Placed}
 use Rattle.aql_lift.specs.laws.PlainTakesNothing.{TakesNothing}
-use Rattle.aql_scope.specs.declared.faults.ScopeFault.{ScopeFault}
-use Rattle.aql_scope.specs.Faults.{first}
-use Rattle.aql_scope.specs.Walk.{State, Outcome, next, say_all, on, judged}
+use Rattle.aql_names.specs.declared.faults.ScopeFault.{ScopeFault}
+use Rattle.aql_names.specs.Faults.{first}
+use Rattle.aql_names.specs.Walk.{State, Outcome, next, say_all, on, judged}
 
 abbrev pub let_of : Taken → ClauseTree
 let_of t = define (Num t.0) (subquery t.1)

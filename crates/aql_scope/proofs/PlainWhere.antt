@@ -3,9 +3,9 @@ use Rattle.std.proofs.Common.{◌≡◌, ◌∙◌, refl, sym, ap, subst}
 use Rattle.std.specs.Prelude.{Bool, false, Option, None}
 use Rattle.aql_tree.specs.Tree.{ExprTree, literal, variable, current, listed, made, access, called, unary_of, chain, quantified, choice, range_of, subquery, ExprTrees, no_exprs, expr_then, MaybeExpr, no_expr, one_expr, MemberTrees, no_members, named_then, computed_then, StepTrees, no_steps, name_then, at_then, each_then, LinkTrees, no_links, link_then}
 use Rattle.aql_meaning.specs.Plain.{IsPlain, AllPlain, MaybePlain, MembersPlain, StepsPlain, LinksPlain}
-use Rattle.aql_scope.specs.declared.faults.ScopeFault.{ScopeFault}
-use Rattle.aql_scope.specs.declared.faults.ScopeFault.TheVariants.{SubqueryNotAllowed}
-use Rattle.aql_scope.specs.Faults.{Place, inline, opened, first, unless, in_expr, in_exprs, in_maybe, in_members, in_steps, in_links, in_query}
+use Rattle.aql_names.specs.declared.faults.ScopeFault.{ScopeFault}
+use Rattle.aql_names.specs.declared.faults.ScopeFault.TheVariants.{SubqueryNotAllowed}
+use Rattle.aql_names.specs.Faults.{Place, inline, opened, first, unless, in_expr, in_exprs, in_maybe, in_members, in_steps, in_links, in_query}
 use Rattle.aql_scope.proofs.Outcomes.{IsFault, first_left, first_right}
 
 no_subquery : (lifts : Bool) (g : Option ScopeFault) → lifts ≡ false

@@ -7,9 +7,9 @@ use Rattle.aql_tree.specs.declared.syntax.Ident.TheVariants.{Name}
 use Rattle.aql_tree.specs.Tree.{ExprTree, literal, variable, current, listed, made, access, called, unary_of, chain, quantified, choice, range_of, subquery, ExprTrees, no_exprs, expr_then, MaybeExpr, no_expr, one_expr, MemberTrees, no_members, named_then, computed_then, StepTrees, no_steps, name_then, at_then, each_then, LinkTrees, no_links, link_then, ClauseTree, for_each, for_documents, for_paths, keep_if, define, sort_by, limit, collect, AggregateTrees, no_aggregates, aggregate_then, IntoTree, no_into, into, ClauseTrees, no_clauses, clause_then, QueryTree, query}
 use Rattle.aql_meaning.specs.Visible.{onto, aggregate_vars}
 use Rattle.aql_lift.specs.Prunes.{ExprPrunes, ExprsPrunes, MaybePrunes, MembersPrunes, StepsPrunes, LinksPrunes, AggregatesPrunes, IntoPrunes, ClausePrunes, ClausesPrunes, PrunesPlain}
-use Rattle.aql_scope.specs.declared.faults.ScopeFault.TheVariants.{BadOption}
-use Rattle.aql_scope.specs.Options.{unwritten}
-use Rattle.aql_scope.specs.Faults.{Place, seen, inline, opened, behind, behind_all, first, unless, new_name, new_names, known_collections, edge_collections, aggregate_fault, walk_vars, in_expr, in_exprs, in_maybe, in_members, in_steps, in_links, in_settings, in_criteria, in_aggregates, in_into, in_clause, in_clauses, in_query}
+use Rattle.aql_names.specs.declared.faults.ScopeFault.TheVariants.{BadOption}
+use Rattle.aql_names.specs.Options.{unwritten}
+use Rattle.aql_names.specs.Faults.{Place, seen, inline, opened, behind, behind_all, first, unless, new_name, new_names, known_collections, edge_collections, aggregate_fault, walk_vars, in_expr, in_exprs, in_maybe, in_members, in_steps, in_links, in_settings, in_criteria, in_aggregates, in_into, in_clause, in_clauses, in_query}
 use Rattle.aql_scope.proofs.Outcomes.{first_left, first_right}
 use Rattle.aql_scope.proofs.PlainWhere.{plain_maybe}
 

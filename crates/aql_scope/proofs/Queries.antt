@@ -9,10 +9,10 @@ use Rattle.aql_lift.specs.Lifting.{Scoped, ScopedClauses, whole, over, followed,
 use Rattle.aql_lift.proofs.Places.{Placed, placed_clause, placed_clauses}
 use Rattle.aql_lift.proofs.Within.{idents_clause}
 use Rattle.aql_doc.specs.Held.{Held}
-use Rattle.aql_scope.specs.declared.faults.ScopeFault.{ScopeFault}
-use Rattle.aql_scope.specs.Faults.{behind, behind_all, first, known_collections, in_expr, in_clause, in_clauses}
-use Rattle.aql_scope.specs.Walk as W
-use Rattle.aql_scope.specs.Walk.{Site, State, Outcome, place, visible, next, pushed, on, judged}
+use Rattle.aql_names.specs.declared.faults.ScopeFault.{ScopeFault}
+use Rattle.aql_names.specs.Faults.{behind, behind_all, first, known_collections, in_expr, in_clause, in_clauses}
+use Rattle.aql_names.specs.Walk as W
+use Rattle.aql_names.specs.Walk.{Site, State, Outcome, place, visible, next, pushed, on, judged}
 use Rattle.aql_scope.proofs.Outcomes.{let_of, after, outcome, state_is, next_append}
 use Rattle.aql_scope.proofs.Back.{clauses_of, clauses_of_lets, clauses_followed}
 use Rattle.aql_scope.proofs.Claims.{ExprIs, open_site, done, ClauseIs, clauses_outcome, ClausesAre, query_outcome, QueryIs}

@@ -10,8 +10,8 @@ use Rattle.aql_meaning.specs.Visible.{onto}
 use Rattle.aql_lift.specs.Names.{Names, number_of, idents, text_of, entered, counted, behind_walk}
 use Rattle.aql_lift.proofs.Places.{Placed}
 use Rattle.aql_lift.proofs.Within.{Named}
-use Rattle.aql_scope.specs.Faults.{is_among, seen, walk_vars}
-use Rattle.aql_scope.specs.Walk.{Site, place, visible}
+use Rattle.aql_names.specs.Faults.{is_among, seen, walk_vars}
+use Rattle.aql_names.specs.Walk.{Site, place, visible}
 
 pub idents_append : (a b : Names) → idents (a ++ b) ≡ idents a ++ idents b
 idents_append a b = map-append (λ (v : Ident × ℕ). v.0) a b

@@ -10,12 +10,12 @@ use Rattle.aql_tree.specs.declared.syntax.UniqueVertices.TheVariants as vertices
 use Rattle.aql_tree.specs.Tree.{WalkOptions, literal, MemberTrees, no_members, named_then, computed_then}
 use Rattle.aql_meaning.specs.Options.{edges_setting, vertices_setting, order_setting, set_by, set_all, options_of}
 use Rattle.aql_value.specs.Parts.{same}
-use Rattle.aql_scope.specs.declared.faults.ScopeFault.{ScopeFault}
-use Rattle.aql_scope.specs.declared.faults.ScopeFault.TheVariants.{BadOption}
-use Rattle.aql_scope.specs.declared.options.Written.{Written}
-use Rattle.aql_scope.specs.Options.{unwritten, once, edges_in, vertices_in, order_in, bfs_in, with_setting, agree, is_breadth}
-use Rattle.aql_scope.specs.Faults.{Place, first, unless, setting_fault, setting_of, taken_over, in_expr, in_settings}
-use Rattle.aql_scope.specs.Walk.{options_in, written_options}
+use Rattle.aql_names.specs.declared.faults.ScopeFault.{ScopeFault}
+use Rattle.aql_names.specs.declared.faults.ScopeFault.TheVariants.{BadOption}
+use Rattle.aql_names.specs.declared.options.Written.{Written}
+use Rattle.aql_names.specs.Options.{unwritten, once, edges_in, vertices_in, order_in, bfs_in, with_setting, agree, is_breadth}
+use Rattle.aql_names.specs.Faults.{Place, first, unless, setting_fault, setting_of, taken_over, in_expr, in_settings}
+use Rattle.aql_names.specs.Walk.{options_in, written_options}
 use Rattle.aql_scope.proofs.Outcomes.{IsFault, first_left, first_right}
 
 -- what is written behind the settings

@@ -13,14 +13,14 @@ use Rattle.aql_tree.specs.Tree.{WalkShape, WalkOptions, ExprTree, literal, varia
 use Rattle.aql_tree.specs.View as view
 use Rattle.aql_tree.specs.View.{IntoPart, StepPart, tree, step_part, into_part, query_tree, traversal_part, options_part}
 use Rattle.aql_lift.specs.Names.{Names, text_of, walk_names, numbered_walk}
-use Rattle.aql_scope.specs.declared.faults.ScopeFault.{ScopeFault}
-use Rattle.aql_scope.specs.declared.faults.ScopeFault.TheVariants.{UnknownName, Redeclared, UnknownCollection, UnknownFunction, WrongArity, NotEdge, SubqueryNotAllowed, BadOption, Memory}
-use Rattle.aql_scope.specs.declared.options.Written.{Written}
-use Rattle.aql_scope.specs.Options.{unwritten}
-use Rattle.aql_scope.specs.Faults.{new_names, seen, unless, walk_vars, edge_collections}
-use Rattle.aql_scope.specs.Walk as W
-use Rattle.aql_scope.specs.Walk.{Site, State, Outcome, Walks, on, judged, beside, next}
-use Rattle.aql_scope.proofs.Words.{lifted_clause, paths_clause, walk_done}
+use Rattle.aql_names.specs.declared.faults.ScopeFault.{ScopeFault}
+use Rattle.aql_names.specs.declared.faults.ScopeFault.TheVariants.{UnknownName, Redeclared, UnknownCollection, UnknownFunction, WrongArity, NotEdge, SubqueryNotAllowed, BadOption, Memory}
+use Rattle.aql_names.specs.declared.options.Written.{Written}
+use Rattle.aql_names.specs.Options.{unwritten}
+use Rattle.aql_names.specs.Faults.{new_names, seen, unless, walk_vars, edge_collections}
+use Rattle.aql_names.specs.Walk as W
+use Rattle.aql_names.specs.Walk.{Site, State, Outcome, Walks, on, judged, beside, next}
+use Rattle.aql_names.proofs.Words.{lifted_clause, paths_clause, walk_done}
 
 -- where a part gives something, what follows goes on with it
 pub given_on : {A B R S : Type 0} (o : Outcome A R) (k : A → R → Outcome B S) (a : A) (r : R)

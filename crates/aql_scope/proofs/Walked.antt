@@ -1,7 +1,7 @@
 -- The walk finds the first fault of each part, and where there is none it gives the part's lifting.
 use Rattle.aql_tree.specs.declared.syntax.Ident.TheVariants.{Name, Num}
 use Rattle.aql_tree.specs.Tree.{ExprTree, literal, variable, current, listed, made, access, called, unary_of, chain, quantified, choice, range_of, subquery, ExprTrees, no_exprs, expr_then, MaybeExpr, no_expr, one_expr, MemberTrees, no_members, named_then, computed_then, StepTrees, no_steps, name_then, at_then, each_then, LinkTrees, no_links, link_then, ClauseTree, for_each, for_documents, for_paths, keep_if, define, sort_by, limit, collect, AggregateTrees, no_aggregates, aggregate_then, IntoTree, no_into, into, ClauseTrees, no_clauses, clause_then, QueryTree, query}
-use Rattle.aql_scope.specs.Walk.{next}
+use Rattle.aql_names.specs.Walk.{next}
 use Rattle.aql_scope.proofs.Claims.{ExprIs, MaybeIs, ExprsAre, MembersAre, StepsAre, LinksAre, SettingsAre, CriteriaAre, AggregatesAre, IntoIs, open_site, ClauseIs, ClausesAre, QueryIs}
 use Rattle.aql_scope.proofs.Cases as by
 use Rattle.aql_scope.proofs.Expressions as by_expr

@@ -11,11 +11,11 @@ use Rattle.aql_meaning.specs.Meaning.{Answer}
 use Rattle.aql_lift.specs.Prunes.{PrunesPlain}
 use Rattle.aql_lift.proofs.Answers.{scoped_back}
 use Rattle.aql_doc.specs.Held.{Held}
-use Rattle.aql_scope.specs.declared.faults.ScopeFault.{ScopeFault}
-use Rattle.aql_scope.specs.declared.faults.ScopeFault.TheVariants.{UnknownName, Redeclared, UnknownCollection, UnknownFunction, WrongArity, NotEdge, SubqueryNotAllowed, BadOption, Memory}
-use Rattle.aql_scope.specs.Faults.{outermost, in_query}
+use Rattle.aql_names.specs.declared.faults.ScopeFault.{ScopeFault}
+use Rattle.aql_names.specs.declared.faults.ScopeFault.TheVariants.{UnknownName, Redeclared, UnknownCollection, UnknownFunction, WrongArity, NotEdge, SubqueryNotAllowed, BadOption, Memory}
+use Rattle.aql_names.specs.Faults.{outermost, in_query}
 use Rattle.aql_scope.specs.Scoping.{IsLifted, Answered}
-use Rattle.aql_scope.specs.Walk.{Outcome, Walks, query_walk}
+use Rattle.aql_names.specs.Walk.{Outcome, Walks, query_walk}
 use Rattle.aql_scope.proofs.Claims.{query_outcome}
 use Rattle.aql_scope.proofs.PrunesPlain.{no_fault_plain_prunes}
 use Rattle.aql_scope.proofs.Walked.{query_is}

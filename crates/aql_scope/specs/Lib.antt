@@ -1,4 +1,1 @@
-pub mod Options
-pub mod Faults
-pub mod Walk
 pub mod Scoping

@@ -4,9 +4,9 @@ use Rattle.std.specs.Prelude.{ℕ, ◌≡◌, List, [], Some, None, Result, Ok, 
 use Rattle.aql_tree.specs.Tree.{QueryTree}
 use Rattle.aql_lift.specs.Lifting.{scoped}
 use Rattle.aql_doc.specs.Held.{Held}
-use Rattle.aql_scope.specs.declared.faults.ScopeFault.{ScopeFault}
-use Rattle.aql_scope.specs.declared.faults.ScopeFault.TheVariants.{Memory}
-use Rattle.aql_scope.specs.Faults.{first_fault}
+use Rattle.aql_names.specs.declared.faults.ScopeFault.{ScopeFault}
+use Rattle.aql_names.specs.declared.faults.ScopeFault.TheVariants.{Memory}
+use Rattle.aql_names.specs.Faults.{first_fault}
 
 -- the query q has no fault, and these are its lifted query and the names of the numbers from 1 on
 abbrev pub IsLifted : List Held → QueryTree → QueryTree → List (List ℕ) → Type 0

@@ -2,13 +2,8 @@
 //! order of the text is found.
 #![tactic(auto)]
 
-mod checks;
-mod clauses;
-mod faults;
-mod names;
-mod options;
 mod scoping;
 mod walk;
 
-pub use faults::ScopeFault;
+pub use aql_names::ScopeFault;
 pub use scoping::{Scoped, scope};

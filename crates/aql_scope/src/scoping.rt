@@ -5,13 +5,12 @@ ghost use Rattle.aql_tree.specs.View.{query_tree};
 ghost use Rattle.aql_meaning.specs.Row.{empty_row};
 ghost use Rattle.aql_meaning.specs.Meaning.{Answer};
 ghost use Rattle.aql_lift.specs.Lifting.{scoped};
-ghost use Rattle.aql_scope.specs.Faults.{first_fault};
-ghost use Rattle.aql_scope.specs.declared.faults.ScopeFault.TheVariants.{Memory};
+ghost use Rattle.aql_names.specs.Faults.{first_fault};
+ghost use Rattle.aql_names.specs.declared.faults.ScopeFault.TheVariants.{Memory};
 
-use crate::ScopeFault;
-use crate::names::{At, NameList, Scope};
 use crate::walk::query_within;
 use aql_doc::Catalog;
+use aql_names::{At, NameList, Scope, ScopeFault};
 use aql_tree::Query;
 use aql_value::Names;
 use std::alloc::Global;

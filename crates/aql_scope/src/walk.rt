@@ -7,21 +7,17 @@ ghost use Rattle.aql_tree.specs.View.{steps as step_trees, links as link_trees, 
 ghost use Rattle.aql_tree.specs.View.{link_part, key_part, let_part, aggregate_part, into_part, query_tree};
 ghost use Rattle.aql_tree.specs.View.{aggregates as aggregate_trees, into_tree, traversal_part, walked, grouped, collect_part};
 ghost use Rattle.aql_tree.specs.View.{options_part};
-ghost use Rattle.aql_scope.specs.Walk as walk;
-ghost use Rattle.aql_scope.specs.Walk.{for_listed, let_valued};
-ghost use Rattle.aql_scope.specs.Walk.{Walks, site_of, site_within, state};
-ghost use Rattle.aql_scope.specs.Options.{unwritten};
+ghost use Rattle.aql_names.specs.Walk as walk;
+ghost use Rattle.aql_names.specs.Walk.{for_listed, let_valued};
+ghost use Rattle.aql_names.specs.Walk.{Walks, site_of, site_within, state};
+ghost use Rattle.aql_names.specs.Options.{unwritten};
 
-use crate::ScopeFault;
-use crate::checks::{
-    check_aggregate, check_args, check_collections, check_edges, check_kept, check_new,
+use aql_names::{
+    At, NameList, Scope, ScopeFault, WalkParts, Written, check_aggregate, check_args,
+    check_collections, check_depth, check_edges, check_kept, check_new, check_setting,
+    check_walk_vars, copy_texts, declare, declare_ident, declare_walk, documents_clause, for_name,
+    into_names, single_name, standing_before, walk_of, written,
 };
-use crate::clauses::{
-    WalkParts, check_depth, check_setting, check_walk_vars, copy_texts, declare_walk,
-    documents_clause, for_name, into_names, single_name, standing_before, walk_of,
-};
-use crate::names::{At, NameList, Scope, declare, declare_ident, written};
-use crate::options::Written;
 use aql_tree::{
     AggregateItem, Aggregates, Clause, Clauses, Collect, Expr, Exprs, Field, Fields, Ident, Into,
     Key, Keys, Let, Lets, Link, Links, Options, Query, Step, Steps, Traversal,
@@ -303,7 +299,7 @@ pub fn query_within(query: &Query, at: &At<'_>, said: &mut Names) -> Result<Quer
 }
 
 // A clause, where `at` gives the catalog; the query's own names are then those behind it.
-#[tactic(auto, using(crate::proofs::Words::collection_clause))]
+#[tactic(auto, using(aql_names::proofs::Words::collection_clause))]
 #[cycle(walk)]
 fn clause(
     item: &Clause,
@@ -335,7 +331,7 @@ fn clause(
 }
 
 // FOR over an expression, a variable or a collection.
-#[tactic(auto, using(crate::proofs::Words::for_by_name, crate::proofs::Words::for_by_list))]
+#[tactic(auto, using(aql_names::proofs::Words::for_by_name, aql_names::proofs::Words::for_by_list))]
 #[cycle(walk)]
 fn for_clause(
     list: &Expr,
@@ -382,7 +378,7 @@ fn for_list(
 }
 
 // LET.
-#[tactic(auto, using(crate::proofs::Words::lifted_clause))]
+#[tactic(auto, using(aql_names::proofs::Words::lifted_clause))]
 #[cycle(walk)]
 fn let_clause(
     value: &Expr,
@@ -454,7 +450,7 @@ fn let_value(
 }
 
 // A traversal: its names are visible in its PRUNE, and not in its OPTIONS.
-#[tactic(auto, using(crate::proofs::Words::paths_clause))]
+#[tactic(auto, using(aql_names::proofs::Words::paths_clause))]
 #[cycle(walk)]
 fn walk_clause(
     traversal: &Traversal,
@@ -710,7 +706,7 @@ fn into_part_of(
     }
 }
 
-#[tactic(auto, using(crate::proofs::Words::named_into))]
+#[tactic(auto, using(aql_names::proofs::Words::named_into))]
 #[cycle(walk)]
 fn into_some(
     into: &Into,

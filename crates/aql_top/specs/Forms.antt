@@ -4,7 +4,7 @@ use Rattle.aql_tree.specs.Tree.{QueryTree}
 use Rattle.aql_script.specs.Script.{IsScript}
 use Rattle.aql_script.specs.declared.loading.Loaded.{Loaded}
 use Rattle.aql_lift.specs.Lifting.{scoped}
-use Rattle.aql_scope.specs.Faults.{first_fault}
+use Rattle.aql_names.specs.Faults.{first_fault}
 use Rattle.aql_front.specs.Reading.{IsWritten, Refuses}
 use Rattle.aql_front.specs.declared.faults.QueryFault.{QueryFault}
 use Rattle.aql_run.specs.Forms.{runs, Shows}

@@ -5,11 +5,11 @@ use Rattle.aql_tree.specs.declared.syntax.Into.{Into}
 use Rattle.aql_tree.specs.Tree.{ClauseTree, subquery, for_paths, no_members}
 use Rattle.aql_tree.specs.View.{tree, steps, each, step_part, maybe, members, query_tree, clause_tree, IntoPart, into_part, into_tree, traversal_part, walked}
 use Rattle.aql_lift.specs.Names.{Names, numbered_walk}
-use Rattle.aql_scope.specs.declared.faults.ScopeFault.TheVariants.{BadOption}
-use Rattle.aql_scope.specs.Faults.{new_names, seen, unless, walk_vars, edge_collections}
-use Rattle.aql_scope.specs.Options.{unwritten}
-use Rattle.aql_scope.specs.Walk as walk
-use Rattle.aql_scope.specs.Walk.{Walks, place, site_of, site_within, inline_site, with_own, state, next}
+use Rattle.aql_names.specs.declared.faults.ScopeFault.TheVariants.{BadOption}
+use Rattle.aql_names.specs.Faults.{new_names, seen, unless, walk_vars, edge_collections}
+use Rattle.aql_names.specs.Options.{unwritten}
+use Rattle.aql_names.specs.Walk as walk
+use Rattle.aql_names.specs.Walk.{Walks, place, site_of, site_within, inline_site, with_own, state, next}
 use Rattle.aql_scope.proofs.Turns.{let_of_query, let_of_value, of_query, no_query, into_given, walk_has_fault, walk_has_parts, shape_is, walk_parts_of, settings_have_fault, into_parts_of, steps_from, of_each, each_has_fault, fault_through, given_on}
 use Rattle.aql_scope.proofs.walk.+walk.Goals as goal
 

@@ -1,9 +1,9 @@
 use Rattle.std.proofs.Common.{◌≡◌, [], map, take, drop, true}
 use Rattle.aql_tree.specs.View as view
 use Rattle.aql_tree.specs.View.{tree, trees, clause_tree, step_part, member_part, link_part, key_part, let_part, aggregate_part}
-use Rattle.aql_scope.specs.Options.{unwritten}
-use Rattle.aql_scope.specs.Walk.{site_of, site_within, inline_site, visible, state}
-use Rattle.aql_scope.specs.Walk as walk
+use Rattle.aql_names.specs.Options.{unwritten}
+use Rattle.aql_names.specs.Walk.{site_of, site_within, inline_site, visible, state}
+use Rattle.aql_names.specs.Walk as walk
 use Rattle.aql_scope.proofs.walk.+walk.Given as goal
 
 abbrev pub invariant-exprs-loop-item : goal.invariant-exprs-loop-item

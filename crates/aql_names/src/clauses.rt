@@ -1,0 +1,456 @@
+//! Clauses, and parts of them, in which no expression stands.
+
+ghost use Rattle.std.specs.Prelude.{◌≡◌, [], ◌∷◌, ◌++◌, map, length, suc, Some, IfOk, OnOk, option_to_list, option_map, nat_le, codes};
+ghost use Rattle.aql_tree.specs.Tree as spec;
+ghost use Rattle.aql_tree.specs.View.{tree, clause_tree, query_tree, into_part, traversal_part, options_part, members, member_part, named, walked};
+ghost use Rattle.aql_tree.specs.declared.syntax.Ident.TheVariants.{Name, Num};
+ghost use Rattle.aql_doc.specs.Declarations.{place_of};
+ghost use Rattle.aql_meaning.specs.Groups.{names_taken};
+ghost use Rattle.aql_meaning.specs.Visible.{onto};
+ghost use Rattle.aql_lift.specs.Names.{number_of, numbered, idents, text_of, given, entered, numbered_walk, walk_names, object_of};
+ghost use Rattle.aql_names.specs.declared.faults.ScopeFault.TheVariants.{BadOption};
+ghost use Rattle.aql_names.specs.Faults as fault;
+ghost use Rattle.aql_names.specs.Walk as walk;
+ghost use Rattle.aql_names.specs.Walk.{Gives, Judges, Walks, site_of, site_within};
+
+use crate::ScopeFault;
+use crate::checks::{check_collection, check_kept, check_new};
+use crate::names::{At, NameList, Scope, declare_ident};
+use crate::options::Written;
+use aql_tree::{
+    Clause, Clauses, Expr, Field, Fields, Ident, Into, Options, Query, Traversal, UniqueEdges,
+    UniqueVertices,
+};
+use aql_value::{Names, OutOfMemory, Seq, Text, Value};
+use std::alloc::Global;
+
+/// The copy of a list of names.
+pub fn copy_texts(alloc: Global, texts: &[Text]) -> Result<Names, OutOfMemory>
+    ensures { IfOk result (λ ts. ts ≡ texts.now) }
+{
+    let mut all = Seq::new(alloc);
+    for text in texts {
+        all.push(text.copy(alloc)?)?;
+    }
+    Ok(all)
+}
+
+/// The name, where an expression is a single one.
+pub fn single_name(list: &Expr) -> Option<&Text>
+    ensures { option_map (λ t. t.now) result ≡ walk.single_name (tree list.now) }
+{
+    match list {
+        Expr::Var(Ident::Name(name)) => Some(name),
+        _ => None,
+    }
+}
+
+/// What a single name after IN stands for: the number of a visible variable, or nothing.
+pub fn number_of_name(alloc: Global, scope: &Scope, name: &Text) -> Result<Option<u32>, OutOfMemory>
+    ensures { IfOk result (λ n. n ≡ number_of (scope.now.own ++ scope.now.outer) (Name name.now)) }
+{
+    let ident = Ident::Name(name.copy(alloc)?);
+    Ok(scope.find(&ident))
+}
+
+/// The variable of a subquery, whose LET then stands before the clause at hand.
+pub fn standing_before(
+    alloc: Global,
+    inner: Query,
+    number: u32,
+    lets: &mut Clauses,
+) -> Result<Expr, OutOfMemory>
+    ensures variable { IfOk result (λ e. tree e ≡ spec.variable (Num number)) }
+    ensures lets { OnOk result (map clause_tree lets.new ≡ map clause_tree lets.old
+        ++ spec.define (Num number) (spec.subquery (query_tree inner)) ∷ []) }
+{
+    lets.push(Clause::Let {
+        var: Ident::Num(number),
+        expr: Expr::Sub(Box::new(alloc, inner)?),
+    })?;
+    Ok(Expr::Var(Ident::Num(number)))
+}
+
+/// FOR over a single name: the variable of the number that it has, or else a collection.
+pub fn source(
+    at: &At<'_>,
+    number: u32,
+    name: &Text,
+    found: Option<u32>,
+) -> Result<Clause, ScopeFault>
+    ensures { Gives clause_tree
+        (walk.source number name.now found (place_of at.now.catalog.now name.now)) result }
+{
+    let var = Ident::Num(number);
+    if let Some(found) = found {
+        let list = Expr::Var(Ident::Num(found));
+        return Ok(Clause::For { var, list });
+    }
+    let collection = name.copy(at.alloc)?;
+    if at.catalog.find(name.as_str()).is_none() {
+        return Err(ScopeFault::UnknownCollection { name: collection });
+    }
+    Ok(Clause::ForDocs { var, collection })
+}
+
+/// FOR over a single name: a variable, or else a collection.
+pub fn for_name(
+    var: &Ident,
+    name: &Text,
+    at: &At<'_>,
+    scope: &mut Scope,
+    said: &mut Names,
+) -> Result<Clause, ScopeFault>
+    ensures clause { Walks (λ c. (clause_tree c, scope.new.own))
+        (walk.for_named (site_within at.now scope.old) var.now name.now said.old) result said.new }
+    ensures outer { scope.new.outer ≡ scope.old.outer }
+{
+    check_new(at.alloc, scope, &NameList::new(at.alloc), var)?;
+    let number = declare_ident(at.alloc, said, var)?;
+    let found = number_of_name(at.alloc, scope, name)?;
+    scope.own.enter(at.alloc, var, number)?;
+    source(at, number, name, found)
+}
+
+/// FOR over what is known to be a collection.
+pub fn documents_clause(
+    var: &Ident,
+    collection: &Text,
+    at: &At<'_>,
+    scope: &mut Scope,
+    said: &mut Names,
+) -> Result<Clause, ScopeFault>
+    ensures clause { Walks (λ c. (clause_tree c, scope.new.own))
+        (walk.for_collection (site_within at.now scope.old) var.now collection.now said.old)
+        result said.new }
+    ensures outer { scope.new.outer ≡ scope.old.outer }
+{
+    check_new(at.alloc, scope, &NameList::new(at.alloc), var)?;
+    check_collection(at.alloc, at.catalog, collection)?;
+    let number = declare_ident(at.alloc, said, var)?;
+    scope.own.enter(at.alloc, var, number)?;
+    Ok(Clause::ForDocs {
+        var: Ident::Num(number),
+        collection: collection.copy(at.alloc)?,
+    })
+}
+
+/// The names of a traversal, numbered, and the query's own names behind it.
+#[derive(Drop)]
+pub struct WalkVars {
+    pub vertex: Ident,
+    pub edge: Option<Ident>,
+    pub path: Option<Ident>,
+    pub behind: NameList,
+}
+
+/// The start of a traversal, its PRUNE, and what its settings write.
+#[derive(Drop)]
+pub struct WalkParts {
+    pub start: Expr,
+    pub prune: Option<Expr>,
+    pub written: Written,
+}
+
+// A name that a traversal may have.
+fn check_maybe(
+    alloc: Global,
+    scope: &Scope,
+    earlier: &mut NameList,
+    ident: &Option<Ident>,
+) -> Result<(), ScopeFault>
+    ensures new { Judges (fault.new_names (idents scope.now.own ++ idents scope.now.outer)
+        (idents earlier.old) (option_to_list ident.now)) result }
+    ensures earlier { OnOk result (idents earlier.new
+        ≡ onto (option_to_list ident.now) (idents earlier.old)) }
+{
+    if let Some(ident) = ident {
+        check_new(alloc, scope, earlier, ident)?;
+        earlier.enter(alloc, ident, 0)?;
+    }
+    Ok(())
+}
+
+/// The names that a traversal declares.
+#[tactic(auto, using(crate::proofs::Words::new_append))]
+pub fn check_walk_vars(
+    alloc: Global,
+    scope: &Scope,
+    traversal: &Traversal,
+) -> Result<(), ScopeFault>
+    ensures { Judges (fault.new_names (idents scope.now.own ++ idents scope.now.outer) []
+        (traversal.now.vertex ∷ (option_to_list traversal.now.edge
+        ++ option_to_list traversal.now.path))) result }
+{
+    let mut earlier = NameList::new(alloc);
+    check_new(alloc, scope, &earlier, &traversal.vertex)?;
+    earlier.enter(alloc, &traversal.vertex, 0)?;
+    check_maybe(alloc, scope, &mut earlier, &traversal.edge)?;
+    check_maybe(alloc, scope, &mut earlier, &traversal.path)
+}
+
+// The number of a name that a traversal may have, which is then visible.
+fn declare_maybe(
+    alloc: Global,
+    ident: &Option<Ident>,
+    behind: &mut NameList,
+    said: &mut Names,
+) -> Result<Option<Ident>, OutOfMemory>
+    ensures number { IfOk result (λ x. x ≡ given (suc (length said.old)) ident.now) }
+    ensures behind { OnOk result (behind.new ≡ entered (option_to_list ident.now)
+        (option_to_list (given (suc (length said.old)) ident.now)) behind.old) }
+    ensures said { OnOk result (said.new ≡ said.old ++ map text_of (option_to_list ident.now)) }
+{
+    match ident {
+        Some(ident) => {
+            let number = declare_ident(alloc, said, ident)?;
+            behind.enter(alloc, ident, number)?;
+            Ok(Some(Ident::Num(number)))
+        }
+        None => Ok(None),
+    }
+}
+
+/// Numbers for the names of a traversal, which are then visible.
+pub fn declare_walk(
+    alloc: Global,
+    traversal: &Traversal,
+    own: &NameList,
+    said: &mut Names,
+) -> Result<WalkVars, OutOfMemory>
+    ensures vars { IfOk result (λ v.
+        let w = numbered_walk (suc (length said.old)) (traversal_part traversal.now).0 in
+        (v.vertex ≡ w.vertex) × (v.edge ≡ w.edge) × (v.path ≡ w.path)) }
+    ensures behind { IfOk result (λ v. v.behind
+        ≡ walk_names (suc (length said.old)) (traversal_part traversal.now).0 own.now) }
+    ensures said { OnOk result (said.new
+        ≡ said.old ++ map text_of (fault.walk_vars (traversal_part traversal.now).0)) }
+{
+    let mut behind = own.copy(alloc)?;
+    let number = declare_ident(alloc, said, &traversal.vertex)?;
+    behind.enter(alloc, &traversal.vertex, number)?;
+    let edge = declare_maybe(alloc, &traversal.edge, &mut behind, said)?;
+    let path = declare_maybe(alloc, &traversal.path, &mut behind, said)?;
+    Ok(WalkVars {
+        vertex: Ident::Num(number),
+        edge,
+        path,
+        behind,
+    })
+}
+
+/// The depth of a traversal.
+pub fn check_depth(alloc: Global, traversal: &Traversal) -> Result<(), ScopeFault>
+    ensures { Judges (fault.unless (nat_le traversal.now.min traversal.now.max)
+        (BadOption (codes "depth"))) result }
+{
+    if traversal.min > traversal.max {
+        return Err(ScopeFault::BadOption {
+            name: Text::new(alloc, "depth")?,
+        });
+    }
+    Ok(())
+}
+
+/// The settings of a traversal with one more.
+pub fn check_setting(
+    alloc: Global,
+    found: Written,
+    name: &Text,
+    value: &Expr,
+) -> Result<Written, ScopeFault>
+    ensures fault { Judges (fault.setting_fault name.now (fault.setting_of name.now (tree value.now) found)) result }
+    ensures ok { IfOk result (λ w. w ≡ fault.taken_over found (fault.setting_of name.now (tree value.now) found)) }
+{
+    let with = match value {
+        Expr::Lit(value) => found.with(name.as_str(), value),
+        _ => None,
+    };
+    let Some(with) = with else {
+        return Err(ScopeFault::BadOption {
+            name: name.copy(alloc)?,
+        });
+    };
+    if !with.agrees() {
+        return Err(ScopeFault::BadOption {
+            name: Text::new(alloc, "order")?,
+        });
+    }
+    Ok(with)
+}
+
+// Options without settings.
+fn bare_options(alloc: Global, edges: UniqueEdges, vertices: UniqueVertices, bfs: bool) -> Options
+    ensures { options_part result ≡ ([], record { edges = edges; vertices = vertices; bfs = bfs }) }
+{
+    Options {
+        settings: Seq::new(alloc),
+        edges,
+        vertices,
+        bfs,
+    }
+}
+
+// The options of a traversal, from what its settings write.
+#[tactic(auto, using(crate::proofs::Words::options_written))]
+fn options_behind(alloc: Global, options: &Options, found: Written) -> Options
+    ensures { options_part result ≡ (
+      [],
+      walk.written_options
+          (members (map member_part options.now.settings)) (options_part options.now).1 found,
+    ) }
+{
+    if options.settings.len() == 0 {
+        return bare_options(alloc, options.edges, options.vertices, options.bfs);
+    }
+    bare_options(
+        alloc,
+        found.edges.unwrap_or(UniqueEdges::Path),
+        found.vertices.unwrap_or(UniqueVertices::None),
+        found.is_breadth(),
+    )
+}
+
+// A traversal of the depth and direction of another.
+fn walk_like(
+    traversal: &Traversal,
+    vertex: Ident,
+    edge: Option<Ident>,
+    path: Option<Ident>,
+    start: Expr,
+    collections: Names,
+    prune: Option<Expr>,
+    options: Options,
+) -> Traversal
+    ensures { traversal_part result ≡ (
+      record {
+        vertex = vertex;
+        edge = edge;
+        path = path;
+        min = traversal.now.min;
+        max = traversal.now.max;
+        direction = traversal.now.direction;
+        options = (options_part options).1;
+      },
+      tree start,
+      collections,
+      option_map tree prune,
+      (options_part options).0,
+    ) }
+{
+    Traversal {
+        vertex,
+        edge,
+        path,
+        min: traversal.min,
+        max: traversal.max,
+        direction: traversal.direction,
+        start,
+        collections,
+        prune,
+        options,
+    }
+}
+
+/// The clause of a traversal, from its numbered names, its edge collections and its parts.
+pub fn walk_of(
+    alloc: Global,
+    traversal: &Traversal,
+    vertex: Ident,
+    edge: Option<Ident>,
+    path: Option<Ident>,
+    collections: Names,
+    parts: WalkParts,
+) -> Clause
+    ensures { clause_tree result ≡ walked (
+      record (traversal_part traversal.now).0 {
+        vertex = vertex;
+        edge = edge;
+        path = path;
+        options = walk.written_options (members (traversal_part traversal.now).4)
+            (traversal_part traversal.now).0.options parts.written;
+      },
+      tree parts.start,
+      collections,
+      option_map tree parts.prune,
+      [],
+    ) }
+{
+    let options = options_behind(alloc, &traversal.options, parts.written);
+    Clause::Walk(walk_like(
+        traversal,
+        vertex,
+        edge,
+        path,
+        parts.start,
+        collections,
+        parts.prune,
+        options,
+    ))
+}
+
+// A member with a variable by its name.
+fn named_member(at: &At<'_>, name: &Text) -> Result<Field, OutOfMemory>
+    ensures { IfOk result (λ f. member_part f
+        ≡ named name.now (numbered (number_of (walk.visible (site_of at.now)) (Name name.now)))) }
+{
+    let number = number_of_name(at.alloc, at.scope, name)?;
+    let name = name.copy(at.alloc)?;
+    let value = match number {
+        Some(number) => Expr::Var(Ident::Num(number)),
+        None => Expr::Lit(Value::Null),
+    };
+    Ok(Field::Named { name, value })
+}
+
+fn object(fields: Fields) -> Expr
+    ensures { tree result ≡ spec.made (members (map member_part fields)) }
+{
+    Expr::Object(fields)
+}
+
+// The object of the variables of these names.
+#[tactic(auto, using(crate::proofs::Words::object_members))]
+fn object_with(at: &At<'_>, names: &[Text]) -> Result<Expr, OutOfMemory>
+    ensures { IfOk result (λ e. tree e
+        ≡ spec.made (object_of (walk.visible (site_of at.now)) names.now)) }
+{
+    let mut fields = Seq::new(at.alloc);
+    for name in names {
+        fields.push(named_member(at, name)?)?;
+    }
+    Ok(object(fields))
+}
+
+/// What INTO takes without an expression: the object of the query's own variables, or of those that
+/// KEEP names.
+#[tactic(auto, using(crate::proofs::Words::kept_taken))]
+pub fn variables_object(at: &At<'_>, keep: &[Text]) -> Result<Expr, OutOfMemory>
+    ensures { IfOk result (λ e. tree e ≡ spec.made (object_of (walk.visible (site_of at.now))
+        (names_taken (idents at.now.scope.now.own) keep.now))) }
+{
+    if keep.len() == 0 {
+        let own = at.scope.own.names(at.alloc)?;
+        return object_with(at, own.as_slice());
+    }
+    object_with(at, keep)
+}
+
+/// INTO without an expression, with the object of the variables that it takes.
+pub fn into_names(
+    var: &Ident,
+    keep: &[Text],
+    at: &At<'_>,
+    behind: &mut NameList,
+    said: &mut Names,
+) -> Result<Into, ScopeFault>
+    ensures { Walks (λ i. (Some (into_part i), behind.new))
+        (walk.into_named (site_of at.now) behind.old var.now keep.now said.old) result said.new }
+{
+    check_new(at.alloc, at.scope, behind, var)?;
+    check_kept(at.alloc, &at.scope.own, keep)?;
+    let number = declare_ident(at.alloc, said, var)?;
+    behind.enter(at.alloc, var, number)?;
+    let what = variables_object(at, keep)?;
+    Ok(Into::new(Ident::Num(number), Some(what), Seq::new(at.alloc)))
+}
