@@ -86,10 +86,6 @@ pub firsts_push : (ts : List Tree) (t : Tree) → firsts (ts ++ t ∷ []) ≡ no
 firsts_push [] t = refl
 firsts_push (u ∷ us) t = ap (λ l. u ∷ others u l) (firsts_push us t) ∙ noted_others u t (firsts us)
 
--- what the set finds is in the list that it was made from
-pub in_keys : (ks vs : List Value) (v : Value) → trees_in ks ≡ firsts (trees_in vs) → list_any (on tree_of (eq_by_cmp compare) v) ks ≡ is_in (trees_in vs) (tree_of v)
-in_keys ks vs v e = any_tree v ks ∙ ap (λ l. is_in l (tree_of v)) e ∙ in_firsts (trees_in vs) (tree_of v)
-
 pub sift_yes : (b c : Bool) → beq b c ≡ true → (d : Bool) → b ≡ d → cond c d (not d) ≡ true
 sift_yes b c e d f = subst (λ x. cond c x (not x) ≡ true) f (by b c e)
   where
@@ -117,16 +113,6 @@ sift_more p xs i v out e f = rw e (rw f (sym (filter-append p (trees_in (take i 
     by true l = refl
     by false l = append-nil l
 
--- one more value where it is new; and what was seen then
-pub once_more : (ks : List Value) (out : List Tree) (v : Value) (x : Tree) (b : Bool) → tree_of v ≡ x
-    → ((t : Tree) → is_in (trees_in ks) t ≡ is_in out t) → b ≡ not (list_any (on tree_of (eq_by_cmp compare) v) ks)
-    → added true out x ≡ cond b (out ++ x ∷ []) out
-once_more ks out v x b e h p = by (is_in out x) (sym (h x)) ∙ ap (λ d. cond d (out ++ x ∷ []) out) (sym (p ∙ ap not (any_tree v ks ∙ ap (is_in (trees_in ks)) e)))
-  where
-    by : (d : Bool) → d ≡ is_in (trees_in ks) x → cond d out (out ++ x ∷ []) ≡ cond (not (is_in (trees_in ks) x)) (out ++ x ∷ []) out
-    by true e = rw (sym e) refl
-    by false e = rw (sym e) refl
-
 is_in_push : (ts : List Tree) (x t : Tree) → is_in (ts ++ x ∷ []) t ≡ is_in ts t || same t x
 is_in_push [] x t = or_false (same t x)
   where
@@ -139,15 +125,14 @@ is_in_push (u ∷ us) x t = ap (λ b. same t u || b) (is_in_push us x t) ∙ gro
     grouped true b c = refl
     grouped false b c = refl
 
-pub seen_more : (ks : List Value) (out : List Tree) (v : Value) (x : Tree) → tree_of v ≡ x
-    → ((t : Tree) → is_in (trees_in ks) t ≡ is_in out t)
-    → (t : Tree) → is_in (trees_in (insert_key (on tree_of (eq_by_cmp compare)) ks v)) t ≡ is_in (added true out x) t
-seen_more ks out v x e h t =
-    ap (λ l. is_in l t) (keys_noted ks v ∙ ap (noted (trees_in ks)) e) ∙ by (is_in (trees_in ks) x) (h x)
+-- one more value where it is new, for two lists of the same values
+pub seen_more : (ks out : List Tree) (x : Tree) → ((t : Tree) → is_in ks t ≡ is_in out t)
+    → (t : Tree) → is_in (added true ks x) t ≡ is_in (added true out x) t
+seen_more ks out x h t = by (is_in ks x) (h x)
   where
-    by : (b : Bool) → b ≡ is_in out x → is_in (cond b (trees_in ks) (trees_in ks ++ x ∷ [])) t ≡ is_in (cond (is_in out x) out (out ++ x ∷ [])) t
+    by : (b : Bool) → b ≡ is_in out x → is_in (cond b ks (ks ++ x ∷ [])) t ≡ is_in (cond (is_in out x) out (out ++ x ∷ [])) t
     by true p = rw (sym p) (h t)
-    by false p = rw (sym p) (is_in_push (trees_in ks) x t ∙ ap (λ b. b || same t x) (h t) ∙ sym (is_in_push out x t))
+    by false p = rw (sym p) (is_in_push ks x t ∙ ap (λ b. b || same t x) (h t) ∙ sym (is_in_push out x t))
 
 -- `contains` of a slice
 pub held : (v : Value) (vs : List Value) → list_any (λ y. on tree_of (eq_by_cmp compare) y v) vs ≡ is_in (trees_in vs) (tree_of v)

@@ -1,5 +1,5 @@
 -- One more attribute of an object; and an attribute above all others goes last.
-use Rattle.std.proofs.Common.{◌≡◌, ℕ, zero, suc, ◌+◌, ◌<◌, List, [], ◌∷◌, ◌++◌, Bool, true, false, cond, length, get_or, take, filter, refl, ap, sym, subst, ◌∙◌, arith}
+use Rattle.std.proofs.Common.{◌≡◌, ℕ, zero, suc, ◌+◌, ◌<◌, List, [], ◌∷◌, ◌++◌, Bool, true, false, cond, not, length, get_or, take, filter, refl, ap, sym, subst, ◌∙◌, arith}
 use Rattle.std.specs.declared.cmp.Ordering.TheVariants.{Greater}
 use Rattle.std.specs.Ordering.{nat_cmp, match_ordering, ordering_reverse}
 use Rattle.std.specs.Cmp.Lexicographic.{slice_cmp}
@@ -8,13 +8,17 @@ use Rattle.std.proofs.lemmas.List.{take_more, map-append}
 use Rattle.std.proofs.lemmas.List.Sums.{fold-append}
 use Rattle.std.proofs.lemmas.List.Elements.{filter-append}
 use Rattle.aql_value.specs.declared.values.Member.{Member}
-use Rattle.aql_value.specs.Tree.{Tree, object_of}
+use Rattle.aql_value.specs.Tree.{Tree, text, object_of}
 use Rattle.aql_value.specs.View.{tree_of}
 use Rattle.aql_value.specs.Fields.{fields_in}
 use Rattle.aql_value.specs.Order.{BytesBelow}
 use Rattle.aql_value.specs.WellFormed.{FieldsWellFormed, IsBelowNames}
 use Rattle.aql_value.specs.Attributes.{with_attribute}
+use Rattle.aql_func.specs.Chosen.{chosen_of}
+use Rattle.aql_func.specs.Lists.{firsts}
 use Rattle.aql_func.specs.Objects.{with_all}
+use Rattle.aql_func.proofs.Firsts.{in_firsts}
+use Rattle.aql_func.proofs.Sieves.{alike_tests}
 
 abbrev pub entry : Member → List ℕ × Tree
 entry m = (m.name, tree_of m.value)
@@ -88,3 +92,8 @@ chosen_more p ms i m out w h e f =
         nil : (l : List (List ℕ × Tree)) → l ++ [] ≡ l
         nil [] = refl
         nil (x ∷ xs) = ap (λ r. x ∷ r) (nil xs)
+
+-- the distinct names choose as all of them do
+pub chosen_firsts : (present : Bool) (names : List Tree) (fs : List (List ℕ × Tree))
+    → chosen_of present (firsts names) fs ≡ chosen_of present names fs
+chosen_firsts present names fs = alike_tests _ _ (λ f. ap (λ b. cond present b (not b)) (in_firsts names (text f.0))) fs

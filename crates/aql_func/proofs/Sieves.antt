@@ -4,8 +4,9 @@ use Rattle.std.specs.Prelude.{flat_map}
 use Rattle.std.specs.List.{list_all, list_any}
 use Rattle.aql_value.specs.Tree.{Tree}
 use Rattle.aql_value.specs.Parts.{is_in}
-use Rattle.aql_func.specs.Lists.{in_all, in_none}
+use Rattle.aql_func.specs.Lists.{firsts, in_all, in_none}
 use Rattle.aql_func.specs.Sifted.{sift, sieve}
+use Rattle.aql_func.proofs.Firsts.{in_firsts}
 
 all_kept : (ts : List Tree) → filter (λ t. true) ts ≡ ts
 all_kept [] = refl
@@ -20,9 +21,13 @@ both_tests p q (t ∷ ts) = by (p t) (both_tests p q ts)
     by true h = ap (λ l. cond (q t) (t ∷ l) l) h
     by false h = h
 
-alike_tests : (p q : Tree → Bool) → ((t : Tree) → p t ≡ q t) → (ts : List Tree) → filter p ts ≡ filter q ts
+pub alike_tests : {A : Type 0} (p q : A → Bool) → ((t : A) → p t ≡ q t) → (ts : List A) → filter p ts ≡ filter q ts
 alike_tests p q h [] = refl
 alike_tests p q h (t ∷ ts) = ap (λ b. cond b (t ∷ filter p ts) (filter p ts)) (h t) ∙ ap (λ l. cond (q t) (t ∷ l) l) (alike_tests p q h ts)
+
+-- the distinct values of a list sift as the list does
+pub sift_firsts : (present : Bool) (us ts : List Tree) → sift present (firsts us) ts ≡ sift present us ts
+sift_firsts present us ts = alike_tests _ _ (λ t. ap (λ b. cond present b (not b)) (in_firsts us t)) ts
 
 pub sieve_all : (others : List (List Tree)) (ts : List Tree) → sieve true others ts ≡ in_all others ts
 sieve_all [] ts = sym (all_kept ts)

@@ -2,13 +2,14 @@
 ghost use Rattle.std.specs.Prelude.{[], ◌≡◌, IfOk, is_some, option_map, unwrap_or};
 ghost use Rattle.aql_value.specs.Convert as convert;
 ghost use Rattle.aql_value.specs.Parts.{attributes, elements};
-ghost use Rattle.aql_value.specs.View.{tree_of};
+ghost use Rattle.aql_value.specs.View.{tree_of, trees_in};
 ghost use Rattle.aql_func.specs.Aggregates as spec;
 ghost use Rattle.aql_func.specs.Arguments as given_args;
 ghost use Rattle.aql_func.specs.Arguments.{argument, is_object};
 
 use aql_value::{Items, Members, OutOfMemory, Text, Value, copy, to_number, to_text};
 use std::alloc::Global;
+use std::slice;
 
 // The elements of an array; `None` for everything else.
 pub(crate) fn array_at(args: &Items, at: usize) -> Option<&Items>
@@ -28,6 +29,16 @@ pub(crate) fn array(value: &Value) -> Option<&Items>
     match value {
         Value::List(list) => Some(list),
         _ => None,
+    }
+}
+
+// The elements of an array, or any other value by itself.
+pub(crate) fn opened_value(value: &Value) -> &[Value]
+    ensures { trees_in result.now ≡ given_args.opened (tree_of value.now) }
+{
+    match value {
+        Value::List(list) => list.as_slice(),
+        _ => slice::from_ref(value),
     }
 }
 

@@ -12,7 +12,7 @@ ghost use Rattle.aql_func.specs.Lists as spec;
 ghost use Rattle.aql_func.specs.Seen.{given};
 
 use crate::FuncName;
-use crate::arguments::{array, array_at, number_at, value_at};
+use crate::arguments::{array, array_at, number_at, opened_value, value_at};
 use crate::arithmetic::count;
 use crate::lists::{
     all_added, all_added_once, array_of, copied, distinct, firsts, flat, how_many, slice, sorted,
@@ -111,10 +111,9 @@ fn opened(alloc: Global, args: &Items, at: usize) -> Result<Vec<Value>, OutOfMem
         (λ w. trees_in w.items ≡ given_args.opened (given_args.argument args.now at)) }
 {
     let mut out = Vec::new(alloc);
-    match array_at(args, at) {
-        Some(list) => crate::lists::append(alloc, &mut out, list.as_slice())?,
-        None => out.push(value_at(alloc, args, at)?)?,
-    }
+    let null = Value::Null;
+    let value = args.get(at).unwrap_or(&null);
+    crate::lists::append(alloc, &mut out, opened_value(value))?;
     Ok(out)
 }
 

@@ -1,6 +1,7 @@
 // Lists of values: copies, parts, order and distinct values.
-ghost use Rattle.std.specs.Prelude.{◌++◌, ◌≡◌, drop, false, IfOk, OnOk, take, true};
-ghost use Rattle.aql_value.specs.View.{trees_in};
+ghost use Rattle.std.specs.Prelude.{[], ◌++◌, ◌∷◌, ◌≡◌, cond, drop, false, IfOk, not, OnOk, take, true};
+ghost use Rattle.aql_value.specs.Parts.{is_in};
+ghost use Rattle.aql_value.specs.View.{tree_of, trees_in};
 ghost use Rattle.aql_func.specs.Lists as spec;
 ghost use Rattle.aql_func.specs.Places.{up_to_place};
 ghost use Rattle.aql_func.specs.Seen.{given};
@@ -9,6 +10,7 @@ ghost use Rattle.aql_func.specs.Sifted.{sift};
 use aql_value::{Items, OutOfMemory, Value, copy, to_number};
 use indexmap::IndexSet;
 use std::alloc::Global;
+use std::slice;
 
 // These values as an array.
 pub(crate) fn array_of(alloc: Global, values: Vec<Value>) -> Result<Items, OutOfMemory>
@@ -51,13 +53,22 @@ pub(crate) fn sort(values: &mut Vec<Value>) -> Result<(), OutOfMemory>
     Ok(())
 }
 
+// Notes a value, and says whether it is new.
+fn note(alloc: Global, seen: &mut IndexSet<Value>, value: &Value) -> Result<bool, OutOfMemory>
+    ensures new { IfOk result (λ b. b ≡ not (is_in (trees_in seen.old.keys) (tree_of value.now))) }
+    ensures keys { OnOk result (trees_in seen.new.keys
+        ≡ spec.added true (trees_in seen.old.keys) (tree_of value.now)) }
+{
+    Ok(seen.insert(copy(alloc, value)?)?)
+}
+
 // The distinct values, each at its first place.
 pub(crate) fn distinct_set(alloc: Global, values: &[Value]) -> Result<IndexSet<Value>, OutOfMemory>
     ensures { IfOk result (λ w. trees_in w.keys ≡ spec.firsts (trees_in values.now)) }
 {
     let mut seen = IndexSet::new(alloc);
     for value in values {
-        seen.insert(copy(alloc, value)?)?;
+        note(alloc, &mut seen, value)?;
     }
     Ok(seen)
 }
@@ -100,10 +111,22 @@ pub(crate) fn sifted(
         (λ w. trees_in w.items ≡ sift present (trees_in other.now) (trees_in values.now)) }
 {
     let set = distinct_set(alloc, other)?;
+    sifted_by(alloc, values, &set, present)
+}
+
+fn sifted_by(
+    alloc: Global,
+    values: &[Value],
+    set: &IndexSet<Value>,
+    present: bool,
+) -> Result<Vec<Value>, OutOfMemory>
+    ensures { IfOk result
+        (λ w. trees_in w.items ≡ sift present (trees_in set.now.keys) (trees_in values.now)) }
+{
     let mut out = Vec::new(alloc);
     for value in values {
         if set.contains(value) == present {
-            out.push(copy(alloc, value)?)?;
+            append(alloc, &mut out, slice::from_ref(value))?;
         }
     }
     Ok(out)
@@ -241,9 +264,24 @@ pub(crate) fn all_added_once(
     let mut out = copied(alloc, values)?;
     let mut seen = distinct_set(alloc, values)?;
     for value in more {
-        if seen.insert(copy(alloc, value)?)? {
-            out.push(copy(alloc, value)?)?;
-        }
+        add_once(alloc, value, &mut seen, &mut out)?;
     }
     Ok(out)
+}
+
+fn add_once(
+    alloc: Global,
+    value: &Value,
+    seen: &mut IndexSet<Value>,
+    out: &mut Items,
+) -> Result<(), OutOfMemory>
+    ensures seen { OnOk result (trees_in seen.new.keys
+        ≡ spec.added true (trees_in seen.old.keys) (tree_of value.now)) }
+    ensures out { OnOk result (out.new ≡ cond (is_in (trees_in seen.old.keys) (tree_of value.now))
+        out.old (out.old ++ tree_of value.now ∷ [])) }
+{
+    if note(alloc, seen, value)? {
+        out.push(copy(alloc, value)?)?;
+    }
+    Ok(())
 }

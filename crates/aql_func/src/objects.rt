@@ -1,7 +1,7 @@
 // Functions of objects.
 ghost use Rattle.std.specs.List.{after_first, before_first};
 ghost use Rattle.std.specs.Prelude.{[], ◌∷◌, ◌≡◌, codes, flat_map, IfOk, IfSome, is_some, List, map, OnOk, ℕ};
-ghost use Rattle.aql_value.specs.Attributes.{attribute};
+ghost use Rattle.aql_value.specs.Attributes.{attribute, with_attribute};
 ghost use Rattle.aql_value.specs.Parts.{is_in, record_of};
 ghost use Rattle.aql_value.specs.Tree.{object_of, text, Tree};
 ghost use Rattle.aql_value.specs.View.{tree_of, trees_in};
@@ -12,10 +12,10 @@ ghost use Rattle.aql_func.specs.Functions.{call};
 ghost use Rattle.aql_func.specs.Objects as spec;
 
 use crate::FuncName;
-use crate::arguments::{array, object, object_at, text_at};
+use crate::arguments::{object, object_at, opened_value, text_at};
 use crate::lists::{append, behind, distinct_set};
-use crate::texts::spread;
-use aql_value::{Items, Members, OutOfMemory, Text, Value, copy, recall_well_formed};
+use crate::texts::{push_text, spread};
+use aql_value::{Items, Member, Members, OutOfMemory, Text, Value, copy, recall_well_formed};
 use indexmap::IndexSet;
 use std::alloc::Global;
 
@@ -34,7 +34,7 @@ fn names_of(alloc: Global, members: &Members) -> Result<Items, OutOfMemory>
 {
     let mut out = Items::new(alloc);
     for member in members.as_slice() {
-        out.push(Value::Text(member.name.copy(alloc)?))?;
+        push_text(alloc, &mut out, member.name.as_str())?;
     }
     Ok(out)
 }
@@ -78,9 +78,17 @@ fn set_all(alloc: Global, out: &mut Members, members: &Members) -> Result<(), Ou
     ensures { OnOk result (out.new ≡ spec.with_all out.old members.now) }
 {
     for attribute in members.as_slice() {
-        out.set(attribute.name.copy(alloc)?, copy(alloc, &attribute.value)?)?;
+        set_copy(alloc, out, attribute)?;
     }
     Ok(())
+}
+
+fn set_copy(alloc: Global, out: &mut Members, member: &Member) -> Result<(), OutOfMemory>
+    ensures { OnOk result (out.new
+        ≡ with_attribute member.now.name (tree_of member.now.value) out.old) }
+{
+    let name = member.name.copy(alloc)?;
+    out.set(name, copy(alloc, &member.value)?)
 }
 
 pub(crate) fn merge(alloc: Global, args: &Items) -> Result<Value, OutOfMemory>
@@ -132,10 +140,7 @@ fn named(alloc: Global, args: &[Value]) -> Result<Vec<Value>, OutOfMemory>
 {
     let mut out = Vec::new(alloc);
     for arg in args {
-        match array(arg) {
-            Some(list) => append(alloc, &mut out, list.as_slice())?,
-            None => out.push(copy(alloc, arg)?)?,
-        }
+        append(alloc, &mut out, opened_value(arg))?;
     }
     Ok(out)
 }
@@ -169,10 +174,22 @@ fn chosen_members(
     ensures { IfOk result (λ w. w ≡ chosen_of present (trees_in names.now) members.now) }
 {
     let sought = distinct_set(alloc, names)?;
+    members_among(alloc, members, &sought, present)
+}
+
+fn members_among(
+    alloc: Global,
+    members: &Members,
+    sought: &IndexSet<Value>,
+    present: bool,
+) -> Result<Members, OutOfMemory>
+    requires { FieldsWellFormed (object_of members.now) }
+    ensures { IfOk result (λ w. w ≡ chosen_of present (trees_in sought.now.keys) members.now) }
+{
     let mut out = Members::new(alloc);
     for member in members.as_slice() {
-        if is_among(alloc, &sought, &member.name)? == present {
-            out.set(member.name.copy(alloc)?, copy(alloc, &member.value)?)?;
+        if is_among(alloc, sought, &member.name)? == present {
+            set_copy(alloc, &mut out, member)?;
         }
     }
     Ok(out)
@@ -246,13 +263,14 @@ fn members_of_id(alloc: Global, collection: &str, key: &str) -> Result<Members, 
         ∷ (codes "key", text key.now) ∷ []) }
 {
     let mut out = Members::new(alloc);
-    out.set(
-        Text::new(alloc, "collection")?,
-        Value::Text(Text::new(alloc, collection)?),
-    )?;
-    out.set(
-        Text::new(alloc, "key")?,
-        Value::Text(Text::new(alloc, key)?),
-    )?;
+    set_text(alloc, &mut out, "collection", collection)?;
+    set_text(alloc, &mut out, "key", key)?;
     Ok(out)
+}
+
+fn set_text(alloc: Global, out: &mut Members, name: &str, part: &str) -> Result<(), OutOfMemory>
+    ensures { OnOk result (out.new ≡ with_attribute name.now (text part.now) out.old) }
+{
+    let name = Text::new(alloc, name)?;
+    out.set(name, Value::Text(Text::new(alloc, part)?))
 }

@@ -11,7 +11,7 @@ use aql_value::{OutOfMemory, Value, cmp, copy, to_number, truthy};
 use std::alloc::Global;
 
 /// An operator between two operands (AQL fundamentals, Operators).
-#[derive(Clone, Copy, Debug, PartialEq, Eq)]
+#[derive(Clone, Copy, Debug)]
 pub enum BinOp {
     And,
     Or,
@@ -33,7 +33,7 @@ pub enum BinOp {
 }
 
 /// An operator before its operand (AQL fundamentals, Operators).
-#[derive(Clone, Copy, Debug, PartialEq, Eq)]
+#[derive(Clone, Copy, Debug)]
 pub enum UnaryOp {
     Plus,
     Minus,
@@ -57,7 +57,7 @@ pub fn binary(alloc: Global, op: BinOp, a: &Value, b: &Value) -> Result<Value, O
         BinOp::Ge => Ok(Value::Bool(!cmp(a, b).is_lt())),
         BinOp::IsIn => Ok(Value::Bool(is_among(a, b))),
         BinOp::NotIn => Ok(Value::Bool(!is_among(a, b))),
-        BinOp::Like => Ok(Value::Bool(is_like(alloc, a, b)?)),
+        BinOp::Like => is_like(alloc, a, b).map(Value::Bool),
         BinOp::NotLike => Ok(Value::Bool(!is_like(alloc, a, b)?)),
         BinOp::Add => Ok(sum(to_number(a), to_number(b))),
         BinOp::Sub => Ok(difference(to_number(a), to_number(b))),

@@ -6,7 +6,7 @@ ghost use Rattle.aql_func.specs.Signatures.{seen};
 use crate::names::FuncName;
 
 /// How many arguments a function takes: at least `least`, and at most `most` where that is given.
-#[derive(Clone, Copy, Debug, PartialEq, Eq)]
+#[derive(Clone, Copy)]
 pub struct Arity {
     pub least: u32,
     pub most: Option<u32>,

@@ -1,5 +1,5 @@
 // Functions of texts. Lengths and places count characters.
-ghost use Rattle.std.specs.Prelude.{[], ◌<◌, ◌∷◌, ◌≡◌, chars, encode_utf8_all, IfOk, length, map, OnOk, string_bytes};
+ghost use Rattle.std.specs.Prelude.{[], ◌++◌, ◌<◌, ◌∷◌, ◌≡◌, chars, encode_utf8_all, IfOk, length, map, OnOk, string_bytes};
 ghost use Rattle.aql_value.specs.Tree.{text};
 ghost use Rattle.aql_value.specs.View.{tree_of, trees_in};
 ghost use Rattle.aql_func.specs.Arguments as given_args;
@@ -123,11 +123,17 @@ fn parts_between(alloc: Global, s: &str, separator: &str) -> Result<Items, OutOf
     let mut out = Items::new(alloc);
     let mut rest = s;
     while let Some((before, after)) = rest.split_once(separator) {
-        out.push(Value::Text(Text::new(alloc, before)?))?;
+        push_text(alloc, &mut out, before)?;
         rest = after;
     }
-    out.push(Value::Text(Text::new(alloc, rest)?))?;
+    push_text(alloc, &mut out, rest)?;
     Ok(out)
+}
+
+pub(crate) fn push_text(alloc: Global, out: &mut Items, part: &str) -> Result<(), OutOfMemory>
+    ensures { OnOk result (out.new ≡ out.old ++ text part.now ∷ []) }
+{
+    out.push(Value::Text(Text::new(alloc, part)?))
 }
 
 pub(crate) fn concat(alloc: Global, args: &Items) -> Result<Value, OutOfMemory>

@@ -1,11 +1,10 @@
 use Rattle.std.proofs.Common.{◌≡◌, ◌+◌, ◌∷◌, ◌++◌, [], drop, true, cond, ap, sym, ◌∙◌}
 use Rattle.aql_value.specs.View.{tree_of, trees_in}
 use Rattle.aql_value.specs.Parts.{is_in}
-use Rattle.aql_func.specs.Lists.{added, all_added}
+use Rattle.aql_func.specs.Lists.{all_added}
 use Rattle.aql_func.proofs.Steps.{left}
-use Rattle.aql_func.proofs.Firsts.{in_firsts, once_more, seen_more}
+use Rattle.aql_func.proofs.Firsts.{in_firsts, seen_more}
 use Rattle.aql_func.proofs.lists.all_added_once.Goals as goal
-use Rattle.aql_func.proofs.lists.all_added_once.Goals.{then-branch+in_ok-copy-2+in_ok-push, else-branch}
 
 pub loop-value-init : goal.loop-value-init
 loop-value-init c = record {
@@ -16,17 +15,12 @@ loop-value-init c = record {
 pub loop-value-preserved : goal.loop-value-preserved
 loop-value-preserved c =
     let x = tree_of c.value-item.result in
-    let ks = c.loop-value.seen.keys in
+    let ks = trees_in c.loop-value.seen.keys in
     let out = c.loop-value.out in
     let rest = left c.args.more.now c.loop-value.value-index c.value-item.result c.loop-value-test.true c.value-item.is in
     let m = sym (ap (all_added true out) rest) ∙ c.loop-value.invariant.added in
-    let a = once_more ks out c.in_ok-copy.field-0 x c.in_ok-insert.field-0 c.in_ok-copy.ensures c.loop-value.invariant.seen c.in_ok-insert.ensures.added in
-    let s = seen_more ks out c.in_ok-copy.field-0 x c.in_ok-copy.ensures c.loop-value.invariant.seen in
-    let o : c.if-branch.out ≡ added true out x = (elim c.if-branch.branch [
-      | then-branch+in_ok-copy-2+in_ok-push w ↦ w.out-is ∙ w.in_ok-push.ensures.ok ∙ ap (λ t. out ++ t ∷ []) w.in_ok-copy-2.ensures ∙ sym (a ∙ ap (λ b. cond b (out ++ x ∷ []) out) w.if-branch.true)
-      | else-branch w ↦ w.out-is ∙ sym (a ∙ ap (λ b. cond b (out ++ x ∷ []) out) w.if-branch.false)
-    ]) in
+    let o = c.in_ok-add_once.ensures.out ∙ ap (λ b. cond b out (out ++ x ∷ [])) (c.loop-value.invariant.seen x) in
     record {
       added = ap (λ l. all_added true l (trees_in (drop (c.loop-value.value-index + 1) c.args.more.now))) o ∙ m;
-      seen = λ t. ap (λ ks. is_in (trees_in ks) t) c.in_ok-insert.ensures.keys ∙ s t ∙ ap (λ l. is_in l t) (sym o);
+      seen = λ t. ap (λ l. is_in l t) c.in_ok-add_once.ensures.seen ∙ seen_more ks out x c.loop-value.invariant.seen t ∙ ap (λ l. is_in l t) (sym o);
     }

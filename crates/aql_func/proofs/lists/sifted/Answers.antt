@@ -1,27 +1,12 @@
-use Rattle.std.proofs.Common.{◌≡◌, ◌+◌, ◌∷◌, ◌++◌, [], take, cond, not, Bool, true, false, ap, subst, ◌∙◌}
-use Rattle.aql_value.specs.Tree.{Tree}
-use Rattle.aql_value.specs.View.{tree_of, trees_in}
-use Rattle.aql_value.specs.Parts.{is_in}
-use Rattle.std.proofs.lemmas.List.{map-append}
+use Rattle.std.proofs.Common.{◌≡◌, IfOk, ap, subst, ◌∙◌}
+use Rattle.aql_value.specs.View.{trees_in}
 use Rattle.aql_func.specs.Sifted.{sift}
-use Rattle.aql_func.proofs.Steps.{done}
-use Rattle.aql_func.proofs.Firsts.{sift_more, in_keys, sift_yes, sift_no}
+use Rattle.aql_func.proofs.Sieves.{sift_firsts}
 use Rattle.aql_func.proofs.lists.sifted.Goals as goal
-use Rattle.aql_func.proofs.lists.sifted.Goals.{then-contains-present+in_ok-copy+in_ok-push, else-contains-present}
 
-pub loop-value-preserved : goal.loop-value-preserved
-loop-value-preserved c =
-    let vs = c.args.values.now in
-    let i = c.loop-value.value-index in
-    let x = c.value-item.result in
-    let out = trees_in c.loop-value.out.items in
-    let passes = λ (t : Tree). cond c.args.present (is_in (trees_in c.args.other.now) t) (not (is_in (trees_in c.args.other.now) t)) in
-    let m = sift_more passes vs i x out (done vs i x c.loop-value-test.true c.value-item.is) c.loop-value.invariant in
-    let k = c.contains.ensures ∙ in_keys c.in_ok-set.set.keys c.args.other.now x c.in_ok-set.ensures in
-    let p = λ (b : Bool). λ (e : passes (tree_of x) ≡ b).
-    subst (λ y. cond y (out ++ tree_of x ∷ []) out ≡ sift c.args.present (trees_in c.args.other.now) (trees_in (take (i + 1) vs))) e m in
-    elim c.if-contains-present.branch [
-      | then-contains-present+in_ok-copy+in_ok-push w ↦
-          ap (λ o. trees_in o.items) w.out-is ∙ ap trees_in w.in_ok-push.ensures.items ∙ map-append tree_of c.loop-value.out.items _ ∙ ap (λ t. out ++ t ∷ []) w.in_ok-copy.ensures ∙ p true (sift_yes _ _ w.if-contains-present.true _ k)
-      | else-contains-present w ↦ ap (λ o. trees_in o.items) w.out-is ∙ p false (sift_no _ _ w.if-contains-present.false _ k)
-    ]
+pub returns : goal.returns
+returns c =
+    let vs = trees_in c.args.values.now in
+    subst (λ ts. IfOk c.sifted_by.result (λ w. trees_in w.items ≡ ts))
+    (ap (λ ks. sift c.args.present ks vs) c.in_ok-set.ensures ∙ sift_firsts c.args.present (trees_in c.args.other.now) vs)
+    c.sifted_by.ensures

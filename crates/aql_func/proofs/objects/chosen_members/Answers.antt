@@ -1,32 +1,12 @@
-use Rattle.std.proofs.Common.{◌≡◌, ◌+◌, ℕ, List, take, cond, Bool, true, false, ap, subst, sym, ◌∙◌}
-use Rattle.aql_value.specs.Tree.{Tree, text, object_of}
-use Rattle.aql_value.specs.View.{tree_of, trees_in}
-use Rattle.aql_value.specs.Parts.{is_in}
-use Rattle.aql_value.specs.Fields.{fields_in}
-use Rattle.aql_value.specs.WellFormed.{FieldsWellFormed}
-use Rattle.aql_value.specs.Attributes.{with_attribute}
-use Rattle.aql_func.specs.Chosen.{is_chosen, chosen_of}
-use Rattle.aql_func.proofs.Members.{chosen_more}
-use Rattle.aql_func.proofs.Firsts.{sift_yes, sift_no, in_firsts}
+use Rattle.std.proofs.Common.{◌≡◌, IfOk, ap, subst, ◌∙◌}
+use Rattle.aql_value.specs.View.{trees_in}
+use Rattle.aql_func.specs.Chosen.{chosen_of}
+use Rattle.aql_func.proofs.Members.{chosen_firsts}
 use Rattle.aql_func.proofs.objects.chosen_members.Goals as goal
-use Rattle.aql_func.proofs.objects.chosen_members.Goals.{then-branch-present+in_ok-copy+in_ok-copy-2+in_ok-set, else-branch-present}
 
-pub loop-member-preserved : goal.loop-member-preserved
-loop-member-preserved c =
-    let ms = c.as_slice-member-items.result.now in
-    let i = c.loop-member.member-index in
-    let m = c.member-item.result in
-    let names = trees_in c.args.names.now in
-    let out = c.loop-member.out in
-    let p = λ (f : List ℕ × Tree). is_chosen c.args.present names f.0 in
-    let well = subst (λ fs. FieldsWellFormed (object_of fs)) (sym c.as_slice-member-items.ensures) c.requires in
-    let g = chosen_more p ms i m out well c.loop-member-test.true c.member-item.is c.loop-member.invariant in
-    let k = c.in_ok-is_among.ensures ∙ ap (λ ks. is_in ks (text m.name)) c.in_ok-sought.ensures ∙ in_firsts names (text m.name) in
-    let q = λ (b : Bool). λ (e : is_chosen c.args.present names m.name ≡ b).
-    subst (λ y. cond y (with_attribute m.name (tree_of m.value) out) out ≡ chosen_of c.args.present names (fields_in (take (i + 1) ms))) e g in
-    elim c.if-branch-present.branch [
-      | then-branch-present+in_ok-copy+in_ok-copy-2+in_ok-set w ↦
-          w.out-is ∙ w.in_ok-set.ensures.ok ∙ ap (λ k. with_attribute k (tree_of w.in_ok-copy-2.field-0) out) w.in_ok-copy.ensures ∙ ap (λ t. with_attribute m.name t out) w.in_ok-copy-2.ensures
-          ∙ q true (sift_yes _ _ w.if-branch-present.true _ k)
-      | else-branch-present w ↦ w.out-is ∙ q false (sift_no _ _ w.if-branch-present.false _ k)
-    ]
+pub returns : goal.returns
+returns c =
+    let fs = c.args.members.now in
+    subst (λ gs. IfOk c.members_among.result (λ w. w ≡ gs))
+    (ap (λ ks. chosen_of c.args.present ks fs) c.in_ok-sought.ensures ∙ chosen_firsts c.args.present (trees_in c.args.names.now) fs)
+    c.members_among.ensures

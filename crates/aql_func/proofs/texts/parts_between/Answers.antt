@@ -8,11 +8,11 @@ pub loop-before-preserved : goal.loop-before-preserved
 loop-before-preserved c =
     let e = cut_once c.args.separator.now c.loop-before.rest.now c.in-Some.before.now c.in-Some.after.now c.requires c.in-Some.ensures.cases in (
       search rules,
-      ap (λ l. l ++ map (λ t. text t) (parts_of c.args.separator.now c.in-Some.after.now)) (c.in_ok-push.ensures.ok ∙ ap (λ t. c.loop-before.out ++ text t ∷ []) c.in_ok-new.ensures)
+      ap (λ l. l ++ map (λ t. text t) (parts_of c.args.separator.now c.in-Some.after.now)) c.in_ok-push_text.ensures
           ∙ append_assoc c.loop-before.out _ _ ∙ ap (λ l. c.loop-before.out ++ map (λ t. text t) l) (sym e) ∙ c.loop-before.invariant.1,
     )
 
 pub returns : goal.returns
 returns c =
-    c.in_ok-push-2.ensures.ok ∙ ap (λ t. c.loop-before.out ++ text t ∷ []) c.in_ok-new-2.ensures
+    c.in_ok-push_text-2.ensures
     ∙ ap (λ l. c.loop-before.out ++ map (λ t. text t) l) (sym (no_cut c.args.separator.now c.loop-before.rest.now c.requires c.in_default.ensures.cases)) ∙ c.loop-before.invariant.1
