@@ -286,7 +286,10 @@ fn copy_traversal(alloc: Global, walk: &Traversal) -> Result<Traversal, OutOfMem
 {
     let settings = copy_fields(alloc, walk.options.settings.as_slice());
     let collections = copy_texts(alloc, walk.collections.as_slice());
-    let ends = both(copy_ident(alloc, &walk.vertex), copy_expr(alloc, &walk.start));
+    let ends = both(
+        copy_ident(alloc, &walk.vertex),
+        copy_expr(alloc, &walk.start),
+    );
     let vars = both(
         copy_maybe_ident(alloc, &walk.edge),
         copy_maybe_ident(alloc, &walk.path),
