@@ -1,4 +1,4 @@
-use Rattle.std.proofs.Common.{◌≡◌, ◌+◌, ◌∷◌, ◌++◌, [], drop, true, cond, ap, sym, ◌∙◌}
+use Rattle.std.proofs.Common.{◌+◌, ◌∷◌, ◌++◌, [], drop, true, cond, ap, sym, ◌∙◌}
 use Rattle.aql_value.specs.View.{tree_of, trees_in}
 use Rattle.aql_value.specs.Parts.{is_in}
 use Rattle.aql_func.specs.Lists.{all_added}

@@ -1,7 +1,6 @@
-use Rattle.std.proofs.Common.{◌≡◌, ◌+◌, ℕ, List, take, cond, Bool, true, false, ap, subst, sym, ◌∙◌}
-use Rattle.aql_value.specs.Tree.{Tree, text, object_of}
+use Rattle.std.proofs.Common.{◌≡◌, ◌+◌, ℕ, List, take, cond, Bool, true, false, subst, sym, ◌∙◌}
+use Rattle.aql_value.specs.Tree.{Tree, object_of}
 use Rattle.aql_value.specs.View.{tree_of, trees_in}
-use Rattle.aql_value.specs.Parts.{is_in}
 use Rattle.aql_value.specs.Fields.{fields_in}
 use Rattle.aql_value.specs.WellFormed.{FieldsWellFormed}
 use Rattle.aql_value.specs.Attributes.{with_attribute}

@@ -5,7 +5,7 @@ use mir.Val.{to_z, of_z}
 use Rattle.std.proofs.lemmas.Int.{ints}
 use Rattle.aql_value.specs.Tree.{number}
 use Rattle.aql_func.specs.Operators.{numbers, range_length}
-use Rattle.aql_func.proofs.Counted.{next_up}
+use Rattle.aql_func.proofs.Counted.{next_up, last_number}
 use Rattle.aql_func.proofs.ranges.upwards.Goals as goal
 
 pub loop-next-preserved : goal.loop-next-preserved
@@ -21,3 +21,16 @@ loop-next-preserved c =
       numbers = ap (λ o. o ++ numbers (pos 1) more (range_length more high)) c.in_ok-push.ensures.ok ∙ append_assoc c.loop-next.out _ _
           ∙ ap (λ l. c.loop-next.out ++ l) (ap (λ z. number next ∷ numbers (pos 1) z (range_length z high)) r ∙ sym (next_up next high l)) ∙ c.loop-next.invariant.numbers;
     }
+
+pub loop-next-smaller : goal.loop-next-smaller
+loop-next-smaller c = omega (arith, ints)
+
+pub returns : goal.returns
+returns c =
+    let next = to_z w64 c.loop-next.next-bits in
+    let high = to_z w64 (of_z w64 c.args.high) in
+    let e : next ≡ high = omega (arith, ints) in
+    let l : to_z w64 (of_z w64 c.args.low) ≡ c.args.low = omega (arith, ints) in
+    let h : high ≡ c.args.high = omega (arith, ints) in
+    c.in_ok-push-2.ensures.ok ∙ ap (λ l. c.loop-next.out ++ l) (sym (last_number (pos 1) next high e)) ∙ c.loop-next.invariant.numbers
+    ∙ ap (λ z. numbers (pos 1) z (range_length z high)) l ∙ ap (λ z. numbers (pos 1) c.args.low (range_length c.args.low z)) h

@@ -1,4 +1,4 @@
-use Rattle.std.proofs.Common.{rules, ◌∷◌, ◌++◌, [], ap, sym, ◌∙◌, map, append_assoc}
+use Rattle.std.proofs.Common.{rules, ◌++◌, ap, sym, ◌∙◌, map, append_assoc}
 use Rattle.aql_value.specs.Tree.{text}
 use Rattle.aql_func.specs.Texts.{parts_of}
 use Rattle.aql_func.proofs.Search.{cut_once, no_cut}
