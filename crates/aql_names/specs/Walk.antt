@@ -1,5 +1,5 @@
--- What the program does, part by part: one walk that judges and numbers at once. The laws of this crate say that
--- it finds the first fault of Faults, and where there is none gives the query of aql_lift; nothing else cites it.
+-- What the program does, part by part: one walk that judges and numbers at once. The laws of aql_scope say that it
+-- finds the first fault of Faults, and where there is none gives the query of aql_lift; no contract of `scope` cites it.
 use Rattle.std.specs.Prelude.{ℕ, suc, ◌≡◌, List, [], ◌∷◌, ◌++◌, map, length, Bool, true, false, codes, Option, Some, None, Result, Ok, Err, unwrap_or, nat_le}
 use Rattle.aql_func.specs.Names.{looked_up}
 use Rattle.aql_func.specs.Aggregates.{aggregate_named}

@@ -1,25 +1,26 @@
 //! Clauses, and parts of them, in which no expression stands.
 
-ghost use Rattle.std.specs.Prelude.{◌≡◌, [], ◌∷◌, ◌++◌, map, length, suc, Some, IfOk, OnOk, option_to_list, option_map, nat_le, codes};
+ghost use Rattle.std.specs.Prelude.{◌≡◌, [], ◌∷◌, ◌++◌, map, length, suc, Some, Ok, Err, IfOk, OnOk, option_to_list, option_map, nat_le, codes};
 ghost use Rattle.aql_tree.specs.Tree as spec;
-ghost use Rattle.aql_tree.specs.View.{tree, clause_tree, query_tree, into_part, traversal_part, options_part, members, member_part, named, walked};
+ghost use Rattle.aql_tree.specs.View.{tree, clause_tree, query_tree, into_part, traversal_part, options_part, members, member_part, named, walked, step_part, each, aggregate_part};
 ghost use Rattle.aql_tree.specs.declared.syntax.Ident.TheVariants.{Name, Num};
 ghost use Rattle.aql_doc.specs.Declarations.{place_of};
 ghost use Rattle.aql_meaning.specs.Groups.{names_taken};
 ghost use Rattle.aql_meaning.specs.Visible.{onto};
 ghost use Rattle.aql_lift.specs.Names.{number_of, numbered, idents, text_of, given, entered, numbered_walk, walk_names, object_of};
 ghost use Rattle.aql_names.specs.declared.faults.ScopeFault.TheVariants.{BadOption};
+ghost use Rattle.aql_names.specs.Options.{is_breadth, global_fits};
 ghost use Rattle.aql_names.specs.Faults as fault;
 ghost use Rattle.aql_names.specs.Walk as walk;
 ghost use Rattle.aql_names.specs.Walk.{Gives, Judges, Walks, site_of, site_within};
 
 use crate::ScopeFault;
 use crate::checks::{check_collection, check_kept, check_new};
-use crate::names::{At, NameList, Scope, declare_ident};
+use crate::names::{At, NameList, Scope, declare_ident, written};
 use crate::options::Written;
 use aql_tree::{
-    Clause, Clauses, Expr, Field, Fields, Ident, Into, Options, Query, Traversal, UniqueEdges,
-    UniqueVertices,
+    AggregateItem, Clause, Clauses, Expr, Field, Fields, Ident, Into, Options, Query, Step,
+    Traversal, UniqueEdges, UniqueVertices,
 };
 use aql_value::{Names, OutOfMemory, Seq, Text, Value};
 use std::alloc::Global;
@@ -42,6 +43,19 @@ pub fn single_name(list: &Expr) -> Option<&Text>
     match list {
         Expr::Var(Ident::Name(name)) => Some(name),
         _ => None,
+    }
+}
+
+/// A variable by its number.
+pub fn variable(at: &At<'_>, ident: &Ident) -> Result<Expr, ScopeFault>
+    ensures { (st : walk.State) → Walks tree
+        (walk.expr (site_of at.now) (spec.variable ident.now) st) result st }
+{
+    match at.scope.find(ident) {
+        Some(number) => Ok(Expr::Var(Ident::Num(number))),
+        None => Err(ScopeFault::UnknownName {
+            name: written(at.alloc, ident)?,
+        }),
     }
 }
 
@@ -69,6 +83,99 @@ pub fn standing_before(
         expr: Expr::Sub(Box::new(alloc, inner)?),
     })?;
     Ok(Expr::Var(Ident::Num(number)))
+}
+
+/// A number for a variable that FOR or LET declares.
+pub fn declare_new(
+    alloc: Global,
+    scope: &Scope,
+    ident: &Ident,
+    said: &mut Names,
+) -> Result<u32, ScopeFault>
+    ensures fault { Judges (fault.new_name (idents scope.now.own ++ idents scope.now.outer) [] ident.now) result }
+    ensures number { IfOk result (λ n. n ≡ suc (length said.old)) }
+    ensures said { OnOk result (said.new ≡ said.old ++ text_of ident.now ∷ []) }
+{
+    check_new(alloc, scope, &NameList::new(alloc), ident)?;
+    Ok(declare_ident(alloc, said, ident)?)
+}
+
+/// A number for a variable that COLLECT declares, which then stands before its earlier ones.
+pub fn enter_new(
+    at: &At<'_>,
+    ident: &Ident,
+    behind: &mut NameList,
+    said: &mut Names,
+) -> Result<u32, ScopeFault>
+    ensures fault { Judges (fault.new_name (idents at.now.scope.now.own ++ idents at.now.scope.now.outer)
+        (idents behind.old) ident.now) result }
+    ensures number { IfOk result (λ n. n ≡ suc (length said.old)) }
+    ensures behind { OnOk result (behind.new ≡ (ident.now, suc (length said.old)) ∷ behind.old) }
+    ensures said { OnOk result (said.new ≡ said.old ++ text_of ident.now ∷ []) }
+{
+    check_new(at.alloc, at.scope, behind, ident)?;
+    let number = declare_ident(at.alloc, said, ident)?;
+    behind.enter(at.alloc, ident, number)?;
+    Ok(number)
+}
+
+/// FOR over a scoped expression, with its variable entered.
+pub fn for_each(
+    alloc: Global,
+    ident: &Ident,
+    number: u32,
+    list: Box<Expr>,
+    scope: &mut Scope,
+) -> Result<Clause, OutOfMemory>
+    ensures clause { IfOk result (λ c. clause_tree c ≡ spec.for_each (Num number) (tree list.value)) }
+    ensures own { OnOk result (scope.new.own ≡ (ident.now, number) ∷ scope.old.own) }
+    ensures outer { scope.new.outer ≡ scope.old.outer }
+{
+    scope.own.enter(alloc, ident, number)?;
+    Ok(Clause::For {
+        var: Ident::Num(number),
+        list: Box::into_inner(list),
+    })
+}
+
+/// LET of a scoped expression, with its variable entered.
+pub fn define(
+    alloc: Global,
+    ident: &Ident,
+    number: u32,
+    value: Box<Expr>,
+    scope: &mut Scope,
+) -> Result<Clause, OutOfMemory>
+    ensures clause { IfOk result (λ c. clause_tree c ≡ spec.define (Num number) (tree value.value)) }
+    ensures own { OnOk result (scope.new.own ≡ (ident.now, number) ∷ scope.old.own) }
+    ensures outer { scope.new.outer ≡ scope.old.outer }
+{
+    scope.own.enter(alloc, ident, number)?;
+    Ok(Clause::Let {
+        var: Ident::Num(number),
+        expr: Box::into_inner(value),
+    })
+}
+
+/// LET of a scoped subquery, with its variable entered.
+pub fn define_query(
+    alloc: Global,
+    ident: &Ident,
+    number: u32,
+    inner: Query,
+    scope: &mut Scope,
+) -> Result<Clause, OutOfMemory>
+    ensures clause { IfOk result (λ c. clause_tree c
+        ≡ spec.define (Num number) (spec.subquery (query_tree inner))) }
+    ensures own { OnOk result (scope.new.own ≡ (ident.now, number) ∷ scope.old.own) }
+    ensures outer { scope.new.outer ≡ scope.old.outer }
+{
+    let inner = Box::new(alloc, inner)?;
+    scope.own.enter(alloc, ident, number)?;
+    Ok(Clause::Let {
+        var: Ident::Num(number),
+        expr: Expr::Sub(inner),
+    })
 }
 
 /// FOR over a single name: the variable of the number that it has, or else a collection.
@@ -105,8 +212,7 @@ pub fn for_name(
         (walk.for_named (site_within at.now scope.old) var.now name.now said.old) result said.new }
     ensures outer { scope.new.outer ≡ scope.old.outer }
 {
-    check_new(at.alloc, scope, &NameList::new(at.alloc), var)?;
-    let number = declare_ident(at.alloc, said, var)?;
+    let number = declare_new(at.alloc, scope, var, said)?;
     let found = number_of_name(at.alloc, scope, name)?;
     scope.own.enter(at.alloc, var, number)?;
     source(at, number, name, found)
@@ -125,9 +231,8 @@ pub fn documents_clause(
         result said.new }
     ensures outer { scope.new.outer ≡ scope.old.outer }
 {
-    check_new(at.alloc, scope, &NameList::new(at.alloc), var)?;
+    let number = declare_new(at.alloc, scope, var, said)?;
     check_collection(at.alloc, at.catalog, collection)?;
-    let number = declare_ident(at.alloc, said, var)?;
     scope.own.enter(at.alloc, var, number)?;
     Ok(Clause::ForDocs {
         var: Ident::Num(number),
@@ -135,20 +240,21 @@ pub fn documents_clause(
     })
 }
 
-/// The names of a traversal, numbered, and the query's own names behind it.
+/// The names of a traversal, numbered, the query's own names behind it, and its edge collections.
 #[derive(Drop)]
-pub struct WalkVars {
+pub struct WalkHead {
     pub vertex: Ident,
     pub edge: Option<Ident>,
     pub path: Option<Ident>,
     pub behind: NameList,
+    pub collections: Names,
 }
 
 /// The start of a traversal, its PRUNE, and what its settings write.
 #[derive(Drop)]
 pub struct WalkParts {
-    pub start: Expr,
-    pub prune: Option<Expr>,
+    pub start: Box<Expr>,
+    pub prune: Option<Box<Expr>>,
     pub written: Written,
 }
 
@@ -171,13 +277,9 @@ fn check_maybe(
     Ok(())
 }
 
-/// The names that a traversal declares.
+// The names that a traversal declares.
 #[tactic(auto, using(crate::proofs::Words::new_append))]
-pub fn check_walk_vars(
-    alloc: Global,
-    scope: &Scope,
-    traversal: &Traversal,
-) -> Result<(), ScopeFault>
+fn check_walk_vars(alloc: Global, scope: &Scope, traversal: &Traversal) -> Result<(), ScopeFault>
     ensures { Judges (fault.new_names (idents scope.now.own ++ idents scope.now.outer) []
         (traversal.now.vertex ∷ (option_to_list traversal.now.edge
         ++ option_to_list traversal.now.path))) result }
@@ -211,36 +313,39 @@ fn declare_maybe(
     }
 }
 
-/// Numbers for the names of a traversal, which are then visible.
-pub fn declare_walk(
+// Numbers for the names of a traversal, which are then visible.
+fn declare_walk(
     alloc: Global,
     traversal: &Traversal,
     own: &NameList,
     said: &mut Names,
-) -> Result<WalkVars, OutOfMemory>
+) -> Result<WalkHead, OutOfMemory>
     ensures vars { IfOk result (λ v.
         let w = numbered_walk (suc (length said.old)) (traversal_part traversal.now).0 in
         (v.vertex ≡ w.vertex) × (v.edge ≡ w.edge) × (v.path ≡ w.path)) }
     ensures behind { IfOk result (λ v. v.behind
         ≡ walk_names (suc (length said.old)) (traversal_part traversal.now).0 own.now) }
+    ensures collections { IfOk result (λ v. v.collections ≡ traversal.now.collections) }
     ensures said { OnOk result (said.new
         ≡ said.old ++ map text_of (fault.walk_vars (traversal_part traversal.now).0)) }
 {
+    let collections = copy_texts(alloc, traversal.collections.as_slice())?;
     let mut behind = own.copy(alloc)?;
     let number = declare_ident(alloc, said, &traversal.vertex)?;
     behind.enter(alloc, &traversal.vertex, number)?;
     let edge = declare_maybe(alloc, &traversal.edge, &mut behind, said)?;
     let path = declare_maybe(alloc, &traversal.path, &mut behind, said)?;
-    Ok(WalkVars {
+    Ok(WalkHead {
         vertex: Ident::Num(number),
         edge,
         path,
         behind,
+        collections,
     })
 }
 
-/// The depth of a traversal.
-pub fn check_depth(alloc: Global, traversal: &Traversal) -> Result<(), ScopeFault>
+// The depth of a traversal.
+fn check_depth(alloc: Global, traversal: &Traversal) -> Result<(), ScopeFault>
     ensures { Judges (fault.unless (nat_le traversal.now.min traversal.now.max)
         (BadOption (codes "depth"))) result }
 {
@@ -250,6 +355,31 @@ pub fn check_depth(alloc: Global, traversal: &Traversal) -> Result<(), ScopeFaul
         });
     }
     Ok(())
+}
+
+/// What is judged of a traversal before its parts, and its numbered names.
+pub fn open_walk(
+    alloc: Global,
+    traversal: &Traversal,
+    scope: &Scope,
+    said: &mut Names,
+) -> Result<WalkHead, ScopeFault>
+    ensures fault { Judges (fault.first
+        (fault.new_names (idents scope.now.own ++ idents scope.now.outer) []
+        (traversal.now.vertex ∷ (option_to_list traversal.now.edge ++ option_to_list traversal.now.path)))
+        (fault.unless (nat_le traversal.now.min traversal.now.max) (BadOption (codes "depth")))) result }
+    ensures vars { IfOk result (λ v.
+        let w = numbered_walk (suc (length said.old)) (traversal_part traversal.now).0 in
+        (v.vertex ≡ w.vertex) × (v.edge ≡ w.edge) × (v.path ≡ w.path)) }
+    ensures behind { IfOk result (λ v. v.behind
+        ≡ walk_names (suc (length said.old)) (traversal_part traversal.now).0 scope.now.own) }
+    ensures collections { IfOk result (λ v. v.collections ≡ traversal.now.collections) }
+    ensures said { OnOk result (said.new
+        ≡ said.old ++ map text_of (fault.walk_vars (traversal_part traversal.now).0)) }
+{
+    check_walk_vars(alloc, scope, traversal)?;
+    check_depth(alloc, traversal)?;
+    Ok(declare_walk(alloc, traversal, &scope.own, said)?)
 }
 
 /// The settings of a traversal with one more.
@@ -277,6 +407,29 @@ pub fn check_setting(
         });
     }
     Ok(with)
+}
+
+/// Settings that are all read, where "global" goes with breadth first alone.
+pub fn check_settings(alloc: Global, found: Written) -> Result<Written, ScopeFault>
+    ensures { (st : walk.State) → Walks (λ w. w) (walk.judged
+        (fault.unless (global_fits found.vertices (is_breadth found.order found.bfs))
+        (BadOption (codes "uniqueVertices"))) (Ok (found, st))) result st }
+{
+    if !found.fits() {
+        return Err(ScopeFault::BadOption {
+            name: Text::new(alloc, "uniqueVertices")?,
+        });
+    }
+    Ok(found)
+}
+
+/// A setting whose name is an expression.
+pub fn computed_setting(alloc: Global) -> Result<Written, ScopeFault>
+    ensures { (st : walk.State) → Walks (λ w. w) (Err (BadOption (codes "computed"))) result st }
+{
+    Err(ScopeFault::BadOption {
+        name: Text::new(alloc, "computed")?,
+    })
 }
 
 // Options without settings.
@@ -352,41 +505,91 @@ fn walk_like(
     }
 }
 
-/// The clause of a traversal, from its numbered names, its edge collections and its parts.
+// An expression that may be there, out of its box.
+fn unboxed(found: Option<Box<Expr>>) -> Option<Expr>
+    ensures { option_map tree result ≡ option_map (λ b. tree b.value) found }
+{
+    match found {
+        Some(found) => Some(Box::into_inner(found)),
+        None => None,
+    }
+}
+
+/// The clause of a traversal, from its numbered names and its parts; its names are then visible.
 pub fn walk_of(
     alloc: Global,
     traversal: &Traversal,
-    vertex: Ident,
-    edge: Option<Ident>,
-    path: Option<Ident>,
-    collections: Names,
+    head: WalkHead,
     parts: WalkParts,
+    scope: &mut Scope,
 ) -> Clause
-    ensures { clause_tree result ≡ walked (
+    ensures clause { clause_tree result ≡ walked (
       record (traversal_part traversal.now).0 {
-        vertex = vertex;
-        edge = edge;
-        path = path;
+        vertex = head.vertex;
+        edge = head.edge;
+        path = head.path;
         options = walk.written_options (members (traversal_part traversal.now).4)
             (traversal_part traversal.now).0.options parts.written;
       },
-      tree parts.start,
-      collections,
-      option_map tree parts.prune,
+      tree parts.start.value,
+      head.collections,
+      option_map (λ b. tree b.value) parts.prune,
       [],
     ) }
+    ensures own { scope.new.own ≡ head.behind }
+    ensures outer { scope.new.outer ≡ scope.old.outer }
 {
+    scope.replace_own(head.behind);
     let options = options_behind(alloc, &traversal.options, parts.written);
     Clause::Walk(walk_like(
         traversal,
-        vertex,
-        edge,
-        path,
-        parts.start,
-        collections,
-        parts.prune,
+        head.vertex,
+        head.edge,
+        head.path,
+        Box::into_inner(parts.start),
+        head.collections,
+        unboxed(parts.prune),
         options,
     ))
+}
+
+/// An inline operator with this FILTER and RETURN.
+pub fn each_step(filter: Option<Box<Expr>>, project: Option<Box<Expr>>) -> Step
+    ensures { step_part result
+        ≡ each (option_map (λ b. tree b.value) filter) (option_map (λ b. tree b.value) project) }
+{
+    Step::Each {
+        filter: unboxed(filter),
+        project: unboxed(project),
+    }
+}
+
+/// A member by its name.
+pub fn named_field(alloc: Global, name: &Text, value: Expr) -> Result<Field, OutOfMemory>
+    ensures { IfOk result (λ f. member_part f ≡ named name.now (tree value)) }
+{
+    Ok(Field::Named {
+        name: name.copy(alloc)?,
+        value,
+    })
+}
+
+/// An aggregate with its numbered variable.
+pub fn aggregate_item(
+    alloc: Global,
+    number: u32,
+    name: &Text,
+    arg: Option<Box<Expr>>,
+) -> Result<AggregateItem, OutOfMemory>
+    ensures { IfOk result (λ g. aggregate_part g
+        ≡ (Num number, name.now, option_map (λ b. tree b.value) arg)) }
+{
+    let name = name.copy(alloc)?;
+    Ok(AggregateItem {
+        var: Ident::Num(number),
+        name,
+        arg: unboxed(arg),
+    })
 }
 
 // A member with a variable by its name.
@@ -447,10 +650,8 @@ pub fn into_names(
     ensures { Walks (λ i. (Some (into_part i), behind.new))
         (walk.into_named (site_of at.now) behind.old var.now keep.now said.old) result said.new }
 {
-    check_new(at.alloc, at.scope, behind, var)?;
+    let number = enter_new(at, var, behind, said)?;
     check_kept(at.alloc, &at.scope.own, keep)?;
-    let number = declare_ident(at.alloc, said, var)?;
-    behind.enter(at.alloc, var, number)?;
     let what = variables_object(at, keep)?;
     Ok(Into::new(Ident::Num(number), Some(what), Seq::new(at.alloc)))
 }

@@ -12,8 +12,10 @@ pub use checks::{
     check_aggregate, check_args, check_collections, check_edges, check_kept, check_new,
 };
 pub use clauses::{
-    WalkParts, WalkVars, check_depth, check_setting, check_walk_vars, copy_texts, declare_walk,
-    documents_clause, for_name, into_names, single_name, standing_before, walk_of,
+    WalkHead, WalkParts, aggregate_item, check_setting, check_settings, computed_setting,
+    copy_texts, declare_new, define, define_query, documents_clause, each_step, enter_new,
+    for_each, for_name, into_names, named_field, open_walk, single_name, standing_before, variable,
+    walk_of,
 };
 pub use faults::ScopeFault;
 pub use names::{At, NameList, Scope, declare, declare_ident, written};

@@ -207,6 +207,14 @@ impl Scope {
         })
     }
 
+    /// Puts these names in place of the query's own, as COLLECT does.
+    pub fn replace_own(&mut self, own: NameList)
+        ensures own { self.new.own ≡ own }
+        ensures outer { self.new.outer ≡ self.old.outer }
+    {
+        self.own = own;
+    }
+
     #[tactic(auto, using(crate::proofs::Words::number_before, crate::proofs::Words::number_behind))]
     pub fn find(&self, ident: &Ident) -> Option<u32>
         ensures { result ≡ number_of (self.now.own ++ self.now.outer) ident.now }

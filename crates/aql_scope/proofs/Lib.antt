@@ -11,4 +11,3 @@ pub mod ClauseForms
 pub mod Queries
 pub mod Walked
 pub mod WholeQuery
-pub mod Turns

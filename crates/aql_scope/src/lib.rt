@@ -3,7 +3,6 @@
 #![tactic(auto)]
 
 mod scoping;
-mod walk;
 
 pub use aql_names::ScopeFault;
 pub use scoping::{Scoped, scope};

@@ -8,9 +8,9 @@ ghost use Rattle.aql_lift.specs.Lifting.{scoped};
 ghost use Rattle.aql_names.specs.Faults.{first_fault};
 ghost use Rattle.aql_names.specs.declared.faults.ScopeFault.TheVariants.{Memory};
 
-use crate::walk::query_within;
 use aql_doc::Catalog;
 use aql_names::{At, NameList, Scope, ScopeFault};
+use aql_resolve::query_within;
 use aql_tree::Query;
 use aql_value::Names;
 use std::alloc::Global;

@@ -1,17 +1,15 @@
 use Rattle.std.proofs.Common.{◌≡◌, ◌∙◌, ap, sym, subst, map, rules, option_map, Option, Some, None, Ok, Err, [], ◌∷◌, ◌+◌, drop}
 use Rattle.std.proofs.lemmas.List.{map-append}
-use Rattle.std.specs.Prelude.{codes, nat_le}
 use Rattle.aql_tree.specs.declared.syntax.Into.{Into}
 use Rattle.aql_tree.specs.Tree.{ClauseTree, subquery, for_paths, no_members}
 use Rattle.aql_tree.specs.View.{tree, steps, each, step_part, maybe, members, query_tree, clause_tree, IntoPart, into_part, into_tree, traversal_part, walked}
 use Rattle.aql_lift.specs.Names.{Names, numbered_walk}
-use Rattle.aql_names.specs.declared.faults.ScopeFault.TheVariants.{BadOption}
-use Rattle.aql_names.specs.Faults.{new_names, seen, unless, walk_vars, edge_collections}
+use Rattle.aql_names.specs.Faults.{edge_collections}
 use Rattle.aql_names.specs.Options.{unwritten}
 use Rattle.aql_names.specs.Walk as walk
-use Rattle.aql_names.specs.Walk.{Walks, place, site_of, site_within, inline_site, with_own, state, next}
-use Rattle.aql_scope.proofs.Turns.{let_of_query, let_of_value, of_query, no_query, into_given, walk_has_fault, walk_has_parts, shape_is, walk_parts_of, settings_have_fault, into_parts_of, steps_from, of_each, each_has_fault, fault_through, given_on}
-use Rattle.aql_scope.proofs.walk.+walk.Goals as goal
+use Rattle.aql_names.specs.Walk.{Walks, Judges, site_of, site_within, inline_site, with_own, state, next}
+use Rattle.aql_resolve.proofs.Turns.{let_of_query, let_of_value, of_query, no_query, into_given, walk_has_fault, walk_has_parts, shape_is, walk_parts_of, settings_have_fault, into_parts_of, steps_from, of_each, each_has_fault, fault_through, given_on, boxes, head_fault, head_new, head_depth, head_has_fault}
+use Rattle.aql_resolve.proofs.walk.+walk.Goals as goal
 
 pub access_steps-returns-in_err-step : goal.access_steps-returns-in_err-step
 access_steps-returns-in_err-step t c =
@@ -41,8 +39,8 @@ access_steps-loop-item-preserved t c =
     ∙ ap (λ fs. walk.steps s fs (steps (map step_part (drop (c.loop-item.item-index + 1) c.args.all.now))) last)
     (sym (ap (map step_part) c.in_ok-push.ensures.ok ∙ map-append step_part found (q ∷ [])))
 
-pub step-returns-in_err-maybe-in-Each-2 : goal.step-returns-in_err-maybe-in-Each-2
-step-returns-in_err-maybe-in-Each-2 t c =
+pub step-returns-in_err-project-in-Each : goal.step-returns-in_err-project-in-Each
+step-returns-in_err-project-in-Each t c =
     let s = site_of c.args.at.now in
     let here = site_of c.inline-inner.result in
     let before = state c.args.said.now c.args.lets.now in
@@ -52,12 +50,12 @@ step-returns-in_err-maybe-in-Each-2 t c =
     let gives = option_map tree c.in-Each.project in
     let part : step_part c.args.item.now ≡ each filter gives =
     ap step_part c.in-Each.is ∙ of_each c.in-Each.filter c.in-Each.project in
-    let is : c.maybe-in-Each.result ≡ Err c.in_err-maybe-in-Each-2.field-0.0 = search rules in
-    let is' : c.from_residual-in_err-maybe-in-Each-2.result ≡ Err c.in_err-maybe-in-Each-2.field-0.0 = search rules in
-    subst (λ p. Walks step_part (walk.step s p before) c.from_residual-in_err-maybe-in-Each-2.result last) (sym part)
-    (each_has_fault (option_map tree) step_part s here filter gives (option_map tree c.in_ok-maybe-in-Each.field-0)
-    before second last c.maybe-in-Each.result c.from_residual-in_err-maybe-in-Each-2.result
-    c.in_err-maybe-in-Each-2.field-0.0 c.inline-inner.ensures c.in_ok-maybe-in-Each.ensures is is'
+    let is : c.maybe-in-Each.result ≡ Err c.in_err-project-in-Each.field-0.0 = search rules in
+    let is' : c.from_residual-in_err-project-in-Each.result ≡ Err c.in_err-project-in-Each.field-0.0 = search rules in
+    subst (λ p. Walks step_part (walk.step s p before) c.from_residual-in_err-project-in-Each.result last) (sym part)
+    (each_has_fault boxes step_part s here filter gives (boxes c.in_ok-filter-in-Each.filter)
+    before second last c.maybe-in-Each.result c.from_residual-in_err-project-in-Each.result
+    c.in_err-project-in-Each.field-0.0 c.inline-inner.ensures c.in_ok-filter-in-Each.ensures is is'
     c.maybe-in-Each.ensures)
 
 pub into_some-returns-in-Some : goal.into_some-returns-in-Some
@@ -91,23 +89,34 @@ let_clause-returns-in_default t c =
     (no_query c.args.value.now c.in_default.not-Sub) c.let_value.ensures.clause in
     record { clause = search (rules, h); outer = c.let_value.ensures.outer }
 
+pub walk_clause-returns-in_err-head-clause-clause : goal.walk_clause-returns-in_err-head-clause-clause
+walk_clause-returns-in_err-head-clause-clause t c =
+    let s = site_within c.args.at.now c.args.scope.now in
+    let part = traversal_part c.args.traversal.now in
+    let by_part = walk_parts_of c.args.traversal.now in
+    let judged = subst (λ p. Judges (head_fault s p.0) c.open_walk.result) (sym by_part) c.open_walk.ensures.fault in
+    let is : c.open_walk.result ≡ Err c.in_err-head.field-0.0 = search rules in
+    let is' : c.from_residual.result ≡ Err c.in_err-head.field-0.0 = search rules in
+    let h = head_has_fault (λ c'. (clause_tree c', c.args.scope.now.own)) s part.0 part.1 part.2 (maybe part.3)
+    (members part.4) (state c.args.said.now c.args.lets.now) c.open_walk.result c.from_residual.result
+    c.in_err-head.field-0.0 (state c.open_walk.new.said c.args.lets.now) is is' judged in
+    search (rules, h)
+
 pub walk_clause-returns-in_err-parts-clause-clause : goal.walk_clause-returns-in_err-parts-clause-clause
 walk_clause-returns-in_err-parts-clause-clause t c =
     let s = site_within c.args.at.now c.args.scope.now in
     let part = traversal_part c.args.traversal.now in
     let by_part = walk_parts_of c.args.traversal.now in
-    let new : new_names (seen (place s)) [] (walk_vars part.0) ≡ None =
-    ap (λ p. new_names (seen (place s)) [] (walk_vars p.0)) by_part ∙ c.in_ok-check_walk_vars.ensures in
-    let depth : unless (nat_le part.0.min part.0.max) (BadOption (codes "depth")) ≡ None =
-    ap (λ p. unless (nat_le p.0.min p.0.max) (BadOption (codes "depth"))) by_part ∙ c.in_ok-check_depth.ensures in
+    let judged : head_fault s part.0 ≡ None = ap (λ p. head_fault s p.0) by_part ∙ c.in_ok-head.ensures.fault in
     let is : c.walk_parts.result ≡ Err c.in_err-parts.field-0.0 = search rules in
     let is' : c.from_residual-in_err-parts.result ≡ Err c.in_err-parts.field-0.0 = search rules in
     let last = state c.walk_parts.new.said c.walk_parts.new.lets in
     let h = walk_has_fault s part.0 part.1 part.2 (maybe part.3) (members part.4) c.args.said.now
-    c.declare_walk.new.said (map clause_tree c.args.lets.now) c.in_ok-vars.vars.behind new depth
-    c.in_ok-vars.ensures.said c.in_ok-vars.ensures.behind (λ c'. (clause_tree c', c.args.scope.now.own))
-    (λ p. (tree p.start, option_map tree p.prune, p.written)) c.walk_parts.result
-    c.from_residual-in_err-parts.result c.in_err-parts.field-0.0 last last is is' c.walk_parts.ensures in
+    c.open_walk.new.said (map clause_tree c.args.lets.now) c.in_ok-head.head.behind (head_new s part.0 judged)
+    (head_depth s part.0 judged) c.in_ok-head.ensures.said c.in_ok-head.ensures.behind
+    (λ c'. (clause_tree c', c.args.scope.now.own)) (λ p. (tree p.start.value, boxes p.prune, p.written))
+    c.walk_parts.result c.from_residual-in_err-parts.result c.in_err-parts.field-0.0 last last is is'
+    c.walk_parts.ensures in
     search (rules, h)
 
 pub walk_clause-returns-clause-clause : goal.walk_clause-returns-clause-clause
@@ -115,31 +124,30 @@ walk_clause-returns-clause-clause t c =
     let s = site_within c.args.at.now c.args.scope.now in
     let part = traversal_part c.args.traversal.now in
     let by_part = walk_parts_of c.args.traversal.now in
-    let new : new_names (seen (place s)) [] (walk_vars part.0) ≡ None =
-    ap (λ p. new_names (seen (place s)) [] (walk_vars p.0)) by_part ∙ c.in_ok-check_walk_vars.ensures in
-    let depth : unless (nat_le part.0.min part.0.max) (BadOption (codes "depth")) ≡ None =
-    ap (λ p. unless (nat_le p.0.min p.0.max) (BadOption (codes "depth"))) by_part ∙ c.in_ok-check_depth.ensures in
+    let judged : head_fault s part.0 ≡ None = ap (λ p. head_fault s p.0) by_part ∙ c.in_ok-head.ensures.fault in
     let parts = c.in_ok-parts.parts in
-    let vars = c.in_ok-vars.vars in
+    let head = c.in_ok-head.head in
     let last = state c.walk_parts.new.said c.walk_parts.new.lets in
     let options = walk.written_options (members part.4) part.0.options parts.written in
-    let collections : c.in_ok-collections.collections ≡ part.2 =
-    c.in_ok-collections.ensures ∙ c.as_slice.ensures ∙ ap (λ p. p.2) (sym by_part) in
-    let clause : clause_tree c.walk_of-scoped.result
-    ≡ for_paths (walk.walk_with options (numbered_walk (next c.args.said.now) part.0)) (tree parts.start) part.2
-    (maybe (option_map tree parts.prune)) no_members =
-    c.walk_of-scoped.ensures
-    ∙ ap (λ cs. for_paths (record part.0 { vertex = vars.vertex; edge = vars.edge; path = vars.path; options = options }) (tree parts.start) cs (maybe (option_map tree parts.prune)) no_members) collections
-    ∙ ap (λ w. for_paths w (tree parts.start) part.2 (maybe (option_map tree parts.prune)) no_members)
-    (shape_is part.0 (next c.args.said.now) options vars.vertex vars.edge vars.path c.in_ok-vars.ensures.vars.0
-    c.in_ok-vars.ensures.vars.1 c.in_ok-vars.ensures.vars.2) in
+    let start = tree parts.start.value in
+    let collections : head.collections ≡ part.2 =
+    c.in_ok-head.ensures.collections ∙ ap (λ p. p.2) (sym by_part) in
+    let clause : clause_tree c.walk_of.result
+    ≡ for_paths (walk.walk_with options (numbered_walk (next c.args.said.now) part.0)) start part.2
+    (maybe (boxes parts.prune)) no_members =
+    c.walk_of.ensures.clause
+    ∙ ap (λ cs. for_paths (record part.0 { vertex = head.vertex; edge = head.edge; path = head.path; options = options }) start cs (maybe (boxes parts.prune)) no_members) collections
+    ∙ ap (λ w. for_paths w start part.2 (maybe (boxes parts.prune)) no_members)
+    (shape_is part.0 (next c.args.said.now) options head.vertex head.edge head.path c.in_ok-head.ensures.vars.0
+    c.in_ok-head.ensures.vars.1 c.in_ok-head.ensures.vars.2) in
     let h : walk.clause s (walked part) (state c.args.said.now c.args.lets.now)
-    ≡ Ok ((clause_tree c.walk_of-scoped.result, vars.behind), last) =
+    ≡ Ok ((clause_tree c.walk_of.result, c.walk_of.new.scope.own), last) =
     walk_has_parts s part.0 part.1 part.2 (maybe part.3) (members part.4) c.args.said.now
-    c.declare_walk.new.said (map clause_tree c.args.lets.now) vars.behind new depth
-    c.in_ok-vars.ensures.said c.in_ok-vars.ensures.behind
-    (tree parts.start, option_map tree parts.prune, parts.written) last c.in_ok-parts.ensures
-    ∙ ap (λ (t : ClauseTree). Ok ((t, vars.behind), last)) (sym clause) in
+    c.open_walk.new.said (map clause_tree c.args.lets.now) head.behind (head_new s part.0 judged)
+    (head_depth s part.0 judged) c.in_ok-head.ensures.said c.in_ok-head.ensures.behind
+    (start, boxes parts.prune, parts.written) last c.in_ok-parts.ensures
+    ∙ ap (λ (t : ClauseTree). Ok ((t, head.behind), last)) (sym clause)
+    ∙ ap (λ (own : Names). Ok ((clause_tree c.walk_of.result, own), last)) (sym c.walk_of.ensures.own) in
     search (rules, h)
 
 pub walk_parts-returns-in_err-written : goal.walk_parts-returns-in_err-written
@@ -159,16 +167,16 @@ walk_parts-returns-in_err-written t c =
     let edges : edge_collections s.held part.2 ≡ None =
     ap (λ p. edge_collections s.held p.2) by_part ∙ ap (edge_collections s.held) (sym c.as_slice.ensures)
     ∙ c.in_ok-check_edges.ensures in
-    let pruned : walk.maybe narrow (maybe part.3) second ≡ Ok (option_map tree c.in_ok-prune.prune, third) =
+    let pruned : walk.maybe narrow (maybe part.3) second ≡ Ok (boxes c.in_ok-prune.prune, third) =
     ap (λ p. walk.maybe narrow (maybe p.3) second) by_part ∙ c.in_ok-prune.ensures in
     let is : c.written_options.result ≡ Err c.in_err-written.field-0.0 = search rules in
     let is' : c.from_residual-in_err-written.result ≡ Err c.in_err-written.field-0.0 = search rules in
     let written : Walks (λ w. w) (walk.settings inner unwritten (members part.4) third) c.written_options.result last =
     subst (λ p. Walks (λ w. w) (walk.settings inner unwritten (members p.4) third) c.written_options.result last)
     (sym by_part) c.written_options.ensures in
-    let h = settings_have_fault (λ p. (tree p.start, option_map tree p.prune, p.written)) (λ w. w) s c.args.behind.now
+    let h = settings_have_fault (λ p. (tree p.start.value, boxes p.prune, p.written)) (λ w. w) s c.args.behind.now
     part.1 part.2 (maybe part.3) (members part.4) first second third last here inner (tree c.in_ok-start.start.value)
-    (option_map tree c.in_ok-prune.prune) c.written_options.result c.from_residual-in_err-written.result
+    (boxes c.in_ok-prune.prune) c.written_options.result c.from_residual-in_err-written.result
     c.in_err-written.field-0.0 c.within.ensures (c.inline.ensures ∙ ap inline_site c.within-2.ensures) found edges
     pruned is is' written in
     search (rules, h)

@@ -13,10 +13,11 @@ ghost use Rattle.aql_names.specs.Walk.{Walks, site_of, site_within, state};
 ghost use Rattle.aql_names.specs.Options.{unwritten};
 
 use aql_names::{
-    At, NameList, Scope, ScopeFault, WalkParts, Written, check_aggregate, check_args,
-    check_collections, check_depth, check_edges, check_kept, check_new, check_setting,
-    check_walk_vars, copy_texts, declare, declare_ident, declare_walk, documents_clause, for_name,
-    into_names, single_name, standing_before, walk_of, written,
+    At, NameList, Scope, ScopeFault, WalkParts, Written, aggregate_item, check_aggregate,
+    check_args, check_collections, check_edges, check_kept, check_setting, check_settings,
+    computed_setting, copy_texts, declare, declare_new, define, define_query, documents_clause,
+    each_step, enter_new, for_each, for_name, into_names, named_field, open_walk, single_name,
+    standing_before, variable, walk_of,
 };
 use aql_tree::{
     AggregateItem, Aggregates, Clause, Clauses, Collect, Expr, Exprs, Field, Fields, Ident, Into,
@@ -24,26 +25,8 @@ use aql_tree::{
 };
 use aql_value::{Names, Seq, Text, copy};
 
-// A variable by its number.
-fn variable(at: &At<'_>, ident: &Ident) -> Result<Expr, ScopeFault>
-    ensures { (st : walk.State) → Walks tree
-        (walk.expr (site_of at.now) (spec.variable ident.now) st) result st }
-{
-    match at.scope.find(ident) {
-        Some(number) => Ok(Expr::Var(Ident::Num(number))),
-        None => Err(ScopeFault::UnknownName {
-            name: written(at.alloc, ident)?,
-        }),
-    }
-}
-
 #[cycle(walk)]
-pub fn expr(
-    expr: &Expr,
-    at: &At<'_>,
-    said: &mut Names,
-    lets: &mut Clauses,
-) -> Result<Expr, ScopeFault>
+fn expr(expr: &Expr, at: &At<'_>, said: &mut Names, lets: &mut Clauses) -> Result<Expr, ScopeFault>
     ensures { Walks tree (walk.expr (site_of at.now) (tree expr.now) (state said.old lets.old))
         result (state said.new lets.new) }
 {
@@ -153,13 +136,13 @@ fn maybe(
     at: &At<'_>,
     said: &mut Names,
     lets: &mut Clauses,
-) -> Result<Option<Expr>, ScopeFault>
-    ensures { Walks (option_map tree)
+) -> Result<Option<Box<Expr>>, ScopeFault>
+    ensures { Walks (option_map (λ b. tree b.value))
         (walk.maybe (site_of at.now) (maybe_tree (option_map tree inner.now)) (state said.old lets.old))
         result (state said.new lets.new) }
 {
     match inner {
-        Some(inner) => Ok(Some(expr(inner, at, said, lets)?)),
+        Some(inner) => Ok(Some(boxed(inner, at, said, lets)?)),
         None => Ok(None),
     }
 }
@@ -196,10 +179,9 @@ fn members(
     let mut found = Seq::new(at.alloc);
     for item in all {
         let member = match item {
-            Field::Named { name, value } => Field::Named {
-                name: name.copy(at.alloc)?,
-                value: expr(value, at, said, lets)?,
-            },
+            Field::Named { name, value } => {
+                named_field(at.alloc, name, expr(value, at, said, lets)?)?
+            }
             Field::Computed { name, value } => {
                 let name = boxed(name, at, said, lets)?;
                 Field::Computed {
@@ -241,10 +223,9 @@ fn step(item: &Step, at: &At<'_>, said: &mut Names, lets: &mut Clauses) -> Resul
         Step::At(place) => Ok(Step::At(expr(place, at, said, lets)?)),
         Step::Each { filter, project } => {
             let inner = at.inline();
-            Ok(Step::Each {
-                filter: maybe(filter, &inner, said, lets)?,
-                project: maybe(project, &inner, said, lets)?,
-            })
+            let filter = maybe(filter, &inner, said, lets)?;
+            let project = maybe(project, &inner, said, lets)?;
+            Ok(each_step(filter, project))
         }
     }
 }
@@ -279,6 +260,7 @@ pub fn query_within(query: &Query, at: &At<'_>, said: &mut Names) -> Result<Quer
 {
     let alloc = at.alloc;
     check_collections(alloc, at.catalog, query.with.as_slice())?;
+    let with = copy_texts(alloc, query.with.as_slice())?;
     let mut scope = Scope {
         own: NameList::new(alloc),
         outer: at.scope.visible(alloc)?,
@@ -291,7 +273,7 @@ pub fn query_within(query: &Query, at: &At<'_>, said: &mut Names) -> Result<Quer
     let inner = at.within(&scope);
     let result = boxed(&query.result, &inner, said, &mut done)?;
     Ok(Query {
-        with: copy_texts(alloc, query.with.as_slice())?,
+        with,
         clauses: done,
         distinct: query.distinct,
         result,
@@ -367,14 +349,9 @@ fn for_list(
         (state said.old lets.old)) result (state said.new lets.new) }
     ensures outer { scope.new.outer ≡ scope.old.outer }
 {
-    check_new(at.alloc, scope, &NameList::new(at.alloc), var)?;
-    let number = declare_ident(at.alloc, said, var)?;
+    let number = declare_new(at.alloc, scope, var, said)?;
     let list = boxed(list, &at.within(scope), said, lets)?;
-    scope.own.enter(at.alloc, var, number)?;
-    Ok(Clause::For {
-        var: Ident::Num(number),
-        list: Box::into_inner(list),
-    })
+    Ok(for_each(at.alloc, var, number, list, scope)?)
 }
 
 // LET.
@@ -413,15 +390,9 @@ fn let_subquery(
         result said.new }
     ensures outer { scope.new.outer ≡ scope.old.outer }
 {
-    check_new(at.alloc, scope, &NameList::new(at.alloc), var)?;
-    let number = declare_ident(at.alloc, said, var)?;
+    let number = declare_new(at.alloc, scope, var, said)?;
     let inner = query_within(query, &at.within(scope), said)?;
-    let inner = Box::new(at.alloc, inner)?;
-    scope.own.enter(at.alloc, var, number)?;
-    Ok(Clause::Let {
-        var: Ident::Num(number),
-        expr: Expr::Sub(inner),
-    })
+    Ok(define_query(at.alloc, var, number, inner, scope)?)
 }
 
 // LET of any other expression.
@@ -439,18 +410,12 @@ fn let_value(
         (state said.old lets.old)) result (state said.new lets.new) }
     ensures outer { scope.new.outer ≡ scope.old.outer }
 {
-    check_new(at.alloc, scope, &NameList::new(at.alloc), var)?;
-    let number = declare_ident(at.alloc, said, var)?;
+    let number = declare_new(at.alloc, scope, var, said)?;
     let value = boxed(value, &at.within(scope), said, lets)?;
-    scope.own.enter(at.alloc, var, number)?;
-    Ok(Clause::Let {
-        var: Ident::Num(number),
-        expr: Box::into_inner(value),
-    })
+    Ok(define(at.alloc, var, number, value, scope)?)
 }
 
 // A traversal: its names are visible in its PRUNE, and not in its OPTIONS.
-#[tactic(auto, using(aql_names::proofs::Words::paths_clause))]
 #[cycle(walk)]
 fn walk_clause(
     traversal: &Traversal,
@@ -464,22 +429,9 @@ fn walk_clause(
         (state said.old lets.old)) result (state said.new lets.new) }
     ensures outer { scope.new.outer ≡ scope.old.outer }
 {
-    check_walk_vars(at.alloc, scope, traversal)?;
-    check_depth(at.alloc, traversal)?;
-    let vars = declare_walk(at.alloc, traversal, &scope.own, said)?;
-    let collections = copy_texts(at.alloc, traversal.collections.as_slice())?;
-    let parts = walk_parts(traversal, at, scope, &vars.behind, said, lets)?;
-    let scoped = walk_of(
-        at.alloc,
-        traversal,
-        vars.vertex,
-        vars.edge,
-        vars.path,
-        collections,
-        parts,
-    );
-    scope.own = vars.behind;
-    Ok(scoped)
+    let head = open_walk(at.alloc, traversal, scope, said)?;
+    let parts = walk_parts(traversal, at, scope, &head.behind, said, lets)?;
+    Ok(walk_of(at.alloc, traversal, head, parts, scope))
 }
 
 // The parts of a traversal, where `behind` are the names that its PRUNE sees.
@@ -492,7 +444,7 @@ fn walk_parts(
     said: &mut Names,
     lets: &mut Clauses,
 ) -> Result<WalkParts, ScopeFault>
-    ensures { Walks (λ p. (tree p.start, option_map tree p.prune, p.written))
+    ensures { Walks (λ p. (tree p.start.value, option_map (λ b. tree b.value) p.prune, p.written))
         (walk.walk_parts (site_within at.now scope.now) behind.now (traversal_part traversal.now).1
         (traversal_part traversal.now).2 (maybe_tree (traversal_part traversal.now).3)
         (member_trees (traversal_part traversal.now).4) (state said.old lets.old))
@@ -503,7 +455,7 @@ fn walk_parts(
     let prune = pruned(&traversal.prune, at, scope, behind, said, lets)?;
     let written = written_options(&traversal.options, &at.within(scope).inline(), said, lets)?;
     Ok(WalkParts {
-        start: Box::into_inner(start),
+        start,
         prune,
         written,
     })
@@ -532,8 +484,8 @@ fn pruned(
     behind: &NameList,
     said: &mut Names,
     lets: &mut Clauses,
-) -> Result<Option<Expr>, ScopeFault>
-    ensures { Walks (option_map tree)
+) -> Result<Option<Box<Expr>>, ScopeFault>
+    ensures { Walks (option_map (λ b. tree b.value))
         (walk.maybe (walk.inline_site (walk.with_own behind.now (site_within at.now scope.now)))
         (maybe_tree (option_map tree prune.now)) (state said.old lets.old))
         result (state said.new lets.new) }
@@ -564,18 +516,11 @@ fn written_settings(
             Field::Computed { name, value } => {
                 boxed(name, at, said, lets)?;
                 boxed(value, at, said, lets)?;
-                return Err(ScopeFault::BadOption {
-                    name: Text::new(at.alloc, "computed")?,
-                });
+                return computed_setting(at.alloc);
             }
         }
     }
-    if !found.fits() {
-        return Err(ScopeFault::BadOption {
-            name: Text::new(at.alloc, "uniqueVertices")?,
-        });
-    }
-    Ok(found)
+    check_settings(at.alloc, found)
 }
 
 #[cycle(walk)]
@@ -626,7 +571,7 @@ fn collect_clause(
         lets,
     )?;
     let into = into_part_of(&collect.into, &site, &mut behind, said, lets)?;
-    scope.own = behind;
+    scope.replace_own(behind);
     Ok(Clause::Collect(Collect {
         groups,
         aggregates: found,
@@ -649,12 +594,11 @@ fn criteria(
 {
     let mut found = Seq::new(at.alloc);
     for item in all {
-        check_new(at.alloc, at.scope, behind, &item.var)?;
-        let number = declare_ident(at.alloc, said, &item.var)?;
-        behind.enter(at.alloc, &item.var, number)?;
+        let number = enter_new(at, &item.var, behind, said)?;
+        let value = expr(&item.expr, at, said, lets)?;
         found.push(Let {
             var: Ident::Num(number),
-            expr: expr(&item.expr, at, said, lets)?,
+            expr: value,
         })?;
     }
     Ok(found)
@@ -674,15 +618,10 @@ fn aggregates(
 {
     let mut found = Seq::new(at.alloc);
     for item in all {
-        check_new(at.alloc, at.scope, behind, &item.var)?;
+        let number = enter_new(at, &item.var, behind, said)?;
         check_aggregate(at.alloc, &item.name, &item.arg)?;
-        let number = declare_ident(at.alloc, said, &item.var)?;
-        behind.enter(at.alloc, &item.var, number)?;
-        found.push(AggregateItem {
-            var: Ident::Num(number),
-            name: item.name.copy(at.alloc)?,
-            arg: maybe(&item.arg, at, said, lets)?,
-        })?;
+        let arg = maybe(&item.arg, at, said, lets)?;
+        found.push(aggregate_item(at.alloc, number, &item.name, arg)?)?;
     }
     Ok(found)
 }
@@ -747,9 +686,7 @@ fn into_expr(
         (walk.into_walk (site_of at.now) behind.old (spec.into var.now (spec.one_expr (tree what.now)) keep.now)
         (state said.old lets.old)) result (state said.new lets.new) }
 {
-    check_new(at.alloc, at.scope, behind, var)?;
-    let number = declare_ident(at.alloc, said, var)?;
-    behind.enter(at.alloc, var, number)?;
+    let number = enter_new(at, var, behind, said)?;
     let what = boxed(what, at, said, lets)?;
     check_kept(at.alloc, &at.scope.own, keep)?;
     Ok(Into::new(

@@ -17,9 +17,9 @@ use Rattle.aql_names.specs.declared.faults.ScopeFault.{ScopeFault}
 use Rattle.aql_names.specs.declared.faults.ScopeFault.TheVariants.{UnknownName, Redeclared, UnknownCollection, UnknownFunction, WrongArity, NotEdge, SubqueryNotAllowed, BadOption, Memory}
 use Rattle.aql_names.specs.declared.options.Written.{Written}
 use Rattle.aql_names.specs.Options.{unwritten}
-use Rattle.aql_names.specs.Faults.{new_names, seen, unless, walk_vars, edge_collections}
+use Rattle.aql_names.specs.Faults.{first, new_names, seen, unless, walk_vars, edge_collections}
 use Rattle.aql_names.specs.Walk as W
-use Rattle.aql_names.specs.Walk.{Site, State, Outcome, Walks, on, judged, beside, next}
+use Rattle.aql_names.specs.Walk.{Site, State, Outcome, Walks, Judges, on, judged, beside, next}
 use Rattle.aql_names.proofs.Words.{lifted_clause, paths_clause, walk_done}
 
 -- where a part gives something, what follows goes on with it
@@ -63,6 +63,10 @@ pub fault_through : {A B T U R S : Type 0} (f : A → T) (g : B → U) (o : Outc
 fault_through f g o k r r' fault before after e e' h =
     subst (λ x. Walks g (on o k) x after) (sym e')
     (fault_on f g o k fault before after (subst (λ x. Walks f o x before) e h))
+
+-- the tree of an expression in its box, where there is one
+abbrev pub boxes : Option (Box Expr Global) → Option ExprTree
+boxes = option_map (λ (b : Box Expr Global). tree b.value)
 
 -- ---- steps of an access
 
@@ -199,6 +203,60 @@ walk_goes_on s w e cs prune ms st new depth =
     ∙ ap₂ (λ f g. judged f (judged g (on (W.walk_parts s (walk_names (next st.said) w s.own) e cs prune ms
     (W.say_all (walk_vars w) st))
     (λ r later. Ok (walk_done w (next st.said) cs ms (walk_names (next st.said) w s.own) r, later))))) new depth
+
+first_left : (f g : Option ScopeFault) → first f g ≡ None → f ≡ None
+first_left None g h = refl
+first_left (Some fault) g h = h
+
+first_right : (f g : Option ScopeFault) → first f g ≡ None → g ≡ None
+first_right None g h = h
+first_right (Some fault) g h = absurd (cc)
+
+judged_both : {A S : Type 0} (f g : Option ScopeFault) (o : Outcome A S) (fault : ScopeFault)
+    → first f g ≡ Some fault → judged f (judged g o) ≡ Err fault
+judged_both (Some x) g o fault h = cc
+judged_both None (Some x) o fault h = cc
+judged_both None None o fault h = absurd (cc)
+
+both_judged : {A T S : Type 0} (B : Type 0) (k : A → T) (f g : Option ScopeFault) (o : Outcome T S) (fault : ScopeFault)
+    (after : S) → Judges {A = B} (first f g) (Err fault) → Walks k (judged f (judged g o)) (Err fault) after
+both_judged B k f g o Memory after h = tt
+both_judged B k f g o (UnknownName n) after h = judged_both f g o _ h
+both_judged B k f g o (Redeclared n) after h = judged_both f g o _ h
+both_judged B k f g o (UnknownCollection n) after h = judged_both f g o _ h
+both_judged B k f g o (UnknownFunction n) after h = judged_both f g o _ h
+both_judged B k f g o (WrongArity n given) after h = judged_both f g o _ h
+both_judged B k f g o (NotEdge n) after h = judged_both f g o _ h
+both_judged B k f g o SubqueryNotAllowed after h = judged_both f g o _ h
+both_judged B k f g o (BadOption n) after h = judged_both f g o _ h
+
+-- what is judged of a traversal before its parts
+abbrev pub head_fault : Site → WalkShape → Option ScopeFault
+head_fault s w =
+    first (new_names (seen (W.place s)) [] (walk_vars w)) (unless (nat_le w.min w.max) (BadOption (codes "depth")))
+
+pub head_new : (s : Site) (w : WalkShape) → head_fault s w ≡ None
+    → new_names (seen (W.place s)) [] (walk_vars w) ≡ None
+head_new s w h = first_left _ _ h
+
+pub head_depth : (s : Site) (w : WalkShape) → head_fault s w ≡ None
+    → unless (nat_le w.min w.max) (BadOption (codes "depth")) ≡ None
+head_depth s w h = first_right (new_names (seen (W.place s)) [] (walk_vars w)) _ h
+
+-- a traversal that is refused there
+pub head_has_fault : {A B : Type 0} (k : A → W.Done) (s : Site) (w : WalkShape) (e : ExprTree)
+    (cs : List (List ℕ)) (prune : MaybeExpr) (ms : MemberTrees) (st : State) (r : Result B ScopeFault)
+    (r' : Result A ScopeFault) (fault : ScopeFault) (after : State) → r ≡ Err fault → r' ≡ Err fault
+    → Judges (head_fault s w) r → Walks k (W.clause s (for_paths w e cs prune ms) st) r' after
+head_has_fault {A} {B} k s w e cs prune ms st r r' fault after is is' h =
+    subst (λ o. Walks k o r' after) (sym (paths_clause s w e cs prune ms st))
+    (subst (λ x. Walks k (judged (new_names (seen (W.place s)) [] (walk_vars w))
+    (judged (unless (nat_le w.min w.max) (BadOption (codes "depth"))) rest)) x after) (sym is')
+    (both_judged B k _ _ rest fault after (subst (λ x. Judges (head_fault s w) x) is h)))
+  where
+    rest : Outcome W.Done State
+    rest = on (W.walk_parts s (walk_names (next st.said) w s.own) e cs prune ms (W.say_all (walk_vars w) st))
+        (λ r later. Ok (walk_done w (next st.said) cs ms (walk_names (next st.said) w s.own) r, later))
 
 module _ (s : Site) (w : WalkShape) (e : ExprTree) (cs : List (List ℕ)) (prune : MaybeExpr)
     (ms : MemberTrees) (said behind : List (List ℕ)) (lets : List ClauseTree) (more : Names)

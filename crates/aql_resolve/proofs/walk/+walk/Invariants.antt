@@ -4,7 +4,7 @@ use Rattle.aql_tree.specs.View.{tree, trees, clause_tree, step_part, member_part
 use Rattle.aql_names.specs.Options.{unwritten}
 use Rattle.aql_names.specs.Walk.{site_of, site_within, inline_site, visible, state}
 use Rattle.aql_names.specs.Walk as walk
-use Rattle.aql_scope.proofs.walk.+walk.Given as goal
+use Rattle.aql_resolve.proofs.walk.+walk.Given as goal
 
 abbrev pub invariant-exprs-loop-item : goal.invariant-exprs-loop-item
 invariant-exprs-loop-item l =

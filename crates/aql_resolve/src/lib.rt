@@ -1,0 +1,7 @@
+//! Names become numbers, and subqueries stand in LETs of their own: the walk over expressions, queries
+//! and their clauses, in the order of the text.
+#![tactic(auto)]
+
+mod walk;
+
+pub use walk::query_within;
