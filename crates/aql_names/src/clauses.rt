@@ -564,16 +564,6 @@ pub fn each_step(filter: Option<Box<Expr>>, project: Option<Box<Expr>>) -> Step
     }
 }
 
-/// A member by its name.
-pub fn named_field(alloc: Global, name: &Text, value: Expr) -> Result<Field, OutOfMemory>
-    ensures { IfOk result (λ f. member_part f ≡ named name.now (tree value)) }
-{
-    Ok(Field::Named {
-        name: name.copy(alloc)?,
-        value,
-    })
-}
-
 /// An aggregate with its numbered variable.
 pub fn aggregate_item(
     alloc: Global,

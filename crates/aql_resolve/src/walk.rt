@@ -16,8 +16,8 @@ use aql_names::{
     At, NameList, Scope, ScopeFault, WalkParts, Written, aggregate_item, check_aggregate,
     check_args, check_collections, check_edges, check_kept, check_setting, check_settings,
     computed_setting, copy_texts, declare, declare_new, define, define_query, documents_clause,
-    each_step, enter_new, for_each, for_name, into_names, named_field, open_walk, single_name,
-    standing_before, variable, walk_of,
+    each_step, enter_new, for_each, for_name, into_names, open_walk, single_name, standing_before,
+    variable, walk_of,
 };
 use aql_tree::{
     AggregateItem, Aggregates, Clause, Clauses, Collect, Expr, Exprs, Field, Fields, Ident, Into,
@@ -179,9 +179,10 @@ fn members(
     let mut found = Seq::new(at.alloc);
     for item in all {
         let member = match item {
-            Field::Named { name, value } => {
-                named_field(at.alloc, name, expr(value, at, said, lets)?)?
-            }
+            Field::Named { name, value } => Field::Named {
+                name: name.copy(at.alloc)?,
+                value: expr(value, at, said, lets)?,
+            },
             Field::Computed { name, value } => {
                 let name = boxed(name, at, said, lets)?;
                 Field::Computed {
