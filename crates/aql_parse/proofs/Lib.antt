@@ -1,2 +1,1 @@
-mod Levels
 mod ParseLaws

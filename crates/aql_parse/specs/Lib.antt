@@ -1,4 +1,1 @@
-pub mod Nests
-pub mod Shapes
 pub mod Parsed
-pub mod Parts

@@ -12,9 +12,10 @@ ghost use Rattle.aql_tree.specs.Tree.{QueryTree};
 ghost use Rattle.aql_grammar.specs.Reader as reader;
 ghost use Rattle.aql_tree.specs.View.{tree, query_tree};
 
-use crate::expressions::Grammar;
+use aql_clauses::Grammar;
 use aql_grammar::{Cursor, ParseFault, has_too_many_marks, nests_too_deep};
 use aql_lex::{Keyword, Tokens};
+use aql_operators::Expressions;
 use aql_tree::{Expr, Query};
 use aql_value::Seq;
 use aql_walks::walks_within;
@@ -32,13 +33,13 @@ fn expr(
     if depth == 0 {
         return Err(ParseFault::NotInGrammar);
     }
-    Grammar {
+    let rules = Grammar {
         alloc,
         depth: depth - 1,
         inside,
         expr,
-    }
-    .conditional(tokens)
+    };
+    Expressions { rules }.conditional(tokens)
 }
 
 // A whole query, behind the list of WITH if there is one.

@@ -1,8 +1,6 @@
 //! The grammar of queries: from tokens to the syntax tree that they spell.
 #![tactic(auto)]
 
-mod clauses;
-mod expressions;
 mod grammar;
 
 pub use aql_grammar::ParseFault;
