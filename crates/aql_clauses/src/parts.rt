@@ -2,7 +2,7 @@
 //! hold expressions take the function that reads those one bracket deeper as a parameter, so that
 //! each is proved by itself.
 
-ghost use Rattle.std.specs.Prelude.{◌≡◌, map, option_map};
+ghost use Rattle.std.specs.Prelude.{◌≡◌, map, option_map, true};
 ghost use Rattle.std.specs.Result.{result_map_both};
 ghost use Rattle.aql_grammar.specs.Input.{ReadsAs, many, items, at_front};
 ghost use Rattle.aql_clauses.specs.Nests.{Nests};
@@ -17,7 +17,6 @@ use aql_lex::{Keyword, Symbol, TokenKind};
 use aql_tree::{Expr, Exprs, Field, Fields, Ident, Step, Steps};
 use aql_value::{Seq, Text};
 use std::alloc::Global;
-
 
 /// The rules of the grammar.
 #[derive(Clone, Copy)]
@@ -262,5 +261,4 @@ impl<F: Fn(Global, &mut Cursor<'_>, usize, bool) -> Result<Expr, ParseFault>> Gr
         }
         Ok(found)
     }
-
 }
