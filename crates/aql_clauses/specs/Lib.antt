@@ -1,3 +1,1 @@
-pub mod Nests
 pub mod Shapes
-pub mod Parts

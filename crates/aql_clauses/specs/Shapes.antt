@@ -1,4 +1,5 @@
--- What a traversal says beside its expressions, as the grammar says it.
+-- What a FOR and a traversal say beside their expressions, as the grammar says it.
+use Rattle.std.specs.Prelude.{ℕ, List, Option, Some, None}
 use Rattle.aql_tree.specs.Tree.{WalkShape, WalkOptions}
 use Rattle.aql_tree.specs.Made.{default_options}
 use Rattle.aql_clauses.specs.declared.clauses.Shape.{Shape}
@@ -16,3 +17,8 @@ shape_with s options = record {
 
 abbrev pub shape_of : Shape → WalkShape
 shape_of s = shape_with s default_options
+
+-- the variable of a FOR, where no edge is named beside it
+abbrev pub alone : List ℕ → Option (List ℕ) → Option (List ℕ)
+alone vertex None = Some vertex
+alone vertex (Some edge) = None

@@ -4,9 +4,9 @@ ghost use Rattle.std.specs.Prelude.{◌≡◌, IfOk, map, option_map, option_cop
 ghost use Rattle.std.specs.Prelude.{◌∷◌, ◌++◌};
 ghost use Rattle.aql_grammar.specs.Clauses.{says};
 ghost use Rattle.aql_grammar.specs.Input.{ReadsAs, separated, separated_onto};
-ghost use Rattle.aql_clauses.specs.Nests.{Nests};
-ghost use Rattle.aql_clauses.specs.Parts.{alone};
-ghost use Rattle.aql_clauses.specs.Shapes.{shape_of, shape_with};
+ghost use Rattle.aql_clauses.specs.Shapes.{alone, shape_of, shape_with};
+ghost use Rattle.aql_phrases.specs.Nests.{Nests};
+ghost use Rattle.aql_phrases.specs.Parts.{closed, returned};
 ghost use Rattle.aql_tree.specs.Made.{default_options, written_shape};
 ghost use Rattle.aql_tree.specs.View.{options_part, traversal_part};
 ghost use Rattle.aql_grammar.specs.Names.{walk_names};
@@ -15,9 +15,10 @@ ghost use Rattle.aql_tree.specs.Made as made;
 ghost use Rattle.aql_tree.specs.View.{tree, query_tree, clause_tree, member_part, key_part};
 ghost use Rattle.aql_tree.specs.View.{let_part, aggregate_part, into_part, walked};
 
-use crate::parts::{Grammar, both};
+use crate::parts::Queries;
 use aql_grammar::{Cursor, Depth, ParseFault, WalkNames, begins_clause, is_name};
 use aql_lex::{Keyword, Symbol, TokenKind};
+use aql_phrases::both;
 use aql_tree::{
     AggregateItem, Aggregates, Clause, Clauses, Direction, Expr, Fields, Ident, Into, Key, Keys,
     Let, Lets, Options, Query, Traversal, UniqueEdges, UniqueVertices,
@@ -161,26 +162,26 @@ fn says(groups: &Lets, aggregates: &Aggregates, into: Option<&Into>) -> bool
     groups.len() > 0 || aggregates.len() > 0 || into.is_some()
 }
 
-impl<F: Fn(Global, &mut Cursor<'_>, usize, bool) -> Result<Expr, ParseFault>> Grammar<F> {
+impl<F: Fn(Global, &mut Cursor<'_>, usize, bool) -> Result<Expr, ParseFault>> Queries<F> {
     #[tactic(auto, unfolding(aql_grammar::specs::Reader::assigned))]
     fn assigned(&self, tokens: &mut Cursor<'_>) -> Result<Let, ParseFault>
-        requires { Nests self.now.depth (F.pre self.now.expr) (F.post self.now.expr) }
-        ensures { ReadsAs let_part (reader.assigned (reader.expr self.now.depth) self.now.inside
+        requires { Nests self.now.rules.depth (F.pre self.now.rules.expr) (F.post self.now.rules.expr) }
+        ensures { ReadsAs let_part (reader.assigned (reader.expr self.now.rules.depth) self.now.rules.inside
             tokens.old) result tokens.new }
     {
-        let name = tokens.name(self.alloc)?;
+        let name = tokens.name(self.rules.alloc)?;
         tokens.expect(Symbol::Assign)?;
-        let expr = self.expr(tokens)?;
+        let expr = self.rules.expr(tokens)?;
         Ok(Let::new(Ident::Name(name), expr))
     }
 
     fn assigned_list(&self, tokens: &mut Cursor<'_>) -> Result<Lets, ParseFault>
-        requires { Nests self.now.depth (F.pre self.now.expr) (F.post self.now.expr) }
+        requires { Nests self.now.rules.depth (F.pre self.now.rules.expr) (F.post self.now.rules.expr) }
         ensures { ReadsAs (map let_part)
-            (separated (reader.assigned (reader.expr self.now.depth) self.now.inside) tokens.old)
+            (separated (reader.assigned (reader.expr self.now.rules.depth) self.now.rules.inside) tokens.old)
             result tokens.new }
     {
-        let mut found = Seq::new(self.alloc);
+        let mut found = Seq::new(self.rules.alloc);
         for _turn in 0..tokens.left() {
             found.push(self.assigned(tokens)?)?;
             if !tokens.eat(Symbol::Comma) {
@@ -192,26 +193,26 @@ impl<F: Fn(Global, &mut Cursor<'_>, usize, bool) -> Result<Expr, ParseFault>> Gr
 
     #[tactic(auto, unfolding(aql_grammar::specs::Reader::groups))]
     fn groups(&self, tokens: &mut Cursor<'_>) -> Result<Lets, ParseFault>
-        requires { Nests self.now.depth (F.pre self.now.expr) (F.post self.now.expr) }
-        ensures { ReadsAs (map let_part) (reader.groups (reader.expr self.now.depth) self.now.inside
+        requires { Nests self.now.rules.depth (F.pre self.now.rules.expr) (F.post self.now.rules.expr) }
+        ensures { ReadsAs (map let_part) (reader.groups (reader.expr self.now.rules.depth) self.now.rules.inside
             tokens.old) result tokens.new }
     {
         if is_name(tokens.peek()) {
             self.assigned_list(tokens)
         } else {
-            Ok(Seq::new(self.alloc))
+            Ok(Seq::new(self.rules.alloc))
         }
     }
 
     #[tactic(auto, unfolding(aql_grammar::specs::Reader::let_clause))]
     fn let_clause(&self, tokens: &mut Cursor<'_>) -> Result<Clause, ParseFault>
-        requires { Nests self.now.depth (F.pre self.now.expr) (F.post self.now.expr) }
-        ensures { ReadsAs clause_tree (reader.let_clause (reader.expr self.now.depth)
-            self.now.inside tokens.old) result tokens.new }
+        requires { Nests self.now.rules.depth (F.pre self.now.rules.expr) (F.post self.now.rules.expr) }
+        ensures { ReadsAs clause_tree (reader.let_clause (reader.expr self.now.rules.depth)
+            self.now.rules.inside tokens.old) result tokens.new }
     {
-        let name = tokens.name(self.alloc)?;
+        let name = tokens.name(self.rules.alloc)?;
         tokens.expect(Symbol::Assign)?;
-        let expr = self.expr(tokens)?;
+        let expr = self.rules.expr(tokens)?;
         let var = Ident::Name(name);
         Ok(Clause::Let { var, expr })
     }
@@ -222,9 +223,9 @@ impl<F: Fn(Global, &mut Cursor<'_>, usize, bool) -> Result<Expr, ParseFault>> Gr
         tokens: &mut Cursor<'_>,
         mut found: Clauses,
     ) -> Result<Clauses, ParseFault>
-        requires { Nests self.now.depth (F.pre self.now.expr) (F.post self.now.expr) }
+        requires { Nests self.now.rules.depth (F.pre self.now.rules.expr) (F.post self.now.rules.expr) }
         ensures { ReadsAs (map clause_tree)
-            (separated_onto (reader.let_clause (reader.expr self.now.depth) self.now.inside)
+            (separated_onto (reader.let_clause (reader.expr self.now.rules.depth) self.now.rules.inside)
             (map clause_tree found) tokens.old) result tokens.new }
     {
         for _turn in 0..tokens.left() {
@@ -236,29 +237,15 @@ impl<F: Fn(Global, &mut Cursor<'_>, usize, bool) -> Result<Expr, ParseFault>> Gr
         Err(ParseFault::NotInGrammar)
     }
 
-    #[tactic(auto, unfolding(aql_grammar::specs::Reader::sort_key))]
-    fn sort_key(&self, tokens: &mut Cursor<'_>) -> Result<Key, ParseFault>
-        requires { Nests self.now.depth (F.pre self.now.expr) (F.post self.now.expr) }
-        ensures { ReadsAs key_part (reader.sort_key (reader.expr self.now.depth) self.now.inside
-            tokens.old) result tokens.new }
-    {
-        let expr = self.expr(tokens)?;
-        if tokens.eat_keyword(Keyword::Desc) {
-            return Ok(Key::new(expr, true));
-        }
-        tokens.eat_keyword(Keyword::Asc);
-        Ok(Key::new(expr, false))
-    }
-
     fn sort_keys(&self, tokens: &mut Cursor<'_>) -> Result<Keys, ParseFault>
-        requires { Nests self.now.depth (F.pre self.now.expr) (F.post self.now.expr) }
+        requires { Nests self.now.rules.depth (F.pre self.now.rules.expr) (F.post self.now.rules.expr) }
         ensures { ReadsAs (map key_part)
-            (separated (reader.sort_key (reader.expr self.now.depth) self.now.inside) tokens.old)
+            (separated (reader.sort_key (reader.expr self.now.rules.depth) self.now.rules.inside) tokens.old)
             result tokens.new }
     {
-        let mut found = Seq::new(self.alloc);
+        let mut found = Seq::new(self.rules.alloc);
         for _turn in 0..tokens.left() {
-            found.push(self.sort_key(tokens)?)?;
+            found.push(self.rules.sort_key(tokens)?)?;
             if !tokens.eat(Symbol::Comma) {
                 return Ok(found);
             }
@@ -269,37 +256,37 @@ impl<F: Fn(Global, &mut Cursor<'_>, usize, bool) -> Result<Expr, ParseFault>> Gr
     // Behind the opening parenthesis of an aggregate.
     #[tactic(auto, unfolding(aql_grammar::specs::Reader::optional_argument))]
     fn optional_argument(&self, tokens: &mut Cursor<'_>) -> Result<Option<Expr>, ParseFault>
-        requires { Nests self.now.depth (F.pre self.now.expr) (F.post self.now.expr) }
-        ensures { ReadsAs (option_map tree) (reader.optional_argument (reader.expr self.now.depth)
-            self.now.inside tokens.old) result tokens.new }
+        requires { Nests self.now.rules.depth (F.pre self.now.rules.expr) (F.post self.now.rules.expr) }
+        ensures { ReadsAs (option_map tree) (reader.optional_argument (reader.expr self.now.rules.depth)
+            self.now.rules.inside tokens.old) result tokens.new }
     {
         if tokens.eat(Symbol::CloseParen) {
             return Ok(None);
         }
-        Ok(Some(self.closed(tokens, Symbol::CloseParen)?))
+        Ok(Some(self.rules.closed(tokens, Symbol::CloseParen)?))
     }
 
     #[tactic(auto, unfolding(aql_grammar::specs::Reader::aggregate))]
     fn aggregate(&self, tokens: &mut Cursor<'_>) -> Result<AggregateItem, ParseFault>
-        requires { Nests self.now.depth (F.pre self.now.expr) (F.post self.now.expr) }
-        ensures { ReadsAs aggregate_part (reader.aggregate (reader.expr self.now.depth)
-            self.now.inside tokens.old) result tokens.new }
+        requires { Nests self.now.rules.depth (F.pre self.now.rules.expr) (F.post self.now.rules.expr) }
+        ensures { ReadsAs aggregate_part (reader.aggregate (reader.expr self.now.rules.depth)
+            self.now.rules.inside tokens.old) result tokens.new }
     {
-        let var = tokens.name(self.alloc)?;
+        let var = tokens.name(self.rules.alloc)?;
         tokens.expect(Symbol::Assign)?;
-        let name = tokens.word(self.alloc)?;
+        let name = tokens.word(self.rules.alloc)?;
         tokens.expect(Symbol::OpenParen)?;
         let arg = self.optional_argument(tokens)?;
         Ok(AggregateItem::new(Ident::Name(var), name, arg))
     }
 
     fn aggregate_list(&self, tokens: &mut Cursor<'_>) -> Result<Aggregates, ParseFault>
-        requires { Nests self.now.depth (F.pre self.now.expr) (F.post self.now.expr) }
+        requires { Nests self.now.rules.depth (F.pre self.now.rules.expr) (F.post self.now.rules.expr) }
         ensures { ReadsAs (map aggregate_part)
-            (separated (reader.aggregate (reader.expr self.now.depth) self.now.inside) tokens.old)
+            (separated (reader.aggregate (reader.expr self.now.rules.depth) self.now.rules.inside) tokens.old)
             result tokens.new }
     {
-        let mut found = Seq::new(self.alloc);
+        let mut found = Seq::new(self.rules.alloc);
         for _turn in 0..tokens.left() {
             found.push(self.aggregate(tokens)?)?;
             if !tokens.eat(Symbol::Comma) {
@@ -311,44 +298,25 @@ impl<F: Fn(Global, &mut Cursor<'_>, usize, bool) -> Result<Expr, ParseFault>> Gr
 
     #[tactic(auto, unfolding(aql_grammar::specs::Reader::aggregates))]
     fn aggregates(&self, tokens: &mut Cursor<'_>) -> Result<Aggregates, ParseFault>
-        requires { Nests self.now.depth (F.pre self.now.expr) (F.post self.now.expr) }
-        ensures { ReadsAs (map aggregate_part) (reader.aggregates (reader.expr self.now.depth)
-            self.now.inside tokens.old) result tokens.new }
+        requires { Nests self.now.rules.depth (F.pre self.now.rules.expr) (F.post self.now.rules.expr) }
+        ensures { ReadsAs (map aggregate_part) (reader.aggregates (reader.expr self.now.rules.depth)
+            self.now.rules.inside tokens.old) result tokens.new }
     {
         if tokens.eat_keyword(Keyword::Aggregate) {
             self.aggregate_list(tokens)
         } else {
-            Ok(Seq::new(self.alloc))
+            Ok(Seq::new(self.rules.alloc))
         }
-    }
-
-    // Behind INTO.
-    #[tactic(auto, unfolding(aql_grammar::specs::Reader::into_part))]
-    fn into_part(&self, tokens: &mut Cursor<'_>) -> Result<Into, ParseFault>
-        requires { Nests self.now.depth (F.pre self.now.expr) (F.post self.now.expr) }
-        ensures { ReadsAs into_part (reader.into_part (reader.expr self.now.depth) self.now.inside
-            tokens.old) result tokens.new }
-    {
-        let var = Ident::Name(tokens.name(self.alloc)?);
-        if tokens.eat(Symbol::Assign) {
-            let what = self.expr(tokens)?;
-            return Ok(Into::new(var, Some(what), Seq::new(self.alloc)));
-        }
-        if tokens.eat_word("KEEP") {
-            let keep = tokens.names(self.alloc)?;
-            return Ok(Into::new(var, None, keep));
-        }
-        Ok(Into::new(var, None, Seq::new(self.alloc)))
     }
 
     #[tactic(auto, unfolding(aql_grammar::specs::Reader::into))]
     fn into(&self, tokens: &mut Cursor<'_>) -> Result<Option<Into>, ParseFault>
-        requires { Nests self.now.depth (F.pre self.now.expr) (F.post self.now.expr) }
-        ensures { ReadsAs (option_map into_part) (reader.into (reader.expr self.now.depth)
-            self.now.inside tokens.old) result tokens.new }
+        requires { Nests self.now.rules.depth (F.pre self.now.rules.expr) (F.post self.now.rules.expr) }
+        ensures { ReadsAs (option_map into_part) (reader.into (reader.expr self.now.rules.depth)
+            self.now.rules.inside tokens.old) result tokens.new }
     {
         if tokens.eat_keyword(Keyword::Into) {
-            Ok(Some(self.into_part(tokens)?))
+            Ok(Some(self.rules.into_part(tokens)?))
         } else {
             Ok(None)
         }
@@ -357,14 +325,14 @@ impl<F: Fn(Global, &mut Cursor<'_>, usize, bool) -> Result<Expr, ParseFault>> Gr
     // Behind COLLECT.
     #[tactic(auto, unfolding(aql_grammar::specs::Reader::collect))]
     fn collect(&self, tokens: &mut Cursor<'_>) -> Result<Clause, ParseFault>
-        requires { Nests self.now.depth (F.pre self.now.expr) (F.post self.now.expr) }
-        ensures { ReadsAs clause_tree (reader.collect (reader.expr self.now.depth) self.now.inside
+        requires { Nests self.now.rules.depth (F.pre self.now.rules.expr) (F.post self.now.rules.expr) }
+        ensures { ReadsAs clause_tree (reader.collect (reader.expr self.now.rules.depth) self.now.rules.inside
             tokens.old) result tokens.new }
     {
         let groups = self.groups(tokens)?;
         if tokens.eat_keyword(Keyword::With) {
-            let name = tokens.count_name(self.alloc)?;
-            let aggregates = count_aggregate(self.alloc, name)?;
+            let name = tokens.count_name(self.rules.alloc)?;
+            let aggregates = count_aggregate(self.rules.alloc, name)?;
             return Ok(Clause::collect(groups, aggregates, None));
         }
         let aggregates = self.aggregates(tokens)?;
@@ -376,12 +344,12 @@ impl<F: Fn(Global, &mut Cursor<'_>, usize, bool) -> Result<Expr, ParseFault>> Gr
 
     #[tactic(auto, unfolding(aql_grammar::specs::Reader::prune))]
     fn prune(&self, tokens: &mut Cursor<'_>) -> Result<Option<Expr>, ParseFault>
-        requires { Nests self.now.depth (F.pre self.now.expr) (F.post self.now.expr) }
-        ensures { ReadsAs (option_map tree) (reader.prune (reader.expr self.now.depth)
-            self.now.inside tokens.old) result tokens.new }
+        requires { Nests self.now.rules.depth (F.pre self.now.rules.expr) (F.post self.now.rules.expr) }
+        ensures { ReadsAs (option_map tree) (reader.prune (reader.expr self.now.rules.depth)
+            self.now.rules.inside tokens.old) result tokens.new }
     {
         if tokens.eat_word("PRUNE") {
-            Ok(Some(self.expr(tokens)?))
+            Ok(Some(self.rules.expr(tokens)?))
         } else {
             Ok(None)
         }
@@ -389,30 +357,30 @@ impl<F: Fn(Global, &mut Cursor<'_>, usize, bool) -> Result<Expr, ParseFault>> Gr
 
     #[tactic(auto, unfolding(aql_grammar::specs::Reader::settings))]
     fn settings(&self, tokens: &mut Cursor<'_>) -> Result<Fields, ParseFault>
-        requires { Nests self.now.depth (F.pre self.now.expr) (F.post self.now.expr) }
-        ensures { ReadsAs (map member_part) (reader.settings (reader.expr self.now.depth)
-            self.now.inside tokens.old) result tokens.new }
+        requires { Nests self.now.rules.depth (F.pre self.now.rules.expr) (F.post self.now.rules.expr) }
+        ensures { ReadsAs (map member_part) (reader.settings (reader.expr self.now.rules.depth)
+            self.now.rules.inside tokens.old) result tokens.new }
     {
         if tokens.eat_word("OPTIONS") {
             tokens.expect(Symbol::OpenBrace)?;
             self.members(tokens)
         } else {
-            Ok(Seq::new(self.alloc))
+            Ok(Seq::new(self.rules.alloc))
         }
     }
 
     // A traversal, behind IN.
     #[tactic(auto, unfolding(aql_grammar::specs::Reader::walk))]
     fn walk(&self, tokens: &mut Cursor<'_>, names: WalkNames) -> Result<Clause, ParseFault>
-        requires { Nests self.now.depth (F.pre self.now.expr) (F.post self.now.expr) }
-        ensures { ReadsAs clause_tree (reader.walk (reader.expr self.now.depth) self.now.inside
+        requires { Nests self.now.rules.depth (F.pre self.now.rules.expr) (F.post self.now.rules.expr) }
+        ensures { ReadsAs clause_tree (reader.walk (reader.expr self.now.rules.depth) self.now.rules.inside
             (walk_names names) tokens.old) result tokens.new }
     {
         let depth = tokens.depth()?;
         let direction = tokens.way()?;
         let shape = walk_shape(names, depth, direction);
-        let from = both(shape, self.expr(tokens))?;
-        let along = both(from, tokens.names(self.alloc))?;
+        let from = both(shape, self.rules.expr(tokens))?;
+        let along = both(from, tokens.names(self.rules.alloc))?;
         let until = both(along, self.prune(tokens))?;
         let all = both(until, self.settings(tokens))?;
         let ((((shape, start), collections), prune), settings) = all;
@@ -422,17 +390,17 @@ impl<F: Fn(Global, &mut Cursor<'_>, usize, bool) -> Result<Expr, ParseFault>> Gr
     // Behind FOR.
     #[tactic(auto, unfolding(aql_grammar::specs::Reader::for_clause))]
     fn for_clause(&self, tokens: &mut Cursor<'_>) -> Result<Clause, ParseFault>
-        requires { Nests self.now.depth (F.pre self.now.expr) (F.post self.now.expr) }
-        ensures { ReadsAs clause_tree (reader.for_clause (reader.expr self.now.depth)
-            self.now.inside tokens.old) result tokens.new }
+        requires { Nests self.now.rules.depth (F.pre self.now.rules.expr) (F.post self.now.rules.expr) }
+        ensures { ReadsAs clause_tree (reader.for_clause (reader.expr self.now.rules.depth)
+            self.now.rules.inside tokens.old) result tokens.new }
     {
-        let names = tokens.walk_names(self.alloc)?;
+        let names = tokens.walk_names(self.rules.alloc)?;
         let names = tokens.expect_keyword(Keyword::In).and(Ok(names))?;
         if tokens.begins_walk() {
             return self.walk(tokens, names);
         }
         let name = alone(names).ok_or(ParseFault::NotInGrammar)?;
-        let list = self.expr(tokens)?;
+        let list = self.rules.expr(tokens)?;
         Ok(Clause::For {
             var: Ident::Name(name),
             list,
@@ -442,9 +410,9 @@ impl<F: Fn(Global, &mut Cursor<'_>, usize, bool) -> Result<Expr, ParseFault>> Gr
     // A clause, behind those that were found.
     #[tactic(auto, unfolding(aql_grammar::specs::Reader::clause))]
     fn clause(&self, tokens: &mut Cursor<'_>, found: Clauses) -> Result<Clauses, ParseFault>
-        requires { Nests self.now.depth (F.pre self.now.expr) (F.post self.now.expr) }
-        ensures { ReadsAs (map clause_tree) (reader.clause (reader.expr self.now.depth)
-            self.now.inside (map clause_tree found) tokens.old) result tokens.new }
+        requires { Nests self.now.rules.depth (F.pre self.now.rules.expr) (F.post self.now.rules.expr) }
+        ensures { ReadsAs (map clause_tree) (reader.clause (reader.expr self.now.rules.depth)
+            self.now.rules.inside (map clause_tree found) tokens.old) result tokens.new }
     {
         let clause = match tokens.peek() {
             Some(TokenKind::Keyword(Keyword::For)) => {
@@ -453,7 +421,7 @@ impl<F: Fn(Global, &mut Cursor<'_>, usize, bool) -> Result<Expr, ParseFault>> Gr
             }
             Some(TokenKind::Keyword(Keyword::Filter)) => {
                 tokens.take();
-                Clause::Filter(self.expr(tokens)?)
+                Clause::Filter(self.rules.expr(tokens)?)
             }
             Some(TokenKind::Keyword(Keyword::Let)) => {
                 tokens.take();
@@ -477,11 +445,11 @@ impl<F: Fn(Global, &mut Cursor<'_>, usize, bool) -> Result<Expr, ParseFault>> Gr
     }
 
     fn clauses(&self, tokens: &mut Cursor<'_>) -> Result<Clauses, ParseFault>
-        requires { Nests self.now.depth (F.pre self.now.expr) (F.post self.now.expr) }
-        ensures { ReadsAs (map clause_tree) (reader.clauses (reader.expr self.now.depth)
-            self.now.inside tokens.old) result tokens.new }
+        requires { Nests self.now.rules.depth (F.pre self.now.rules.expr) (F.post self.now.rules.expr) }
+        ensures { ReadsAs (map clause_tree) (reader.clauses (reader.expr self.now.rules.depth)
+            self.now.rules.inside tokens.old) result tokens.new }
     {
-        let mut found = Seq::new(self.alloc);
+        let mut found = Seq::new(self.rules.alloc);
         for _turn in 0..tokens.left() {
             if !begins_clause(tokens.peek()) {
                 return Ok(found);
@@ -494,14 +462,13 @@ impl<F: Fn(Global, &mut Cursor<'_>, usize, bool) -> Result<Expr, ParseFault>> Gr
     /// A query, behind the names of a WITH.
     #[tactic(auto, unfolding(aql_grammar::specs::Reader::query))]
     pub fn query(&self, tokens: &mut Cursor<'_>, with: Names) -> Result<Query, ParseFault>
-        requires { Nests self.now.depth (F.pre self.now.expr) (F.post self.now.expr) }
-        ensures { ReadsAs query_tree (reader.query (reader.expr self.now.depth) self.now.inside with
+        requires { Nests self.now.rules.depth (F.pre self.now.rules.expr) (F.post self.now.rules.expr) }
+        ensures { ReadsAs query_tree (reader.query (reader.expr self.now.rules.depth) self.now.rules.inside with
             tokens.old) result tokens.new }
     {
         let clauses = self.clauses(tokens)?;
         tokens.expect_keyword(Keyword::Return)?;
-        let distinct = tokens.eat_keyword(Keyword::Distinct);
-        let result = self.expr(tokens)?;
-        Ok(Query::new(self.alloc, with, clauses, distinct, result)?)
+        let (distinct, result) = self.rules.returned(tokens)?;
+        Ok(Query::new(self.rules.alloc, with, clauses, distinct, result)?)
     }
 }

@@ -1,8 +1,7 @@
-//! The grammar of clauses, of whole queries and of the parts around expressions. Expressions are
-//! read by a function that is passed in.
+//! The grammar of clauses, of whole queries, and of what stands in brackets and behind expressions.
 #![tactic(auto)]
 
 mod clauses;
 mod parts;
 
-pub use parts::{Grammar, both, unquoted};
+pub use parts::Queries;

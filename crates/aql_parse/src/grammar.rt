@@ -12,10 +12,11 @@ ghost use Rattle.aql_tree.specs.Tree.{QueryTree};
 ghost use Rattle.aql_grammar.specs.Reader as reader;
 ghost use Rattle.aql_tree.specs.View.{tree, query_tree};
 
-use aql_clauses::Grammar;
+use aql_clauses::Queries;
 use aql_grammar::{Cursor, ParseFault, has_too_many_marks, nests_too_deep};
 use aql_lex::{Keyword, Tokens};
 use aql_operators::Expressions;
+use aql_phrases::Grammar;
 use aql_tree::{Expr, Query};
 use aql_value::Seq;
 use aql_walks::walks_within;
@@ -39,7 +40,8 @@ fn expr(
         inside,
         expr,
     };
-    Expressions { rules }.conditional(tokens)
+    let queries = Queries { rules };
+    Expressions { queries }.conditional(tokens)
 }
 
 // A whole query, behind the list of WITH if there is one.
@@ -53,11 +55,12 @@ fn top(alloc: Global, tokens: &mut Cursor<'_>, depth: usize) -> Result<Query, Pa
         inside: false,
         expr,
     };
+    let queries = Queries { rules };
     if tokens.eat_keyword(Keyword::With) {
         let names = tokens.names(alloc)?;
-        rules.query(tokens, names)
+        queries.query(tokens, names)
     } else {
-        rules.query(tokens, Seq::new(alloc))
+        queries.query(tokens, Seq::new(alloc))
     }
 }
 

@@ -5,5 +5,5 @@ use Rattle.aql_tree.specs.View.{tree}
 use Rattle.aql_operators.proofs.expressions.Expressions.argument_list.Given as goal
 
 abbrev pub invariant-loop-turn : goal.invariant-loop-turn
-invariant-loop-turn g l = separated (argument (expr l.self.rules.depth) l.self.rules.inside) l.fn.tokens
-    ≡ separated_from (argument (expr l.self.rules.depth) l.self.rules.inside) (l._turn-end - l._turn) (map tree l.found) l.tokens
+invariant-loop-turn g l = separated (argument (expr l.self.queries.rules.depth) l.self.queries.rules.inside) l.fn.tokens
+    ≡ separated_from (argument (expr l.self.queries.rules.depth) l.self.queries.rules.inside) (l._turn-end - l._turn) (map tree l.found) l.tokens

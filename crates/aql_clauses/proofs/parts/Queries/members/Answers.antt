@@ -1,0 +1,48 @@
+use Rattle.std.proofs.Common.{map, rules, arith}
+use Rattle.std.proofs.lemmas.Grind.{common_steps}
+use Rattle.aql_lex.specs.declared.vocabulary.Symbol.TheVariants as s
+use Rattle.aql_tree.specs.View.{member_part}
+use Rattle.aql_grammar.specs.Input.{items, items_from}
+use Rattle.aql_grammar.specs.Reader.{expr, member}
+use Rattle.aql_grammar.specs.laws.Turns.{one_more, no_more}
+use Rattle.aql_clauses.proofs.parts.Queries.members.Goals as goal
+
+pub loop-turn-init : goal.loop-turn-init
+unfolding items
+loop-turn-init g c = first_of (search rules, grind (arith, common_steps))
+
+pub returns-then-eat : goal.returns-then-eat
+unfolding items_from
+returns-then-eat g c =
+    let e = one_more (λ n. items_from s.CloseBrace (member (expr c.args.self.now.rules.depth) c.args.self.now.rules.inside) n (map member_part c.loop-turn.found) c.loop-turn.tokens) c.left-turn-end.result c.loop-turn._turn (omega arith) c.loop-turn.invariant in
+    first_of (search rules, grind (arith, common_steps))
+
+pub returns-in_err-member : goal.returns-in_err-member
+unfolding items_from
+returns-in_err-member g c =
+    let e = one_more (λ n. items_from s.CloseBrace (member (expr c.args.self.now.rules.depth) c.args.self.now.rules.inside) n (map member_part c.loop-turn.found) c.loop-turn.tokens) c.left-turn-end.result c.loop-turn._turn (omega arith) c.loop-turn.invariant in
+    first_of (search rules, grind (arith, common_steps))
+
+pub returns-in_err-expect : goal.returns-in_err-expect
+unfolding items_from
+returns-in_err-expect g c =
+    let e = one_more (λ n. items_from s.CloseBrace (member (expr c.args.self.now.rules.depth) c.args.self.now.rules.inside) n (map member_part c.loop-turn.found) c.loop-turn.tokens) c.left-turn-end.result c.loop-turn._turn (omega arith) c.loop-turn.invariant in
+    first_of (search rules, grind (arith, common_steps))
+
+pub returns-then-not-eat : goal.returns-then-not-eat
+unfolding items_from
+returns-then-not-eat g c =
+    let e = one_more (λ n. items_from s.CloseBrace (member (expr c.args.self.now.rules.depth) c.args.self.now.rules.inside) n (map member_part c.loop-turn.found) c.loop-turn.tokens) c.left-turn-end.result c.loop-turn._turn (omega arith) c.loop-turn.invariant in
+    first_of (search rules, grind (arith, common_steps))
+
+pub loop-turn-preserved : goal.loop-turn-preserved
+unfolding items_from
+loop-turn-preserved g c =
+    let e = one_more (λ n. items_from s.CloseBrace (member (expr c.args.self.now.rules.depth) c.args.self.now.rules.inside) n (map member_part c.loop-turn.found) c.loop-turn.tokens) c.left-turn-end.result c.loop-turn._turn (omega arith) c.loop-turn.invariant in
+    first_of (search rules, grind (arith, common_steps))
+
+pub returns : goal.returns
+unfolding items_from
+returns g c =
+    let e = no_more (λ n. items_from s.CloseBrace (member (expr c.args.self.now.rules.depth) c.args.self.now.rules.inside) n (map member_part c.loop-turn.found) c.loop-turn.tokens) c.left-turn-end.result c.loop-turn._turn (omega arith) c.loop-turn.invariant in
+    first_of (search rules, grind (arith, common_steps))
