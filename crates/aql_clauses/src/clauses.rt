@@ -165,9 +165,10 @@ fn says(groups: &Lets, aggregates: &Aggregates, into: Option<&Into>) -> bool
 impl<F: Fn(Global, &mut Cursor<'_>, usize, bool) -> Result<Expr, ParseFault>> Queries<F> {
     #[tactic(auto, unfolding(aql_grammar::specs::Reader::assigned))]
     fn assigned(&self, tokens: &mut Cursor<'_>) -> Result<Let, ParseFault>
-        requires { Nests self.now.rules.depth (F.pre self.now.rules.expr) (F.post self.now.rules.expr) }
-        ensures { ReadsAs let_part (reader.assigned (reader.expr self.now.rules.depth) self.now.rules.inside
-            tokens.old) result tokens.new }
+        requires { Nests self.now.rules.depth (F.pre self.now.rules.expr)
+            (F.post self.now.rules.expr) }
+        ensures { ReadsAs let_part (reader.assigned (reader.expr self.now.rules.depth)
+            self.now.rules.inside tokens.old) result tokens.new }
     {
         let name = tokens.name(self.rules.alloc)?;
         tokens.expect(Symbol::Assign)?;
@@ -176,10 +177,10 @@ impl<F: Fn(Global, &mut Cursor<'_>, usize, bool) -> Result<Expr, ParseFault>> Qu
     }
 
     fn assigned_list(&self, tokens: &mut Cursor<'_>) -> Result<Lets, ParseFault>
-        requires { Nests self.now.rules.depth (F.pre self.now.rules.expr) (F.post self.now.rules.expr) }
-        ensures { ReadsAs (map let_part)
-            (separated (reader.assigned (reader.expr self.now.rules.depth) self.now.rules.inside) tokens.old)
-            result tokens.new }
+        requires { Nests self.now.rules.depth (F.pre self.now.rules.expr)
+            (F.post self.now.rules.expr) }
+        ensures { ReadsAs (map let_part) (separated (reader.assigned (reader.expr
+            self.now.rules.depth) self.now.rules.inside) tokens.old) result tokens.new }
     {
         let mut found = Seq::new(self.rules.alloc);
         for _turn in 0..tokens.left() {
@@ -193,9 +194,10 @@ impl<F: Fn(Global, &mut Cursor<'_>, usize, bool) -> Result<Expr, ParseFault>> Qu
 
     #[tactic(auto, unfolding(aql_grammar::specs::Reader::groups))]
     fn groups(&self, tokens: &mut Cursor<'_>) -> Result<Lets, ParseFault>
-        requires { Nests self.now.rules.depth (F.pre self.now.rules.expr) (F.post self.now.rules.expr) }
-        ensures { ReadsAs (map let_part) (reader.groups (reader.expr self.now.rules.depth) self.now.rules.inside
-            tokens.old) result tokens.new }
+        requires { Nests self.now.rules.depth (F.pre self.now.rules.expr)
+            (F.post self.now.rules.expr) }
+        ensures { ReadsAs (map let_part) (reader.groups (reader.expr self.now.rules.depth)
+            self.now.rules.inside tokens.old) result tokens.new }
     {
         if is_name(tokens.peek()) {
             self.assigned_list(tokens)
@@ -206,7 +208,8 @@ impl<F: Fn(Global, &mut Cursor<'_>, usize, bool) -> Result<Expr, ParseFault>> Qu
 
     #[tactic(auto, unfolding(aql_grammar::specs::Reader::let_clause))]
     fn let_clause(&self, tokens: &mut Cursor<'_>) -> Result<Clause, ParseFault>
-        requires { Nests self.now.rules.depth (F.pre self.now.rules.expr) (F.post self.now.rules.expr) }
+        requires { Nests self.now.rules.depth (F.pre self.now.rules.expr)
+            (F.post self.now.rules.expr) }
         ensures { ReadsAs clause_tree (reader.let_clause (reader.expr self.now.rules.depth)
             self.now.rules.inside tokens.old) result tokens.new }
     {
@@ -223,10 +226,11 @@ impl<F: Fn(Global, &mut Cursor<'_>, usize, bool) -> Result<Expr, ParseFault>> Qu
         tokens: &mut Cursor<'_>,
         mut found: Clauses,
     ) -> Result<Clauses, ParseFault>
-        requires { Nests self.now.rules.depth (F.pre self.now.rules.expr) (F.post self.now.rules.expr) }
-        ensures { ReadsAs (map clause_tree)
-            (separated_onto (reader.let_clause (reader.expr self.now.rules.depth) self.now.rules.inside)
-            (map clause_tree found) tokens.old) result tokens.new }
+        requires { Nests self.now.rules.depth (F.pre self.now.rules.expr)
+            (F.post self.now.rules.expr) }
+        ensures { ReadsAs (map clause_tree) (separated_onto (reader.let_clause (reader.expr
+            self.now.rules.depth) self.now.rules.inside) (map clause_tree found) tokens.old) result
+            tokens.new }
     {
         for _turn in 0..tokens.left() {
             found.push(self.let_clause(tokens)?)?;
@@ -238,10 +242,10 @@ impl<F: Fn(Global, &mut Cursor<'_>, usize, bool) -> Result<Expr, ParseFault>> Qu
     }
 
     fn sort_keys(&self, tokens: &mut Cursor<'_>) -> Result<Keys, ParseFault>
-        requires { Nests self.now.rules.depth (F.pre self.now.rules.expr) (F.post self.now.rules.expr) }
-        ensures { ReadsAs (map key_part)
-            (separated (reader.sort_key (reader.expr self.now.rules.depth) self.now.rules.inside) tokens.old)
-            result tokens.new }
+        requires { Nests self.now.rules.depth (F.pre self.now.rules.expr)
+            (F.post self.now.rules.expr) }
+        ensures { ReadsAs (map key_part) (separated (reader.sort_key (reader.expr
+            self.now.rules.depth) self.now.rules.inside) tokens.old) result tokens.new }
     {
         let mut found = Seq::new(self.rules.alloc);
         for _turn in 0..tokens.left() {
@@ -256,9 +260,10 @@ impl<F: Fn(Global, &mut Cursor<'_>, usize, bool) -> Result<Expr, ParseFault>> Qu
     // Behind the opening parenthesis of an aggregate.
     #[tactic(auto, unfolding(aql_grammar::specs::Reader::optional_argument))]
     fn optional_argument(&self, tokens: &mut Cursor<'_>) -> Result<Option<Expr>, ParseFault>
-        requires { Nests self.now.rules.depth (F.pre self.now.rules.expr) (F.post self.now.rules.expr) }
-        ensures { ReadsAs (option_map tree) (reader.optional_argument (reader.expr self.now.rules.depth)
-            self.now.rules.inside tokens.old) result tokens.new }
+        requires { Nests self.now.rules.depth (F.pre self.now.rules.expr)
+            (F.post self.now.rules.expr) }
+        ensures { ReadsAs (option_map tree) (reader.optional_argument (reader.expr
+            self.now.rules.depth) self.now.rules.inside tokens.old) result tokens.new }
     {
         if tokens.eat(Symbol::CloseParen) {
             return Ok(None);
@@ -268,7 +273,8 @@ impl<F: Fn(Global, &mut Cursor<'_>, usize, bool) -> Result<Expr, ParseFault>> Qu
 
     #[tactic(auto, unfolding(aql_grammar::specs::Reader::aggregate))]
     fn aggregate(&self, tokens: &mut Cursor<'_>) -> Result<AggregateItem, ParseFault>
-        requires { Nests self.now.rules.depth (F.pre self.now.rules.expr) (F.post self.now.rules.expr) }
+        requires { Nests self.now.rules.depth (F.pre self.now.rules.expr)
+            (F.post self.now.rules.expr) }
         ensures { ReadsAs aggregate_part (reader.aggregate (reader.expr self.now.rules.depth)
             self.now.rules.inside tokens.old) result tokens.new }
     {
@@ -281,10 +287,10 @@ impl<F: Fn(Global, &mut Cursor<'_>, usize, bool) -> Result<Expr, ParseFault>> Qu
     }
 
     fn aggregate_list(&self, tokens: &mut Cursor<'_>) -> Result<Aggregates, ParseFault>
-        requires { Nests self.now.rules.depth (F.pre self.now.rules.expr) (F.post self.now.rules.expr) }
-        ensures { ReadsAs (map aggregate_part)
-            (separated (reader.aggregate (reader.expr self.now.rules.depth) self.now.rules.inside) tokens.old)
-            result tokens.new }
+        requires { Nests self.now.rules.depth (F.pre self.now.rules.expr)
+            (F.post self.now.rules.expr) }
+        ensures { ReadsAs (map aggregate_part) (separated (reader.aggregate (reader.expr
+            self.now.rules.depth) self.now.rules.inside) tokens.old) result tokens.new }
     {
         let mut found = Seq::new(self.rules.alloc);
         for _turn in 0..tokens.left() {
@@ -298,7 +304,8 @@ impl<F: Fn(Global, &mut Cursor<'_>, usize, bool) -> Result<Expr, ParseFault>> Qu
 
     #[tactic(auto, unfolding(aql_grammar::specs::Reader::aggregates))]
     fn aggregates(&self, tokens: &mut Cursor<'_>) -> Result<Aggregates, ParseFault>
-        requires { Nests self.now.rules.depth (F.pre self.now.rules.expr) (F.post self.now.rules.expr) }
+        requires { Nests self.now.rules.depth (F.pre self.now.rules.expr)
+            (F.post self.now.rules.expr) }
         ensures { ReadsAs (map aggregate_part) (reader.aggregates (reader.expr self.now.rules.depth)
             self.now.rules.inside tokens.old) result tokens.new }
     {
@@ -311,7 +318,8 @@ impl<F: Fn(Global, &mut Cursor<'_>, usize, bool) -> Result<Expr, ParseFault>> Qu
 
     #[tactic(auto, unfolding(aql_grammar::specs::Reader::into))]
     fn into(&self, tokens: &mut Cursor<'_>) -> Result<Option<Into>, ParseFault>
-        requires { Nests self.now.rules.depth (F.pre self.now.rules.expr) (F.post self.now.rules.expr) }
+        requires { Nests self.now.rules.depth (F.pre self.now.rules.expr)
+            (F.post self.now.rules.expr) }
         ensures { ReadsAs (option_map into_part) (reader.into (reader.expr self.now.rules.depth)
             self.now.rules.inside tokens.old) result tokens.new }
     {
@@ -325,9 +333,10 @@ impl<F: Fn(Global, &mut Cursor<'_>, usize, bool) -> Result<Expr, ParseFault>> Qu
     // Behind COLLECT.
     #[tactic(auto, unfolding(aql_grammar::specs::Reader::collect))]
     fn collect(&self, tokens: &mut Cursor<'_>) -> Result<Clause, ParseFault>
-        requires { Nests self.now.rules.depth (F.pre self.now.rules.expr) (F.post self.now.rules.expr) }
-        ensures { ReadsAs clause_tree (reader.collect (reader.expr self.now.rules.depth) self.now.rules.inside
-            tokens.old) result tokens.new }
+        requires { Nests self.now.rules.depth (F.pre self.now.rules.expr)
+            (F.post self.now.rules.expr) }
+        ensures { ReadsAs clause_tree (reader.collect (reader.expr self.now.rules.depth)
+            self.now.rules.inside tokens.old) result tokens.new }
     {
         let groups = self.groups(tokens)?;
         if tokens.eat_keyword(Keyword::With) {
@@ -344,7 +353,8 @@ impl<F: Fn(Global, &mut Cursor<'_>, usize, bool) -> Result<Expr, ParseFault>> Qu
 
     #[tactic(auto, unfolding(aql_grammar::specs::Reader::prune))]
     fn prune(&self, tokens: &mut Cursor<'_>) -> Result<Option<Expr>, ParseFault>
-        requires { Nests self.now.rules.depth (F.pre self.now.rules.expr) (F.post self.now.rules.expr) }
+        requires { Nests self.now.rules.depth (F.pre self.now.rules.expr)
+            (F.post self.now.rules.expr) }
         ensures { ReadsAs (option_map tree) (reader.prune (reader.expr self.now.rules.depth)
             self.now.rules.inside tokens.old) result tokens.new }
     {
@@ -357,7 +367,8 @@ impl<F: Fn(Global, &mut Cursor<'_>, usize, bool) -> Result<Expr, ParseFault>> Qu
 
     #[tactic(auto, unfolding(aql_grammar::specs::Reader::settings))]
     fn settings(&self, tokens: &mut Cursor<'_>) -> Result<Fields, ParseFault>
-        requires { Nests self.now.rules.depth (F.pre self.now.rules.expr) (F.post self.now.rules.expr) }
+        requires { Nests self.now.rules.depth (F.pre self.now.rules.expr)
+            (F.post self.now.rules.expr) }
         ensures { ReadsAs (map member_part) (reader.settings (reader.expr self.now.rules.depth)
             self.now.rules.inside tokens.old) result tokens.new }
     {
@@ -372,9 +383,10 @@ impl<F: Fn(Global, &mut Cursor<'_>, usize, bool) -> Result<Expr, ParseFault>> Qu
     // A traversal, behind IN.
     #[tactic(auto, unfolding(aql_grammar::specs::Reader::walk))]
     fn walk(&self, tokens: &mut Cursor<'_>, names: WalkNames) -> Result<Clause, ParseFault>
-        requires { Nests self.now.rules.depth (F.pre self.now.rules.expr) (F.post self.now.rules.expr) }
-        ensures { ReadsAs clause_tree (reader.walk (reader.expr self.now.rules.depth) self.now.rules.inside
-            (walk_names names) tokens.old) result tokens.new }
+        requires { Nests self.now.rules.depth (F.pre self.now.rules.expr)
+            (F.post self.now.rules.expr) }
+        ensures { ReadsAs clause_tree (reader.walk (reader.expr self.now.rules.depth)
+            self.now.rules.inside (walk_names names) tokens.old) result tokens.new }
     {
         let depth = tokens.depth()?;
         let direction = tokens.way()?;
@@ -390,7 +402,8 @@ impl<F: Fn(Global, &mut Cursor<'_>, usize, bool) -> Result<Expr, ParseFault>> Qu
     // Behind FOR.
     #[tactic(auto, unfolding(aql_grammar::specs::Reader::for_clause))]
     fn for_clause(&self, tokens: &mut Cursor<'_>) -> Result<Clause, ParseFault>
-        requires { Nests self.now.rules.depth (F.pre self.now.rules.expr) (F.post self.now.rules.expr) }
+        requires { Nests self.now.rules.depth (F.pre self.now.rules.expr)
+            (F.post self.now.rules.expr) }
         ensures { ReadsAs clause_tree (reader.for_clause (reader.expr self.now.rules.depth)
             self.now.rules.inside tokens.old) result tokens.new }
     {
@@ -410,7 +423,8 @@ impl<F: Fn(Global, &mut Cursor<'_>, usize, bool) -> Result<Expr, ParseFault>> Qu
     // A clause, behind those that were found.
     #[tactic(auto, unfolding(aql_grammar::specs::Reader::clause))]
     fn clause(&self, tokens: &mut Cursor<'_>, found: Clauses) -> Result<Clauses, ParseFault>
-        requires { Nests self.now.rules.depth (F.pre self.now.rules.expr) (F.post self.now.rules.expr) }
+        requires { Nests self.now.rules.depth (F.pre self.now.rules.expr)
+            (F.post self.now.rules.expr) }
         ensures { ReadsAs (map clause_tree) (reader.clause (reader.expr self.now.rules.depth)
             self.now.rules.inside (map clause_tree found) tokens.old) result tokens.new }
     {
@@ -445,7 +459,8 @@ impl<F: Fn(Global, &mut Cursor<'_>, usize, bool) -> Result<Expr, ParseFault>> Qu
     }
 
     fn clauses(&self, tokens: &mut Cursor<'_>) -> Result<Clauses, ParseFault>
-        requires { Nests self.now.rules.depth (F.pre self.now.rules.expr) (F.post self.now.rules.expr) }
+        requires { Nests self.now.rules.depth (F.pre self.now.rules.expr)
+            (F.post self.now.rules.expr) }
         ensures { ReadsAs (map clause_tree) (reader.clauses (reader.expr self.now.rules.depth)
             self.now.rules.inside tokens.old) result tokens.new }
     {
@@ -462,9 +477,10 @@ impl<F: Fn(Global, &mut Cursor<'_>, usize, bool) -> Result<Expr, ParseFault>> Qu
     /// A query, behind the names of a WITH.
     #[tactic(auto, unfolding(aql_grammar::specs::Reader::query))]
     pub fn query(&self, tokens: &mut Cursor<'_>, with: Names) -> Result<Query, ParseFault>
-        requires { Nests self.now.rules.depth (F.pre self.now.rules.expr) (F.post self.now.rules.expr) }
-        ensures { ReadsAs query_tree (reader.query (reader.expr self.now.rules.depth) self.now.rules.inside with
-            tokens.old) result tokens.new }
+        requires { Nests self.now.rules.depth (F.pre self.now.rules.expr)
+            (F.post self.now.rules.expr) }
+        ensures { ReadsAs query_tree (reader.query (reader.expr self.now.rules.depth)
+            self.now.rules.inside with tokens.old) result tokens.new }
     {
         let clauses = self.clauses(tokens)?;
         tokens.expect_keyword(Keyword::Return)?;

@@ -31,7 +31,8 @@ impl<F: Fn(Global, &mut Cursor<'_>, usize, bool) -> Result<Expr, ParseFault>> Qu
         name: Text,
         inside: bool,
     ) -> Result<Field, ParseFault>
-        requires { Nests self.now.rules.depth (F.pre self.now.rules.expr) (F.post self.now.rules.expr) }
+        requires { Nests self.now.rules.depth (F.pre self.now.rules.expr)
+            (F.post self.now.rules.expr) }
         ensures { ReadsAs member_part (reader.named_member (reader.expr self.now.rules.depth)
             self.now.rules.inside name (unquoted inside name) tokens.old) result tokens.new }
     {
@@ -45,7 +46,8 @@ impl<F: Fn(Global, &mut Cursor<'_>, usize, bool) -> Result<Expr, ParseFault>> Qu
 
     #[tactic(auto, unfolding(aql_grammar::specs::Reader::text_member))]
     fn text_member(&self, tokens: &mut Cursor<'_>, name: Text) -> Result<Field, ParseFault>
-        requires { Nests self.now.rules.depth (F.pre self.now.rules.expr) (F.post self.now.rules.expr) }
+        requires { Nests self.now.rules.depth (F.pre self.now.rules.expr)
+            (F.post self.now.rules.expr) }
         ensures { ReadsAs member_part (reader.text_member (reader.expr self.now.rules.depth)
             self.now.rules.inside name tokens.old) result tokens.new }
     {
@@ -55,7 +57,8 @@ impl<F: Fn(Global, &mut Cursor<'_>, usize, bool) -> Result<Expr, ParseFault>> Qu
 
     #[tactic(auto, unfolding(aql_grammar::specs::Reader::computed_member))]
     fn computed_member(&self, tokens: &mut Cursor<'_>) -> Result<Field, ParseFault>
-        requires { Nests self.now.rules.depth (F.pre self.now.rules.expr) (F.post self.now.rules.expr) }
+        requires { Nests self.now.rules.depth (F.pre self.now.rules.expr)
+            (F.post self.now.rules.expr) }
         ensures { ReadsAs member_part (reader.computed_member (reader.expr self.now.rules.depth)
             self.now.rules.inside tokens.old) result tokens.new }
     {
@@ -66,9 +69,10 @@ impl<F: Fn(Global, &mut Cursor<'_>, usize, bool) -> Result<Expr, ParseFault>> Qu
 
     #[tactic(auto, unfolding(aql_grammar::specs::Reader::member))]
     fn member(&self, tokens: &mut Cursor<'_>) -> Result<Field, ParseFault>
-        requires { Nests self.now.rules.depth (F.pre self.now.rules.expr) (F.post self.now.rules.expr) }
-        ensures { ReadsAs member_part (reader.member (reader.expr self.now.rules.depth) self.now.rules.inside
-            tokens.old) result tokens.new }
+        requires { Nests self.now.rules.depth (F.pre self.now.rules.expr)
+            (F.post self.now.rules.expr) }
+        ensures { ReadsAs member_part (reader.member (reader.expr self.now.rules.depth)
+            self.now.rules.inside tokens.old) result tokens.new }
     {
         match tokens.peek() {
             Some(TokenKind::Word(name)) => {
@@ -94,7 +98,8 @@ impl<F: Fn(Global, &mut Cursor<'_>, usize, bool) -> Result<Expr, ParseFault>> Qu
 
     /// The members of an object, behind the opening brace.
     pub fn members(&self, tokens: &mut Cursor<'_>) -> Result<Fields, ParseFault>
-        requires { Nests self.now.rules.depth (F.pre self.now.rules.expr) (F.post self.now.rules.expr) }
+        requires { Nests self.now.rules.depth (F.pre self.now.rules.expr)
+            (F.post self.now.rules.expr) }
         ensures { ReadsAs (map member_part) (reader.members (reader.expr self.now.rules.depth)
             self.now.rules.inside tokens.old) result tokens.new }
     {
@@ -114,10 +119,10 @@ impl<F: Fn(Global, &mut Cursor<'_>, usize, bool) -> Result<Expr, ParseFault>> Qu
 
     /// The items of a list, behind the opening bracket.
     pub fn items(&self, tokens: &mut Cursor<'_>) -> Result<Exprs, ParseFault>
-        requires { Nests self.now.rules.depth (F.pre self.now.rules.expr) (F.post self.now.rules.expr) }
-        ensures { ReadsAs (map tree)
-            (items symbol.CloseBracket (reader.expr self.now.rules.depth self.now.rules.inside) tokens.old)
-            result tokens.new }
+        requires { Nests self.now.rules.depth (F.pre self.now.rules.expr)
+            (F.post self.now.rules.expr) }
+        ensures { ReadsAs (map tree) (items symbol.CloseBracket (reader.expr self.now.rules.depth
+            self.now.rules.inside) tokens.old) result tokens.new }
     {
         let mut found = Seq::new(self.rules.alloc);
         for _turn in 0..tokens.left() {
@@ -136,7 +141,8 @@ impl<F: Fn(Global, &mut Cursor<'_>, usize, bool) -> Result<Expr, ParseFault>> Qu
     // What a keyword introduces in an inline operator.
     #[tactic(auto, unfolding(aql_grammar::specs::Reader::element))]
     fn element(&self, tokens: &mut Cursor<'_>, keyword: Keyword) -> Result<Option<Expr>, ParseFault>
-        requires { Nests self.now.rules.depth (F.pre self.now.rules.expr) (F.post self.now.rules.expr) }
+        requires { Nests self.now.rules.depth (F.pre self.now.rules.expr)
+            (F.post self.now.rules.expr) }
         ensures { ReadsAs (option_map tree) (reader.element (reader.expr self.now.rules.depth)
             self.now.rules.inside keyword tokens.old) result tokens.new }
     {
@@ -149,7 +155,8 @@ impl<F: Fn(Global, &mut Cursor<'_>, usize, bool) -> Result<Expr, ParseFault>> Qu
 
     #[tactic(auto, unfolding(aql_grammar::specs::Reader::bracket_step))]
     fn bracket_step(&self, tokens: &mut Cursor<'_>) -> Result<Step, ParseFault>
-        requires { Nests self.now.rules.depth (F.pre self.now.rules.expr) (F.post self.now.rules.expr) }
+        requires { Nests self.now.rules.depth (F.pre self.now.rules.expr)
+            (F.post self.now.rules.expr) }
         ensures { ReadsAs step_part (reader.bracket_step (reader.expr self.now.rules.depth)
             self.now.rules.inside tokens.old) result tokens.new }
     {
@@ -165,9 +172,10 @@ impl<F: Fn(Global, &mut Cursor<'_>, usize, bool) -> Result<Expr, ParseFault>> Qu
 
     #[tactic(auto, unfolding(aql_grammar::specs::Reader::step))]
     fn step(&self, tokens: &mut Cursor<'_>) -> Result<Step, ParseFault>
-        requires { Nests self.now.rules.depth (F.pre self.now.rules.expr) (F.post self.now.rules.expr) }
-        ensures { ReadsAs step_part (reader.step (reader.expr self.now.rules.depth) self.now.rules.inside
-            tokens.old) result tokens.new }
+        requires { Nests self.now.rules.depth (F.pre self.now.rules.expr)
+            (F.post self.now.rules.expr) }
+        ensures { ReadsAs step_part (reader.step (reader.expr self.now.rules.depth)
+            self.now.rules.inside tokens.old) result tokens.new }
     {
         match tokens.peek() {
             Some(TokenKind::Symbol(Symbol::Dot)) => {
@@ -184,7 +192,8 @@ impl<F: Fn(Global, &mut Cursor<'_>, usize, bool) -> Result<Expr, ParseFault>> Qu
 
     /// The steps behind an expression, if there are any.
     pub fn steps(&self, tokens: &mut Cursor<'_>) -> Result<Steps, ParseFault>
-        requires { Nests self.now.rules.depth (F.pre self.now.rules.expr) (F.post self.now.rules.expr) }
+        requires { Nests self.now.rules.depth (F.pre self.now.rules.expr)
+            (F.post self.now.rules.expr) }
         ensures { ReadsAs (map step_part)
             (many (at_front reader.begins_step) (reader.step (reader.expr self.now.rules.depth)
             self.now.rules.inside) tokens.old) result tokens.new }

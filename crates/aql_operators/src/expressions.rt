@@ -24,9 +24,10 @@ impl<F: Fn(Global, &mut Cursor<'_>, usize, bool) -> Result<Expr, ParseFault>> Ex
     // An expression, or a query without brackets of its own.
     #[tactic(auto, unfolding(aql_grammar::specs::Reader::argument))]
     fn argument(&self, tokens: &mut Cursor<'_>) -> Result<Expr, ParseFault>
-        requires { Nests self.now.queries.rules.depth (F.pre self.now.queries.rules.expr) (F.post self.now.queries.rules.expr) }
-        ensures { ReadsAs tree (reader.argument (reader.expr self.now.queries.rules.depth) self.now.queries.rules.inside
-            tokens.old) result tokens.new }
+        requires { Nests self.now.queries.rules.depth (F.pre self.now.queries.rules.expr)
+            (F.post self.now.queries.rules.expr) }
+        ensures { ReadsAs tree (reader.argument (reader.expr self.now.queries.rules.depth)
+            self.now.queries.rules.inside tokens.old) result tokens.new }
     {
         if begins_query(tokens.peek()) {
             let query = self
@@ -39,10 +40,11 @@ impl<F: Fn(Global, &mut Cursor<'_>, usize, bool) -> Result<Expr, ParseFault>> Ex
     }
 
     fn argument_list(&self, tokens: &mut Cursor<'_>) -> Result<Exprs, ParseFault>
-        requires { Nests self.now.queries.rules.depth (F.pre self.now.queries.rules.expr) (F.post self.now.queries.rules.expr) }
-        ensures { ReadsAs (map tree)
-            (separated (reader.argument (reader.expr self.now.queries.rules.depth) self.now.queries.rules.inside) tokens.old)
-            result tokens.new }
+        requires { Nests self.now.queries.rules.depth (F.pre self.now.queries.rules.expr)
+            (F.post self.now.queries.rules.expr) }
+        ensures { ReadsAs (map tree) (separated (reader.argument (reader.expr
+            self.now.queries.rules.depth) self.now.queries.rules.inside) tokens.old) result
+            tokens.new }
     {
         let mut found = Seq::new(self.queries.rules.alloc);
         for _turn in 0..tokens.left() {
@@ -57,9 +59,10 @@ impl<F: Fn(Global, &mut Cursor<'_>, usize, bool) -> Result<Expr, ParseFault>> Ex
     // Behind the opening parenthesis of a call.
     #[tactic(auto, unfolding(aql_grammar::specs::Reader::arguments))]
     fn arguments(&self, tokens: &mut Cursor<'_>) -> Result<Exprs, ParseFault>
-        requires { Nests self.now.queries.rules.depth (F.pre self.now.queries.rules.expr) (F.post self.now.queries.rules.expr) }
-        ensures { ReadsAs (map tree) (reader.arguments (reader.expr self.now.queries.rules.depth) self.now.queries.rules.inside
-            tokens.old) result tokens.new }
+        requires { Nests self.now.queries.rules.depth (F.pre self.now.queries.rules.expr)
+            (F.post self.now.queries.rules.expr) }
+        ensures { ReadsAs (map tree) (reader.arguments (reader.expr self.now.queries.rules.depth)
+            self.now.queries.rules.inside tokens.old) result tokens.new }
     {
         if tokens.eat(Symbol::CloseParen) {
             return Ok(Seq::new(self.queries.rules.alloc));
@@ -72,9 +75,10 @@ impl<F: Fn(Global, &mut Cursor<'_>, usize, bool) -> Result<Expr, ParseFault>> Ex
     // Behind a word: a call, or a name.
     #[tactic(auto, unfolding(aql_grammar::specs::Reader::named))]
     fn named(&self, tokens: &mut Cursor<'_>, name: Text) -> Result<Expr, ParseFault>
-        requires { Nests self.now.queries.rules.depth (F.pre self.now.queries.rules.expr) (F.post self.now.queries.rules.expr) }
-        ensures { ReadsAs tree (reader.named (reader.expr self.now.queries.rules.depth) self.now.queries.rules.inside name
-            tokens.old) result tokens.new }
+        requires { Nests self.now.queries.rules.depth (F.pre self.now.queries.rules.expr)
+            (F.post self.now.queries.rules.expr) }
+        ensures { ReadsAs tree (reader.named (reader.expr self.now.queries.rules.depth)
+            self.now.queries.rules.inside name tokens.old) result tokens.new }
     {
         if tokens.eat(Symbol::OpenParen) {
             let args = self.arguments(tokens)?;
@@ -86,9 +90,10 @@ impl<F: Fn(Global, &mut Cursor<'_>, usize, bool) -> Result<Expr, ParseFault>> Ex
 
     #[tactic(auto, unfolding(aql_grammar::specs::Reader::bracketed))]
     fn bracketed(&self, tokens: &mut Cursor<'_>) -> Result<Expr, ParseFault>
-        requires { Nests self.now.queries.rules.depth (F.pre self.now.queries.rules.expr) (F.post self.now.queries.rules.expr) }
-        ensures { ReadsAs tree (reader.bracketed (reader.expr self.now.queries.rules.depth) self.now.queries.rules.inside
-            tokens.old) result tokens.new }
+        requires { Nests self.now.queries.rules.depth (F.pre self.now.queries.rules.expr)
+            (F.post self.now.queries.rules.expr) }
+        ensures { ReadsAs tree (reader.bracketed (reader.expr self.now.queries.rules.depth)
+            self.now.queries.rules.inside tokens.old) result tokens.new }
     {
         let found = self.argument(tokens)?;
         tokens.expect(Symbol::CloseParen).and(Ok(found))
@@ -96,9 +101,10 @@ impl<F: Fn(Global, &mut Cursor<'_>, usize, bool) -> Result<Expr, ParseFault>> Ex
 
     #[tactic(auto, unfolding(aql_grammar::specs::Reader::primary))]
     fn primary(&self, tokens: &mut Cursor<'_>) -> Result<Expr, ParseFault>
-        requires { Nests self.now.queries.rules.depth (F.pre self.now.queries.rules.expr) (F.post self.now.queries.rules.expr) }
-        ensures { ReadsAs tree (reader.primary (reader.expr self.now.queries.rules.depth) self.now.queries.rules.inside
-            tokens.old) result tokens.new }
+        requires { Nests self.now.queries.rules.depth (F.pre self.now.queries.rules.expr)
+            (F.post self.now.queries.rules.expr) }
+        ensures { ReadsAs tree (reader.primary (reader.expr self.now.queries.rules.depth)
+            self.now.queries.rules.inside tokens.old) result tokens.new }
     {
         match tokens.peek() {
             Some(TokenKind::Number(number)) => {
@@ -147,9 +153,10 @@ impl<F: Fn(Global, &mut Cursor<'_>, usize, bool) -> Result<Expr, ParseFault>> Ex
 
     #[tactic(auto, unfolding(aql_grammar::specs::Reader::postfix))]
     fn postfix(&self, tokens: &mut Cursor<'_>) -> Result<Expr, ParseFault>
-        requires { Nests self.now.queries.rules.depth (F.pre self.now.queries.rules.expr) (F.post self.now.queries.rules.expr) }
-        ensures { ReadsAs tree (reader.postfix (reader.expr self.now.queries.rules.depth) self.now.queries.rules.inside
-            tokens.old) result tokens.new }
+        requires { Nests self.now.queries.rules.depth (F.pre self.now.queries.rules.expr)
+            (F.post self.now.queries.rules.expr) }
+        ensures { ReadsAs tree (reader.postfix (reader.expr self.now.queries.rules.depth)
+            self.now.queries.rules.inside tokens.old) result tokens.new }
     {
         let of = self.primary(tokens)?;
         let (of, steps) = both(of, self.queries.steps(tokens))?;
@@ -158,9 +165,10 @@ impl<F: Fn(Global, &mut Cursor<'_>, usize, bool) -> Result<Expr, ParseFault>> Ex
 
     // The turns bound the operators.
     fn unary_from(&self, tokens: &mut Cursor<'_>, turns: usize) -> Result<Expr, ParseFault>
-        requires { Nests self.now.queries.rules.depth (F.pre self.now.queries.rules.expr) (F.post self.now.queries.rules.expr) }
-        ensures { ReadsAs tree (reader.unary_from (reader.expr self.now.queries.rules.depth) self.now.queries.rules.inside turns
-            tokens.old) result tokens.new }
+        requires { Nests self.now.queries.rules.depth (F.pre self.now.queries.rules.expr)
+            (F.post self.now.queries.rules.expr) }
+        ensures { ReadsAs tree (reader.unary_from (reader.expr self.now.queries.rules.depth)
+            self.now.queries.rules.inside turns tokens.old) result tokens.new }
     {
         if turns == 0 {
             return Err(ParseFault::NotInGrammar);
@@ -177,9 +185,10 @@ impl<F: Fn(Global, &mut Cursor<'_>, usize, bool) -> Result<Expr, ParseFault>> Ex
 
     #[tactic(auto, unfolding(aql_grammar::specs::Reader::unary))]
     fn unary(&self, tokens: &mut Cursor<'_>) -> Result<Expr, ParseFault>
-        requires { Nests self.now.queries.rules.depth (F.pre self.now.queries.rules.expr) (F.post self.now.queries.rules.expr) }
-        ensures { ReadsAs tree (reader.unary (reader.expr self.now.queries.rules.depth) self.now.queries.rules.inside
-            tokens.old) result tokens.new }
+        requires { Nests self.now.queries.rules.depth (F.pre self.now.queries.rules.expr)
+            (F.post self.now.queries.rules.expr) }
+        ensures { ReadsAs tree (reader.unary (reader.expr self.now.queries.rules.depth)
+            self.now.queries.rules.inside tokens.old) result tokens.new }
     {
         let turns = tokens.left();
         self.unary_from(tokens, turns)
@@ -189,11 +198,12 @@ impl<F: Fn(Global, &mut Cursor<'_>, usize, bool) -> Result<Expr, ParseFault>> Ex
     #[cycle(level)]
     #[tactic(auto, unfolding(aql_grammar::specs::Reader::link))]
     fn link(&self, tokens: &mut Cursor<'_>, level: u8) -> Result<Link, ParseFault>
-        requires nests { Nests self.now.queries.rules.depth (F.pre self.now.queries.rules.expr) (F.post self.now.queries.rules.expr) }
+        requires nests { Nests self.now.queries.rules.depth (F.pre self.now.queries.rules.expr)
+            (F.post self.now.queries.rules.expr) }
         requires level { 1 ≤ level }
-        ensures { ReadsAs link_part
-            (reader.link (reader.level_at (reader.expr self.now.queries.rules.depth) self.now.queries.rules.inside (level - 1))
-            tokens.old) result tokens.new }
+        ensures { ReadsAs link_part (reader.link (reader.level_at (reader.expr
+            self.now.queries.rules.depth) self.now.queries.rules.inside (level - 1)) tokens.old)
+            result tokens.new }
     {
         let op = tokens.operator()?;
         let right = self.level(tokens, level - 1)?;
@@ -202,12 +212,12 @@ impl<F: Fn(Global, &mut Cursor<'_>, usize, bool) -> Result<Expr, ParseFault>> Ex
 
     #[cycle(level)]
     fn links(&self, tokens: &mut Cursor<'_>, level: u8) -> Result<Links, ParseFault>
-        requires nests { Nests self.now.queries.rules.depth (F.pre self.now.queries.rules.expr) (F.post self.now.queries.rules.expr) }
+        requires nests { Nests self.now.queries.rules.depth (F.pre self.now.queries.rules.expr)
+            (F.post self.now.queries.rules.expr) }
         requires level { 1 ≤ level }
-        ensures { ReadsAs (map link_part)
-            (many (reader.at_level level)
-            (reader.link (reader.level_at (reader.expr self.now.queries.rules.depth) self.now.queries.rules.inside (level - 1)))
-            tokens.old) result tokens.new }
+        ensures { ReadsAs (map link_part) (many (reader.at_level level) (reader.link
+            (reader.level_at (reader.expr self.now.queries.rules.depth)
+            self.now.queries.rules.inside (level - 1))) tokens.old) result tokens.new }
     {
         let mut found = Seq::new(self.queries.rules.alloc);
         for _turn in 0..tokens.left() {
@@ -222,10 +232,11 @@ impl<F: Fn(Global, &mut Cursor<'_>, usize, bool) -> Result<Expr, ParseFault>> Ex
     #[cycle(level)]
     #[tactic(auto, unfolding(aql_grammar::specs::Reader::range))]
     fn range(&self, tokens: &mut Cursor<'_>, level: u8) -> Result<Expr, ParseFault>
-        requires { Nests self.now.queries.rules.depth (F.pre self.now.queries.rules.expr) (F.post self.now.queries.rules.expr) }
-        ensures { ReadsAs tree
-            (reader.range (reader.level_at (reader.expr self.now.queries.rules.depth) self.now.queries.rules.inside level)
-            tokens.old) result tokens.new }
+        requires { Nests self.now.queries.rules.depth (F.pre self.now.queries.rules.expr)
+            (F.post self.now.queries.rules.expr) }
+        ensures { ReadsAs tree (reader.range (reader.level_at (reader.expr
+            self.now.queries.rules.depth) self.now.queries.rules.inside level) tokens.old) result
+            tokens.new }
     {
         let low = self.level(tokens, level)?;
         if tokens.eat(Symbol::Range) {
@@ -239,10 +250,11 @@ impl<F: Fn(Global, &mut Cursor<'_>, usize, bool) -> Result<Expr, ParseFault>> Ex
     #[cycle(level)]
     #[tactic(auto, unfolding(aql_grammar::specs::Reader::array_comparison))]
     fn array_comparison(&self, tokens: &mut Cursor<'_>, level: u8) -> Result<Expr, ParseFault>
-        requires { Nests self.now.queries.rules.depth (F.pre self.now.queries.rules.expr) (F.post self.now.queries.rules.expr) }
-        ensures { ReadsAs tree
-            (reader.array_comparison (reader.level_at (reader.expr self.now.queries.rules.depth) self.now.queries.rules.inside
-            level) tokens.old) result tokens.new }
+        requires { Nests self.now.queries.rules.depth (F.pre self.now.queries.rules.expr)
+            (F.post self.now.queries.rules.expr) }
+        ensures { ReadsAs tree (reader.array_comparison (reader.level_at (reader.expr
+            self.now.queries.rules.depth) self.now.queries.rules.inside level) tokens.old) result
+            tokens.new }
     {
         let left = self.level(tokens, level)?;
         if tokens.rank() != 7 {
@@ -257,11 +269,12 @@ impl<F: Fn(Global, &mut Cursor<'_>, usize, bool) -> Result<Expr, ParseFault>> Ex
     #[cycle(level)]
     #[tactic(auto, unfolding(aql_grammar::specs::Reader::chain))]
     fn chain(&self, tokens: &mut Cursor<'_>, level: u8) -> Result<Expr, ParseFault>
-        requires nests { Nests self.now.queries.rules.depth (F.pre self.now.queries.rules.expr) (F.post self.now.queries.rules.expr) }
+        requires nests { Nests self.now.queries.rules.depth (F.pre self.now.queries.rules.expr)
+            (F.post self.now.queries.rules.expr) }
         requires level { 1 ≤ level }
-        ensures { ReadsAs tree
-            (reader.chain level (reader.level_at (reader.expr self.now.queries.rules.depth) self.now.queries.rules.inside
-            (level - 1)) tokens.old) result tokens.new }
+        ensures { ReadsAs tree (reader.chain level (reader.level_at (reader.expr
+            self.now.queries.rules.depth) self.now.queries.rules.inside (level - 1)) tokens.old)
+            result tokens.new }
     {
         let first = self.level(tokens, level - 1)?;
         let (first, rest) = both(first, self.links(tokens, level))?;
@@ -271,9 +284,10 @@ impl<F: Fn(Global, &mut Cursor<'_>, usize, bool) -> Result<Expr, ParseFault>> Ex
     // An expression whose operators are at most of this level.
     #[cycle(level)]
     fn level(&self, tokens: &mut Cursor<'_>, level: u8) -> Result<Expr, ParseFault>
-        requires { Nests self.now.queries.rules.depth (F.pre self.now.queries.rules.expr) (F.post self.now.queries.rules.expr) }
-        ensures { ReadsAs tree (reader.level_at (reader.expr self.now.queries.rules.depth) self.now.queries.rules.inside level
-            tokens.old) result tokens.new }
+        requires { Nests self.now.queries.rules.depth (F.pre self.now.queries.rules.expr)
+            (F.post self.now.queries.rules.expr) }
+        ensures { ReadsAs tree (reader.level_at (reader.expr self.now.queries.rules.depth)
+            self.now.queries.rules.inside level tokens.old) result tokens.new }
     {
         match level {
             0 => self.unary(tokens),
@@ -286,9 +300,10 @@ impl<F: Fn(Global, &mut Cursor<'_>, usize, bool) -> Result<Expr, ParseFault>> Ex
     /// An expression whose brackets hold expressions one bracket deeper.
     #[tactic(auto, unfolding(aql_grammar::specs::Reader::conditional))]
     pub fn conditional(&self, tokens: &mut Cursor<'_>) -> Result<Expr, ParseFault>
-        requires { Nests self.now.queries.rules.depth (F.pre self.now.queries.rules.expr) (F.post self.now.queries.rules.expr) }
-        ensures { ReadsAs tree (reader.conditional (reader.expr self.now.queries.rules.depth) self.now.queries.rules.inside
-            tokens.old) result tokens.new }
+        requires { Nests self.now.queries.rules.depth (F.pre self.now.queries.rules.expr)
+            (F.post self.now.queries.rules.expr) }
+        ensures { ReadsAs tree (reader.conditional (reader.expr self.now.queries.rules.depth)
+            self.now.queries.rules.inside tokens.old) result tokens.new }
     {
         let test = self.level(tokens, 9)?;
         if tokens.eat(Symbol::Question) {
