@@ -8,6 +8,8 @@ mod evaluation;
 #[cfg(test)]
 mod functions;
 #[cfg(test)]
+mod pages;
+#[cfg(test)]
 mod parsing;
 #[cfg(test)]
 mod tokens;

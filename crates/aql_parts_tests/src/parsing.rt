@@ -1,61 +1,51 @@
 // What `parse` gives for texts whose trees were worked out by hand from the chapter on syntax.
-use aql_func::{BinOp, UnaryOp};
+use crate::pages::{Page, expect};
 use aql_lex::lex;
 use aql_parse::{ParseFault, parse};
 use aql_tree::{
-    AggregateItem, Clause, Collect, Expr, Field, Ident, Into, Key, Let, Link, Options, QuantKind,
-    Query, Step, Traversal,
+    AggregateItem, Clause, Collect, Expr, Field, Ident, Into, Key, Let, Link, Query, Step,
+    Traversal,
 };
-use aql_value::{Names, Value};
-use std::alloc::{AllocError, Global};
+use aql_value::{Text, Value};
+use std::alloc::Global;
 use std::process::Abort;
-use std::test::Fail;
 
-fn write_ident(ident: &Ident, out: &mut String) -> Result<(), AllocError> {
+fn write_ident(before: &str, ident: &Ident, page: &mut Page) {
+    page.put(before);
     match ident {
-        Ident::Name(name) => out.push_str(name.as_str()),
-        Ident::Num(number) => Ok(write!(out, "#{number}")?),
-    }
-}
-
-fn write_named(before: &str, ident: &Option<Ident>, out: &mut String) -> Result<(), AllocError> {
-    match ident {
-        Some(ident) => {
-            out.push_str(before)?;
-            write_ident(ident, out)
+        Ident::Name(name) => page.put(name.as_str()),
+        Ident::Num(number) => {
+            page.put("#");
+            page.put_shown(number);
         }
-        None => Ok(()),
     }
 }
 
-fn write_names(names: &Names, out: &mut String) -> Result<(), AllocError> {
-    for name in names.as_slice() {
-        out.push_str(" ")?;
-        out.push_str(name.as_str())?;
+fn write_named(before: &str, ident: &Option<Ident>, page: &mut Page) {
+    match ident {
+        Some(ident) => write_ident(before, ident, page),
+        None => {}
     }
-    Ok(())
 }
 
-fn write_value(value: &Value, out: &mut String) -> Result<(), AllocError> {
+fn write_names(names: &[Text], page: &mut Page) {
+    for name in names {
+        page.put_pair(" ", name.as_str());
+    }
+}
+
+fn write_value(value: &Value, page: &mut Page) {
     match value {
-        Value::Null => out.push_str("null"),
-        Value::Bool(is_true) => Ok(write!(out, "{is_true}")?),
-        Value::Num(number) => Ok(write!(out, "{number}")?),
-        Value::Text(text) => Ok(write!(out, "'{}'", text.as_str())?),
-        _ => out.push_str("?"),
+        Value::Null => page.put("null"),
+        Value::Bool(true) => page.put("true"),
+        Value::Bool(false) => page.put("false"),
+        Value::Num(number) => page.put_shown(number),
+        Value::Text(text) => {
+            page.put_pair("'", text.as_str());
+            page.put("'");
+        }
+        _ => page.put("?"),
     }
-}
-
-fn write_unary(op: UnaryOp, out: &mut String) -> Result<(), AllocError> {
-    Ok(write!(out, "{op:?} ")?)
-}
-
-fn write_binary(op: BinOp, out: &mut String) -> Result<(), AllocError> {
-    Ok(write!(out, " {op:?} ")?)
-}
-
-fn write_quant(kind: QuantKind, op: BinOp, out: &mut String) -> Result<(), AllocError> {
-    Ok(write!(out, " {kind:?} {op:?} ")?)
 }
 
 // What stands before the parts of an expression.
@@ -84,45 +74,44 @@ fn closing(expr: &Expr) -> &'static str {
 
 // An expression with all its brackets.
 #[cycle(write)]
-fn write_expr(expr: &Expr, out: &mut String) -> Result<(), AllocError> {
-    out.push_str(opening(expr))?;
-    write_parts(expr, out)?;
-    out.push_str(closing(expr))
+fn write_expr(before: &str, expr: &Expr, page: &mut Page) {
+    page.put_pair(before, opening(expr));
+    write_parts(expr, page);
+    page.put(closing(expr));
 }
 
 #[cycle(write)]
-fn write_parts(expr: &Expr, out: &mut String) -> Result<(), AllocError> {
+fn write_parts(expr: &Expr, page: &mut Page) {
     match expr {
-        Expr::Lit(value) => write_value(value, out),
-        Expr::Var(ident) => write_ident(ident, out),
-        Expr::Current => out.push_str("@"),
-        Expr::List(items) => write_exprs(items.as_slice(), out),
-        Expr::Object(fields) => write_fields(fields.as_slice(), out),
+        Expr::Lit(value) => write_value(value, page),
+        Expr::Var(ident) => write_ident("", ident, page),
+        Expr::Current => page.put("@"),
+        Expr::List(items) => write_exprs(items.as_slice(), page),
+        Expr::Object(fields) => write_fields(fields.as_slice(), page),
         Expr::Access { of, steps } => {
-            write_expr(of, out)?;
-            write_steps(steps.as_slice(), out)
+            write_expr("", of, page);
+            write_steps(steps.as_slice(), page);
         }
         Expr::Call { name, args } => {
-            out.push_str(name.as_str())?;
-            out.push_str("(")?;
-            write_exprs(args.as_slice(), out)
+            page.put_pair(name.as_str(), "(");
+            write_exprs(args.as_slice(), page);
         }
-        Expr::Sub(query) => write_query(query, out),
-        _ => write_operation(expr, out),
+        Expr::Sub(query) => write_query(query, page),
+        _ => write_operation(expr, page),
     }
 }
 
 // The parts of an operation, and nothing of another expression.
 #[cycle(write)]
-fn write_operation(expr: &Expr, out: &mut String) -> Result<(), AllocError> {
+fn write_operation(expr: &Expr, page: &mut Page) {
     match expr {
         Expr::Unary { op, of } => {
-            write_unary(*op, out)?;
-            write_expr(of, out)
+            page.put_named(op);
+            write_expr(" ", of, page);
         }
         Expr::Chain { first, rest } => {
-            write_expr(first, out)?;
-            write_links(rest.as_slice(), out)
+            write_expr("", first, page);
+            write_links(rest.as_slice(), page);
         }
         Expr::Quant {
             left,
@@ -130,266 +119,223 @@ fn write_operation(expr: &Expr, out: &mut String) -> Result<(), AllocError> {
             op,
             right,
         } => {
-            write_expr(left, out)?;
-            write_quant(*kind, *op, out)?;
-            write_expr(right, out)
+            write_expr("", left, page);
+            page.put(" ");
+            page.put_named(kind);
+            page.put(" ");
+            page.put_named(op);
+            write_expr(" ", right, page);
         }
         Expr::Cond { test, yes, no } => {
-            write_expr(test, out)?;
-            out.push_str(" ? ")?;
+            write_expr("", test, page);
+            page.put(" ? ");
             if let Some(yes) = yes {
-                write_expr(yes, out)?;
+                write_expr("", yes, page);
             }
-            out.push_str(" : ")?;
-            write_expr(no, out)
+            write_expr(" : ", no, page);
         }
         Expr::Range { low, high } => {
-            write_expr(low, out)?;
-            out.push_str("..")?;
-            write_expr(high, out)
+            write_expr("", low, page);
+            write_expr("..", high, page);
         }
-        _ => Ok(()),
+        _ => {}
     }
 }
 
 #[cycle(write)]
-fn write_optional(expr: &Option<Expr>, out: &mut String) -> Result<(), AllocError> {
-    match expr {
-        Some(expr) => {
-            out.push_str(" ")?;
-            write_expr(expr, out)
-        }
-        None => Ok(()),
+fn write_optional(expr: &Option<Expr>, page: &mut Page) {
+    if let Some(expr) = expr {
+        write_expr(" ", expr, page);
     }
 }
 
 #[cycle(write)]
-fn write_exprs(exprs: &[Expr], out: &mut String) -> Result<(), AllocError> {
+fn write_exprs(exprs: &[Expr], page: &mut Page) {
     for expr in exprs {
-        out.push_str(" ")?;
-        write_expr(expr, out)?;
+        write_expr(" ", expr, page);
     }
-    Ok(())
 }
 
 #[cycle(write)]
-fn write_links(links: &[Link], out: &mut String) -> Result<(), AllocError> {
+fn write_links(links: &[Link], page: &mut Page) {
     for link in links {
-        write_binary(link.op, out)?;
-        write_expr(&link.right, out)?;
+        page.put(" ");
+        page.put_named(&link.op);
+        write_expr(" ", &link.right, page);
     }
-    Ok(())
 }
 
 #[cycle(write)]
-fn write_fields(fields: &[Field], out: &mut String) -> Result<(), AllocError> {
+fn write_fields(fields: &[Field], page: &mut Page) {
     for field in fields {
-        write_field(field, out)?;
-    }
-    Ok(())
-}
-
-#[cycle(write)]
-fn write_field(field: &Field, out: &mut String) -> Result<(), AllocError> {
-    match field {
-        Field::Named { name, value } => {
-            out.push_str(" ")?;
-            out.push_str(name.as_str())?;
-            out.push_str(": ")?;
-            write_expr(value, out)
-        }
-        Field::Computed { name, value } => {
-            out.push_str(" [")?;
-            write_expr(name, out)?;
-            out.push_str("]: ")?;
-            write_expr(value, out)
+        match field {
+            Field::Named { name, value } => {
+                page.put_pair(" ", name.as_str());
+                write_expr(": ", value, page);
+            }
+            Field::Computed { name, value } => {
+                write_expr(" [", name, page);
+                write_expr("]: ", value, page);
+            }
         }
     }
 }
 
 #[cycle(write)]
-fn write_steps(steps: &[Step], out: &mut String) -> Result<(), AllocError> {
+fn write_steps(steps: &[Step], page: &mut Page) {
     for step in steps {
-        write_step(step, out)?;
-    }
-    Ok(())
-}
-
-#[cycle(write)]
-fn write_step(step: &Step, out: &mut String) -> Result<(), AllocError> {
-    match step {
-        Step::Name(name) => {
-            out.push_str(".")?;
-            out.push_str(name.as_str())
-        }
-        Step::At(expr) => {
-            out.push_str("[")?;
-            write_expr(expr, out)?;
-            out.push_str("]")
-        }
-        Step::Each { filter, project } => {
-            out.push_str("[* filter")?;
-            write_optional(filter, out)?;
-            out.push_str(" return")?;
-            write_optional(project, out)?;
-            out.push_str("]")
+        match step {
+            Step::Name(name) => page.put_pair(".", name.as_str()),
+            Step::At(expr) => {
+                write_expr("[", expr, page);
+                page.put("]");
+            }
+            Step::Each { filter, project } => {
+                page.put("[* filter");
+                write_optional(filter, page);
+                page.put(" return");
+                write_optional(project, page);
+                page.put("]");
+            }
         }
     }
 }
 
 #[cycle(write)]
-fn write_keys(keys: &[Key], out: &mut String) -> Result<(), AllocError> {
+fn write_keys(keys: &[Key], page: &mut Page) {
     for key in keys {
-        out.push_str(" ")?;
-        write_expr(&key.expr, out)?;
-        out.push_str(if key.descending { " desc" } else { "" })?;
+        write_expr(" ", &key.expr, page);
+        page.put(if key.descending { " desc" } else { "" });
     }
-    Ok(())
 }
 
 #[cycle(write)]
-fn write_groups(groups: &[Let], out: &mut String) -> Result<(), AllocError> {
+fn write_groups(groups: &[Let], page: &mut Page) {
     for group in groups {
-        out.push_str(" ")?;
-        write_ident(&group.var, out)?;
-        out.push_str(" = ")?;
-        write_expr(&group.expr, out)?;
+        write_ident(" ", &group.var, page);
+        write_expr(" = ", &group.expr, page);
     }
-    Ok(())
 }
 
 #[cycle(write)]
-fn write_aggregates(items: &[AggregateItem], out: &mut String) -> Result<(), AllocError> {
+fn write_aggregates(items: &[AggregateItem], page: &mut Page) {
     for item in items {
-        out.push_str(" aggregate ")?;
-        write_ident(&item.var, out)?;
-        out.push_str(" = ")?;
-        out.push_str(item.name.as_str())?;
-        out.push_str("(")?;
-        write_optional(&item.arg, out)?;
-        out.push_str(" )")?;
+        write_ident(" aggregate ", &item.var, page);
+        page.put_pair(" = ", item.name.as_str());
+        page.put("(");
+        write_optional(&item.arg, page);
+        page.put(" )");
     }
-    Ok(())
 }
 
 #[cycle(write)]
-fn write_into(into: &Into, out: &mut String) -> Result<(), AllocError> {
-    out.push_str(" into ")?;
-    write_ident(&into.var, out)?;
-    write_optional(&into.what, out)?;
-    out.push_str(" keep")?;
-    write_names(&into.keep, out)
+fn write_collect(collect: &Collect, page: &mut Page) {
+    page.put(" collect");
+    write_groups(collect.groups.as_slice(), page);
+    write_aggregates(collect.aggregates.as_slice(), page);
+    if let Some(into) = &collect.into {
+        write_into(into, page);
+    }
 }
 
 #[cycle(write)]
-fn write_collect(collect: &Collect, out: &mut String) -> Result<(), AllocError> {
-    out.push_str(" collect")?;
-    write_groups(collect.groups.as_slice(), out)?;
-    write_aggregates(collect.aggregates.as_slice(), out)?;
-    match &collect.into {
-        Some(into) => write_into(into, out),
-        None => Ok(()),
-    }
+fn write_into(into: &Into, page: &mut Page) {
+    write_ident(" into ", &into.var, page);
+    write_optional(&into.what, page);
+    page.put(" keep");
+    write_names(into.keep.as_slice(), page);
 }
 
 // The variables, depths and direction of a traversal.
-fn write_bounds(walk: &Traversal, out: &mut String) -> Result<(), AllocError> {
-    out.push_str(" walk ")?;
-    write_ident(&walk.vertex, out)?;
-    write_named(" edge ", &walk.edge, out)?;
-    write_named(" path ", &walk.path, out)?;
-    write!(out, " {}..{} {:?} ", walk.min, walk.max, walk.direction)?;
-    Ok(())
+fn write_bounds(walk: &Traversal, page: &mut Page) {
+    write_ident(" walk ", &walk.vertex, page);
+    write_named(" edge ", &walk.edge, page);
+    write_named(" path ", &walk.path, page);
+    page.put(" ");
+    page.put_shown(&walk.min);
+    page.put("..");
+    page.put_shown(&walk.max);
+    page.put(" ");
+    page.put_named(&walk.direction);
 }
 
 #[cycle(write)]
-fn write_options(options: &Options, out: &mut String) -> Result<(), AllocError> {
-    out.push_str(" options")?;
-    write_fields(options.settings.as_slice(), out)
+fn write_walk(walk: &Traversal, page: &mut Page) {
+    write_bounds(walk, page);
+    write_expr(" ", &walk.start, page);
+    write_names(walk.collections.as_slice(), page);
+    page.put(" prune");
+    write_optional(&walk.prune, page);
+    page.put(" options");
+    write_fields(walk.options.settings.as_slice(), page);
 }
 
 #[cycle(write)]
-fn write_walk(walk: &Traversal, out: &mut String) -> Result<(), AllocError> {
-    write_bounds(walk, out)?;
-    write_expr(&walk.start, out)?;
-    write_names(&walk.collections, out)?;
-    out.push_str(" prune")?;
-    write_optional(&walk.prune, out)?;
-    write_options(&walk.options, out)
-}
-
-#[cycle(write)]
-fn write_clause(clause: &Clause, out: &mut String) -> Result<(), AllocError> {
+fn write_clause(clause: &Clause, page: &mut Page) {
     match clause {
         Clause::For { var, list } => {
-            out.push_str(" for ")?;
-            write_ident(var, out)?;
-            out.push_str(" in ")?;
-            write_expr(list, out)
+            write_ident(" for ", var, page);
+            write_expr(" in ", list, page);
         }
-        Clause::ForDocs { .. } => out.push_str(" documents"),
-        Clause::Walk(walk) => write_walk(walk, out),
-        Clause::Filter(expr) => {
-            out.push_str(" filter ")?;
-            write_expr(expr, out)
-        }
+        Clause::ForDocs { .. } => page.put(" documents"),
+        Clause::Walk(walk) => write_walk(walk, page),
+        Clause::Filter(expr) => write_expr(" filter ", expr, page),
         Clause::Let { var, expr } => {
-            out.push_str(" let ")?;
-            write_ident(var, out)?;
-            out.push_str(" = ")?;
-            write_expr(expr, out)
+            write_ident(" let ", var, page);
+            write_expr(" = ", expr, page);
         }
         Clause::Sort(keys) => {
-            out.push_str(" sort")?;
-            write_keys(keys.as_slice(), out)
+            page.put(" sort");
+            write_keys(keys.as_slice(), page);
         }
-        Clause::Limit { offset, count } => Ok(write!(out, " limit {offset} {count}")?),
-        Clause::Collect(collect) => write_collect(collect, out),
+        Clause::Limit { offset, count } => {
+            page.put(" limit ");
+            page.put_shown(offset);
+            page.put(" ");
+            page.put_shown(count);
+        }
+        Clause::Collect(collect) => write_collect(collect, page),
     }
 }
 
 #[cycle(write)]
-fn write_clauses(clauses: &[Clause], out: &mut String) -> Result<(), AllocError> {
-    for clause in clauses {
-        write_clause(clause, out)?;
-    }
-    Ok(())
-}
-
-#[cycle(write)]
-fn write_query(query: &Query, out: &mut String) -> Result<(), AllocError> {
+fn write_query(query: &Query, page: &mut Page) {
     if query.with.len() > 0 {
-        out.push_str(" with")?;
-        write_names(&query.with, out)?;
+        page.put(" with");
+        write_names(query.with.as_slice(), page);
     }
-    write_clauses(query.clauses.as_slice(), out)?;
-    out.push_str(" return ")?;
-    out.push_str(if query.distinct { "distinct " } else { "" })?;
-    write_expr(&query.result, out)
+    for clause in query.clauses.as_slice() {
+        write_clause(clause, page);
+    }
+    page.put(" return ");
+    let distinct = if query.distinct { "distinct " } else { "" };
+    write_expr(distinct, &query.result, page);
 }
 
-// What `parse` gives for a text.
-fn parsed(alloc: Global, text: &str) -> Result<Result<Query, ParseFault>, Fail> {
-    if text.len() > 65536 {
-        return Err(Fail::new("a text is too long"));
+fn write_parsed(parsed: &Result<Query, ParseFault>, page: &mut Page) {
+    match parsed {
+        Ok(query) => write_query(query, page),
+        Err(fault) => page.put_shown(fault),
     }
-    let tokens = lex(alloc, text)?;
-    Ok(parse(alloc, &tokens))
 }
 
 // The tree of a text, or the fault.
-fn shown(alloc: Global, text: &str) -> Result<String, Fail> {
-    let mut out = String::new(alloc);
-    match parsed(alloc, text)? {
-        Ok(query) => write_query(&query, &mut out)?,
-        Err(fault) => write!(out, "{fault}")?,
+fn shown(alloc: Global, text: &str) -> Page {
+    let mut page = Page::new(alloc);
+    if text.len() > 65536 {
+        page.put("a text is too long");
+    } else {
+        match lex(alloc, text) {
+            Ok(tokens) => write_parsed(&parse(alloc, &tokens), &mut page),
+            Err(_) => page.put("no tokens"),
+        }
     }
-    Ok(out)
+    page
 }
 
 const NOT: &str = "not in the grammar";
 
-static EXPRESSIONS: [(&str, &str); 68] = [
+static LITERALS: [(&str, &str); 7] = [
     ("1", "1"),
     ("'a'", "'a'"),
     ("null", "null"),
@@ -397,6 +343,9 @@ static EXPRESSIONS: [(&str, &str); 68] = [
     ("false", "false"),
     ("x", "x"),
     ("`x y`", "x y"),
+];
+
+static SUMS_AND_RANGES: [(&str, &str); 7] = [
     ("10 - 3 - 2", "(10 Sub 3 Sub 2)"),
     ("1 + 2 * 3", "(1 Add (2 Mul 3))"),
     ("(1 + 2) * 3", "((1 Add 2) Mul 3)"),
@@ -404,6 +353,9 @@ static EXPRESSIONS: [(&str, &str); 68] = [
     ("1 + 2 .. 3 + 4", "((1 Add 2)..(3 Add 4))"),
     ("1..2..3", NOT),
     ("1..2 < 3", "((1..2) Lt 3)"),
+];
+
+static COMPARISONS: [(&str, &str); 10] = [
     ("1 < 2 <= 3 > 4 >= 5", "(1 Lt 2 Le 3 Gt 4 Ge 5)"),
     ("1 < 2 IN x", "((1 Lt 2) IsIn x)"),
     ("1 NOT IN x", "(1 NotIn x)"),
@@ -414,12 +366,18 @@ static EXPRESSIONS: [(&str, &str); 68] = [
     ("x == y != z", "(x Eq y Ne z)"),
     ("x LIKE 'a'", "(x Like 'a')"),
     ("x NOT LIKE 'a'", "(x NotLike 'a')"),
+];
+
+static QUANTIFIERS: [(&str, &str); 6] = [
     ("x ALL == y", "(x All Eq y)"),
     ("x ANY NOT IN y", "(x Any NotIn y)"),
     ("x NONE >= y", "(x None Ge y)"),
     ("x ANY LIKE y", NOT),
     ("x ANY == y ANY == z", NOT),
     ("x == 1 ANY == y == 2", "((x Eq 1) Any Eq (y Eq 2))"),
+];
+
+static CHOICES: [(&str, &str); 8] = [
     ("a || b && c", "(a Or (b And c))"),
     ("a OR b AND c", "(a Or (b And c))"),
     ("a && b || c", "((a And b) Or c)"),
@@ -428,10 +386,16 @@ static EXPRESSIONS: [(&str, &str); 68] = [
     ("a ? : c", "(a ?  : c)"),
     ("a ? b ? 1 : 2 : c", "(a ? (b ? 1 : 2) : c)"),
     ("a || b ? c : d ? e : f", "((a Or b) ? c : (d ? e : f))"),
+];
+
+static SIGNS: [(&str, &str); 4] = [
     ("-1", "(Minus 1)"),
     ("- - 1", "(Minus (Minus 1))"),
     ("1 - -1", "(1 Sub (Minus 1))"),
     ("!x.y", "(Not <x.y>)"),
+];
+
+static ACCESSES: [(&str, &str); 6] = [
     ("x.y.`z z`[1]", "<x.y.z z[1]>"),
     ("x[*]", "<x[* filter return]>"),
     (
@@ -441,17 +405,26 @@ static EXPRESSIONS: [(&str, &str); 68] = [
     ("x[* RETURN `CURRENT`]", "<x[* filter return CURRENT]>"),
     ("CURRENT", "CURRENT"),
     ("x[* RETURN current]", "<x[* filter return current]>"),
+];
+
+static ARRAYS: [(&str, &str); 6] = [
     ("[]", "[ ]"),
     ("[1, 2]", "[ 1 2 ]"),
     ("[1, 2,]", "[ 1 2 ]"),
     ("[1, 2,,]", NOT),
     ("[1,,]", NOT),
     ("[,]", NOT),
+];
+
+static OBJECTS: [(&str, &str); 5] = [
     ("{}", "{ }"),
     ("{x}", "{ x: x }"),
     ("{x: 1, 'y z': 2, [z]: 3,}", "{ x: 1 y z: 2 [z]: 3 }"),
     ("{'y'}", NOT),
     ("{a,,}", NOT),
+];
+
+static CALLS: [(&str, &str); 9] = [
     ("F()", "F( )"),
     ("F(1, 2)", "F( 1 2 )"),
     ("F(1,)", NOT),
@@ -463,7 +436,7 @@ static EXPRESSIONS: [(&str, &str); 68] = [
     ("x.1", NOT),
 ];
 
-static QUERIES: [(&str, &str); 50] = [
+static RETURNS: [(&str, &str); 7] = [
     ("", NOT),
     ("RETURN", NOT),
     ("RETURN 1,", NOT),
@@ -471,6 +444,9 @@ static QUERIES: [(&str, &str); 50] = [
     ("WITH c, d RETURN 1", " with c d return 1"),
     ("WITH RETURN 1", NOT),
     ("RETURN (WITH c RETURN 1)", NOT),
+];
+
+static CLAUSES: [(&str, &str); 11] = [
     ("FOR x IN c RETURN x", " for x in c return x"),
     ("FOR x, y IN c RETURN x", NOT),
     ("FOR FOR IN c RETURN 1", NOT),
@@ -485,6 +461,9 @@ static QUERIES: [(&str, &str); 50] = [
     ("LIMIT 1, 2 RETURN 1", " limit 1 2 return 1"),
     ("LIMIT x RETURN 1", NOT),
     ("LIMIT RETURN 1", NOT),
+];
+
+static GROUPINGS: [(&str, &str); 9] = [
     ("COLLECT RETURN 1", NOT),
     (
         "COLLECT WITH COUNT INTO n RETURN n",
@@ -512,12 +491,18 @@ static QUERIES: [(&str, &str); 50] = [
         " collect into KEEP keep KEEP return 1",
     ),
     ("COLLECT INTO g = 1 KEEP a RETURN g", NOT),
+];
+
+static AGGREGATES: [(&str, &str); 3] = [
     (
         "COLLECT a = 1 AGGREGATE s = SUM(x), n = LENGTH() INTO g RETURN 1",
         " collect a = 1 aggregate s = SUM( x ) aggregate n = LENGTH( ) into g keep return 1",
     ),
     ("COLLECT AGGREGATE s = SUM(x, y) RETURN 1", NOT),
     ("COLLECT COUNT = 1 RETURN 1", " collect COUNT = 1 return 1"),
+];
+
+static WALKS: [(&str, &str); 5] = [
     (
         "FOR v IN OUTBOUND s e RETURN v",
         " walk v 1..1 Outbound s e prune options return v",
@@ -538,6 +523,9 @@ static QUERIES: [(&str, &str); 50] = [
         "FOR v IN OUTBOUND s PRUNE PRUNE (c) RETURN v",
         " walk v 1..1 Outbound s PRUNE prune c options return v",
     ),
+];
+
+static WALK_WORDS: [(&str, &str); 4] = [
     (
         "FOR v IN OUTBOUND s OPTIONS OPTIONS {} RETURN v",
         " walk v 1..1 Outbound s OPTIONS prune options return v",
@@ -548,6 +536,9 @@ static QUERIES: [(&str, &str); 50] = [
     ),
     ("FOR v IN OUTBOUND s RETURN v", NOT),
     ("FOR v IN 1.. OUTBOUND s c RETURN v", NOT),
+];
+
+static LOOPS: [(&str, &str); 4] = [
     (
         "FOR x IN 1..2 ANY == y RETURN x",
         " for x in ((1..2) Any Eq y) return x",
@@ -564,6 +555,9 @@ static QUERIES: [(&str, &str); 50] = [
         "FOR v IN 1..2 ANY -x c RETURN v",
         " walk v 1..2 Any (Minus x) c prune options return v",
     ),
+];
+
+static DEPTHS: [(&str, &str); 5] = [
     (
         "FOR v IN 1..32 OUTBOUND s c RETURN v",
         " walk v 1..32 Outbound s c prune options return v",
@@ -581,6 +575,9 @@ static QUERIES: [(&str, &str); 50] = [
         "FOR v IN 1..9223372036854775807 ANY s c RETURN v",
         "a traversal goes too deep",
     ),
+];
+
+static WHOLE_QUERIES: [(&str, &str); 2] = [
     (
         "FOR x IN (FOR y IN c RETURN y) RETURN x",
         " for x in (query for y in c return y) return x",
@@ -588,28 +585,50 @@ static QUERIES: [(&str, &str); 50] = [
     ("RETURN x ? 1 : 2 RETURN 3", NOT),
 ];
 
-#[test]
-fn trees_of_queries(rt: HostRuntime) -> Result<(), Fail> {
-    for (text, tree) in &QUERIES {
-        assert_eq!(rt; shown(rt.alloc(), text)?.as_str(), *tree, "of {text}");
+fn check_queries(rt: &impl Abort, alloc: Global, rows: &[(&str, &str)]) {
+    for (text, tree) in rows {
+        shown(alloc, text).judge(rt, tree, text);
     }
-    Ok(())
 }
 
 #[test]
-fn trees_of_expressions(rt: HostRuntime) -> Result<(), Fail> {
+fn trees_of_queries(rt: HostRuntime) {
     let alloc = rt.alloc();
-    for (text, tree) in &EXPRESSIONS {
-        let whole = format!(in alloc; "RETURN {text}")?;
-        let front = if *tree == NOT { "" } else { " return " };
-        let expected = format!(in alloc; "{front}{tree}")?;
-        assert_eq!(rt;
-            shown(alloc, whole.as_str())?.as_str(),
-            expected.as_str(),
-            "of {text}"
-        );
+    check_queries(&rt, alloc, &RETURNS);
+    check_queries(&rt, alloc, &CLAUSES);
+    check_queries(&rt, alloc, &GROUPINGS);
+    check_queries(&rt, alloc, &AGGREGATES);
+    check_queries(&rt, alloc, &WALKS);
+    check_queries(&rt, alloc, &WALK_WORDS);
+    check_queries(&rt, alloc, &LOOPS);
+    check_queries(&rt, alloc, &DEPTHS);
+    check_queries(&rt, alloc, &WHOLE_QUERIES);
+}
+
+// Both behind a RETURN.
+fn check_expressions(rt: &impl Abort, alloc: Global, rows: &[(&str, &str)]) {
+    for (text, tree) in rows {
+        let mut whole = Page::new(alloc);
+        whole.put_pair("RETURN ", text);
+        let mut expected = Page::new(alloc);
+        expected.put_pair(if *tree == NOT { "" } else { " return " }, tree);
+        shown(alloc, whole.as_str()).judge(rt, expected.as_str(), text);
     }
-    Ok(())
+}
+
+#[test]
+fn trees_of_expressions(rt: HostRuntime) {
+    let alloc = rt.alloc();
+    check_expressions(&rt, alloc, &LITERALS);
+    check_expressions(&rt, alloc, &SUMS_AND_RANGES);
+    check_expressions(&rt, alloc, &COMPARISONS);
+    check_expressions(&rt, alloc, &QUANTIFIERS);
+    check_expressions(&rt, alloc, &CHOICES);
+    check_expressions(&rt, alloc, &SIGNS);
+    check_expressions(&rt, alloc, &ACCESSES);
+    check_expressions(&rt, alloc, &ARRAYS);
+    check_expressions(&rt, alloc, &OBJECTS);
+    check_expressions(&rt, alloc, &CALLS);
 }
 
 // Pieces of a text, each with how many times it stands there.
@@ -648,33 +667,36 @@ static TOO_MANY: [Pieces; 2] = [
     [("FILTER 1 ", 256), ("RETURN 1", 1), ("", 0), ("", 0)],
 ];
 
-// What the text of these pieces is refused with, or nothing where it has a tree.
-fn fault(alloc: Global, pieces: &[(&str, usize)]) -> Result<Option<ParseFault>, Fail> {
-    let mut text = String::new(alloc);
-    for (piece, times) in pieces {
-        for _ in 0..*times {
-            text.push_str(piece)?;
-        }
+// Whether the text is refused with this, or has a tree where there is no fault.
+fn is_judged(alloc: Global, text: &str, fault: Option<ParseFault>) -> bool {
+    if text.len() > 65536 {
+        return false;
     }
-    Ok(parsed(alloc, text.as_str())?.err())
+    match lex(alloc, text) {
+        Ok(tokens) => parse(alloc, &tokens).err() == fault,
+        Err(_) => false,
+    }
 }
 
-fn check_faults(
-    rt: &impl Abort,
-    alloc: Global,
-    rows: &[Pieces],
-    want: Option<ParseFault>,
-) -> Result<(), Fail> {
+fn check_faults(rt: &impl Abort, alloc: Global, rows: &[Pieces], fault: Option<ParseFault>) {
     for pieces in rows {
-        assert!(rt; fault(alloc, pieces)? == want, "{pieces:?}");
+        let mut text = Page::new(alloc);
+        for (piece, times) in pieces {
+            text.put_times(piece, *times);
+        }
+        expect(
+            rt,
+            is_judged(alloc, text.as_str(), fault),
+            text.as_str(),
+            "",
+        );
     }
-    Ok(())
 }
 
 #[test]
-fn limits(rt: HostRuntime) -> Result<(), Fail> {
+fn limits(rt: HostRuntime) {
     let alloc = rt.alloc();
-    check_faults(&rt, alloc, &WITHIN, None)?;
-    check_faults(&rt, alloc, &TOO_DEEP, Some(ParseFault::TooDeep))?;
-    check_faults(&rt, alloc, &TOO_MANY, Some(ParseFault::TooManyClauses))
+    check_faults(&rt, alloc, &WITHIN, None);
+    check_faults(&rt, alloc, &TOO_DEEP, Some(ParseFault::TooDeep));
+    check_faults(&rt, alloc, &TOO_MANY, Some(ParseFault::TooManyClauses));
 }

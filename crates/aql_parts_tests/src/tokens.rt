@@ -1,54 +1,64 @@
 // What `lex` gives for texts whose tokens were worked out by hand from the chapter on tokens.
+use crate::pages::Page;
 use aql_lex::{LexFault, Token, TokenKind, lex, text_has_one_reading};
-use std::alloc::{AllocError, Global};
+use std::alloc::Global;
 use std::process::Abort;
-use std::test::Fail;
 
-fn write_kind(kind: &TokenKind, out: &mut String) -> Result<(), AllocError> {
+fn write_kind(kind: &TokenKind, page: &mut Page) {
     match kind {
-        TokenKind::Word(name) => write!(out, "w:{}", name.as_str())?,
-        TokenKind::Quoted(name) => write!(out, "q:{}", name.as_str())?,
-        TokenKind::Keyword(keyword) => write!(out, "k:{keyword:?}")?,
-        TokenKind::Number(number) => write!(out, "n:{number}")?,
-        TokenKind::Text(value) => write!(out, "t:{}", value.as_str())?,
-        TokenKind::Symbol(symbol) => write!(out, "s:{symbol:?}")?,
+        TokenKind::Word(name) => page.put_pair("w:", name.as_str()),
+        TokenKind::Quoted(name) => page.put_pair("q:", name.as_str()),
+        TokenKind::Text(value) => page.put_pair("t:", value.as_str()),
+        TokenKind::Keyword(keyword) => {
+            page.put("k:");
+            page.put_named(keyword);
+        }
+        TokenKind::Number(number) => {
+            page.put("n:");
+            page.put_shown(number);
+        }
+        TokenKind::Symbol(symbol) => {
+            page.put("s:");
+            page.put_named(symbol);
+        }
     }
-    Ok(())
 }
 
 // Each token as its first byte, the byte behind it, a letter for its kind, and what it holds.
-fn write_tokens(tokens: &[Token], out: &mut String) -> Result<(), AllocError> {
+fn write_tokens(tokens: &[Token], page: &mut Page) {
     for token in tokens {
-        if !out.is_empty() {
-            out.push_str(", ")?;
+        if !page.as_str().is_empty() {
+            page.put(", ");
         }
-        write!(out, "{}-{} ", token.start, token.end)?;
-        write_kind(&token.kind, out)?;
+        page.put_shown(&token.start);
+        page.put("-");
+        page.put_shown(&token.end);
+        page.put(" ");
+        write_kind(&token.kind, page);
     }
-    Ok(())
 }
 
-fn write_fault(fault: &LexFault, out: &mut String) -> Result<(), AllocError> {
+fn write_fault(fault: LexFault, page: &mut Page) {
     match fault {
-        LexFault::At { place, kind } => write!(out, "{place}: {kind}")?,
-        LexFault::Memory => write!(out, "no memory")?,
+        LexFault::At { place, kind } => {
+            page.put_shown(&place);
+            page.put(": ");
+            page.put_shown(&kind);
+        }
+        LexFault::Memory => page.put("no memory"),
     }
-    Ok(())
 }
 
-fn shown(alloc: Global, text: &str) -> Result<String, AllocError> {
-    let mut out = String::new(alloc);
-    if text.len() > 65536 {
-        return Ok(out);
+fn write_lexed(alloc: Global, text: &str, page: &mut Page) {
+    if text.len() <= 65536 {
+        match lex(alloc, text) {
+            Ok(tokens) => write_tokens(tokens.as_slice(), page),
+            Err(fault) => write_fault(fault, page),
+        }
     }
-    match lex(alloc, text) {
-        Ok(tokens) => write_tokens(tokens.as_slice(), &mut out)?,
-        Err(fault) => write_fault(&fault, &mut out)?,
-    }
-    Ok(out)
 }
 
-static TOKENS: [(&str, &str); 79] = [
+static WORDS: [(&str, &str); 9] = [
     ("", ""),
     (" \t\r\n", ""),
     ("a", "0-1 w:a"),
@@ -61,6 +71,9 @@ static TOKENS: [(&str, &str); 79] = [
         "0-4 w:fore, 5-8 w:in_, 9-12 w:_in, 13-16 w:inn",
     ),
     ("a\tb\r\nc", "0-1 w:a, 2-3 w:b, 5-6 w:c"),
+];
+
+static KEYWORDS: [(&str, &str); 2] = [
     (
         "for FOR For fOr",
         "0-3 k:For, 4-7 k:For, 8-11 k:For, 12-15 k:For",
@@ -80,6 +93,9 @@ static TOKENS: [(&str, &str); 79] = [
             k:ShortestPath, 215-219 k:Sort, 220-224 k:True, 225-231 k:Update, 232-238 \
             k:Upsert, 239-245 k:Window, 246-250 k:With",
     ),
+];
+
+static QUOTED_NAMES: [(&str, &str); 7] = [
     ("`a b`", "0-5 q:a b"),
     ("`FOR`", "0-5 q:FOR"),
     ("`é`", "0-4 q:é"),
@@ -87,6 +103,9 @@ static TOKENS: [(&str, &str); 79] = [
     ("`\"`", "0-3 q:\""),
     ("`a``b`", "0-3 q:a, 3-6 q:b"),
     ("`//\n`", "0-5 q://\n"),
+];
+
+static NUMBERS: [(&str, &str); 15] = [
     ("0", "0-1 n:0"),
     ("007", "0-3 n:7"),
     ("9223372036854775807", "0-19 n:9223372036854775807"),
@@ -102,6 +121,9 @@ static TOKENS: [(&str, &str); 79] = [
     ("a.5", "0-1 w:a, 1-2 s:Dot, 2-3 n:5"),
     ("-1", "0-1 s:Minus, 1-2 n:1"),
     ("1_0", "0-1 n:1, 1-3 w:_0"),
+];
+
+static TEXTS: [(&str, &str); 10] = [
     ("\"\"", "0-2 t:"),
     ("''", "0-2 t:"),
     ("\"a\"", "0-3 t:a"),
@@ -112,6 +134,9 @@ static TOKENS: [(&str, &str); 79] = [
     ("\"a\\\"b\"", "0-6 t:a\"b"),
     ("'\\''", "0-4 t:'"),
     ("\"\\\\\"", "0-4 t:\\"),
+];
+
+static ESCAPES: [(&str, &str); 10] = [
     ("\"\\/\"", "0-4 t:/"),
     ("\"\\b\\f\\n\\r\\t\"", "0-12 t:\u{8}\u{c}\n\r\t"),
     ("\"\\u00e9\"", "0-8 t:é"),
@@ -122,6 +147,9 @@ static TOKENS: [(&str, &str); 79] = [
     ("\"\\ud800\\udc00\"", "0-14 t:\u{10000}"),
     ("\"a\"'b'1", "0-3 t:a, 3-6 t:b, 6-7 n:1"),
     ("\"//\"", "0-4 t://"),
+];
+
+static SYMBOLS: [(&str, &str); 13] = [
     (
         "== != <= >= < > = .. . + - * / % && || ! ? :: : , ( ) [ ] { }",
         "0-2 s:Equal, 3-5 s:NotEqual, 6-8 s:LessOrEqual, 9-11 s:GreaterOrEqual, 12-13 \
@@ -143,6 +171,9 @@ static TOKENS: [(&str, &str); 79] = [
     ("[*]", "0-1 s:OpenBracket, 1-2 s:Star, 2-3 s:CloseBracket"),
     ("1/2", "0-1 n:1, 1-2 s:Slash, 2-3 n:2"),
     ("/ /", "0-1 s:Slash, 2-3 s:Slash"),
+];
+
+static COMMENTS: [(&str, &str); 12] = [
     ("/**/", ""),
     ("//", ""),
     ("// é", ""),
@@ -155,15 +186,16 @@ static TOKENS: [(&str, &str); 79] = [
     ("/* é */x", "8-9 w:x"),
     ("/**/ */", "5-6 s:Star, 6-7 s:Slash"),
     ("/*\n//*/4", "7-8 n:4"),
-    (
-        "FOR u IN c FILTER u.age>=21 RETURN u",
-        "0-3 k:For, 4-5 w:u, 6-8 k:In, 9-10 w:c, 11-17 k:Filter, 18-19 w:u, 19-20 \
-            s:Dot, 20-23 w:age, 23-25 s:GreaterOrEqual, 25-27 n:21, 28-34 k:Return, \
-            35-36 w:u",
-    ),
 ];
 
-static FAULTS: [(&str, &str); 51] = [
+static QUERIES: [(&str, &str); 1] = [(
+    "FOR u IN c FILTER u.age>=21 RETURN u",
+    "0-3 k:For, 4-5 w:u, 6-8 k:In, 9-10 w:c, 11-17 k:Filter, 18-19 w:u, 19-20 \
+            s:Dot, 20-23 w:age, 23-25 s:GreaterOrEqual, 25-27 n:21, 28-34 k:Return, \
+            35-36 w:u",
+)];
+
+static BAD_CHARACTERS: [(&str, &str); 13] = [
     ("$", "0: bad character"),
     ("a ; b", "2: bad character"),
     ("aä", "1: bad character"),
@@ -177,6 +209,9 @@ static FAULTS: [(&str, &str); 51] = [
     ("/**/\u{1f600}", "4: bad character"),
     ("``", "0: bad character"),
     ("a``b`", "1: bad character"),
+];
+
+static OPEN_ENDS: [(&str, &str); 10] = [
     ("`a", "0: open string"),
     ("x `", "2: open string"),
     ("\"ab", "0: open string"),
@@ -187,6 +222,9 @@ static FAULTS: [(&str, &str); 51] = [
     ("a /*", "2: open comment"),
     ("/* * /", "0: open comment"),
     ("/**/ /*1", "5: open comment"),
+];
+
+static BAD_ESCAPES: [(&str, &str); 9] = [
     ("\"\\q\"", "1: bad escape"),
     ("\"ab\\q", "3: bad escape"),
     ("\"ab\\", "3: bad escape"),
@@ -196,6 +234,9 @@ static FAULTS: [(&str, &str); 51] = [
     ("\"\\u+123\"", "1: bad escape"),
     ("\"\\U00e9\"", "1: bad escape"),
     ("\"\\ud83d\"", "1: bad escape"),
+];
+
+static BAD_SURROGATES: [(&str, &str); 8] = [
     ("\"\\ude00\"", "1: bad escape"),
     ("\"a\\ud83dx\"", "2: bad escape"),
     ("\"\\ud83d\\n\"", "1: bad escape"),
@@ -204,6 +245,9 @@ static FAULTS: [(&str, &str); 51] = [
     ("\"\\ud83d\\ude00\\ud83d\"", "13: bad escape"),
     ("x \"\\n\\é\"", "5: bad escape"),
     ("\"\\é\"", "1: bad escape"),
+];
+
+static BAD_NUMBERS: [(&str, &str); 11] = [
     ("1e5", "0: fraction"),
     ("1.5", "0: fraction"),
     ("x=1E-7", "2: fraction"),
@@ -217,18 +261,30 @@ static FAULTS: [(&str, &str); 51] = [
     ("1.5 $", "0: fraction"),
 ];
 
-fn check(rt: &impl Abort, alloc: Global, rows: &[(&str, &str)]) -> Result<(), Fail> {
+fn check(rt: &impl Abort, alloc: Global, rows: &[(&str, &str)]) {
     for (text, want) in rows {
-        assert_eq!(rt; shown(alloc, text)?.as_str(), *want, "of {text:?}");
+        let mut page = Page::new(alloc);
+        write_lexed(alloc, text, &mut page);
+        page.judge(rt, want, text);
     }
-    Ok(())
 }
 
 #[test]
-fn texts_give_these_tokens_and_faults(rt: HostRuntime) -> Result<(), Fail> {
+fn texts_give_these_tokens_and_faults(rt: HostRuntime) {
     let alloc = rt.alloc();
-    check(&rt, alloc, &TOKENS)?;
-    check(&rt, alloc, &FAULTS)?;
+    check(&rt, alloc, &WORDS);
+    check(&rt, alloc, &KEYWORDS);
+    check(&rt, alloc, &QUOTED_NAMES);
+    check(&rt, alloc, &NUMBERS);
+    check(&rt, alloc, &TEXTS);
+    check(&rt, alloc, &ESCAPES);
+    check(&rt, alloc, &SYMBOLS);
+    check(&rt, alloc, &COMMENTS);
+    check(&rt, alloc, &QUERIES);
+    check(&rt, alloc, &BAD_CHARACTERS);
+    check(&rt, alloc, &OPEN_ENDS);
+    check(&rt, alloc, &BAD_ESCAPES);
+    check(&rt, alloc, &BAD_SURROGATES);
+    check(&rt, alloc, &BAD_NUMBERS);
     text_has_one_reading();
-    Ok(())
 }

@@ -1,50 +1,43 @@
+use crate::pages::{Page, expect};
 use aql_value::{
-    CollNo, CollNos, Items, JsonFault, Members, Names, OutOfMemory, Text, Value, cmp, copy,
-    from_json_line, order_is_total, recall_well_formed, text_is_read_back, to_number, to_text,
-    truthy, write_json,
+    CollNo, CollNos, Items, JsonFault, Members, Names, Text, Value, cmp, copy, from_json_line,
+    order_is_total, recall_well_formed, text_is_read_back, to_number, to_text, truthy, write_json,
 };
 use std::alloc::Global;
 use std::cmp::Ordering;
 use std::collections::HashSet;
-use std::process::Abort;
-use std::test::Fail;
 
-fn value_of(alloc: Global, line: &str) -> Result<Value, JsonFault> {
-    from_json_line(alloc, line.as_bytes())
-}
-
-fn is_written(alloc: Global, value: &Value, json: &str) -> Result<bool, OutOfMemory> {
+// Whether this is the canonical JSON of a value.
+pub fn is_written(alloc: Global, value: &Value, json: &str) -> bool {
     let mut out = Vec::new(alloc);
-    write_json(value, &mut out)?;
-    Ok(out.as_slice() == json.as_bytes())
+    write_json(value, &mut out).is_ok() && out.as_slice() == json.as_bytes()
 }
 
-fn is_written_by_both(alloc: Global, value: &Value, json: &str) -> Result<bool, OutOfMemory> {
-    let copied = copy(alloc, value)?;
-    Ok(is_written(alloc, value, json)? && is_written(alloc, &copied, json)?)
+fn is_copied(alloc: Global, value: &Value, json: &str) -> bool {
+    match copy(alloc, value) {
+        Ok(copied) => is_written(alloc, &copied, json),
+        Err(_) => false,
+    }
 }
 
 // A line, and the canonical JSON of its value, also of a copy.
-fn reads(rt: &impl Abort, alloc: Global, line: &str, json: &str) -> Result<(), Fail> {
-    let value = value_of(alloc, line)?;
-    assert!(rt; is_written_by_both(alloc, &value, json)?, "{line}");
-    Ok(())
+fn reads(alloc: Global, line: &str, json: &str) -> bool {
+    match from_json_line(alloc, line.as_bytes()) {
+        Ok(value) => is_written(alloc, &value, json) && is_copied(alloc, &value, json),
+        Err(_) => false,
+    }
 }
 
-fn refuses(rt: &impl Abort, alloc: Global, line: &str, fault: JsonFault) {
-    assert!(rt; value_of(alloc, line).err() == Some(fault), "{line}");
+fn is_refused(alloc: Global, line: &str, fault: JsonFault) -> bool {
+    from_json_line(alloc, line.as_bytes()).err() == Some(fault)
 }
 
 // A line of `depth` nested arrays.
-fn nested(alloc: Global, depth: usize) -> Result<String, Fail> {
-    let mut line = String::new(alloc);
-    for _ in 0..depth {
-        line.push('[')?;
-    }
-    for _ in 0..depth {
-        line.push(']')?;
-    }
-    Ok(line)
+fn nested(alloc: Global, depth: usize) -> Page {
+    let mut line = Page::new(alloc);
+    line.put_times("[", depth);
+    line.put_times("]", depth);
+    line
 }
 
 static LINES: [(&str, &str); 7] = [
@@ -67,12 +60,10 @@ static LINES: [(&str, &str); 7] = [
 ];
 
 #[test]
-fn lines(rt: HostRuntime) -> Result<(), Fail> {
-    let alloc = rt.alloc();
+fn lines(rt: HostRuntime) {
     for (line, json) in &LINES {
-        reads(&rt, alloc, line, json)?;
+        expect(&rt, reads(rt.alloc(), line, json), line, "");
     }
-    Ok(())
 }
 
 static NOT_JSON: [&str; 8] = [
@@ -99,29 +90,34 @@ static NOT_WHOLE: [&str; 6] = [
 fn refused_lines(rt: HostRuntime) {
     let alloc = rt.alloc();
     for line in &NOT_JSON {
-        refuses(&rt, alloc, line, JsonFault::NotJson);
+        expect(&rt, is_refused(alloc, line, JsonFault::NotJson), line, "");
     }
     for line in &NOT_WHOLE {
-        refuses(&rt, alloc, line, JsonFault::NotWhole);
+        expect(&rt, is_refused(alloc, line, JsonFault::NotWhole), line, "");
     }
 }
 
+static TOO_DEEP: [(usize, JsonFault); 3] = [
+    (65, JsonFault::TooDeep),
+    (127, JsonFault::TooDeep),
+    (128, JsonFault::NotJson),
+];
+
 #[test]
-fn depths(rt: HostRuntime) -> Result<(), Fail> {
+fn depths(rt: HostRuntime) {
     let alloc = rt.alloc();
-    for (depth, fault) in [
-        (65, JsonFault::TooDeep),
-        (127, JsonFault::TooDeep),
-        (128, JsonFault::NotJson),
-    ] {
-        refuses(&rt, alloc, nested(alloc, depth)?.as_str(), fault);
+    for (depth, fault) in &TOO_DEEP {
+        let line = nested(alloc, *depth);
+        let is_refused = is_refused(alloc, line.as_str(), *fault);
+        expect(&rt, is_refused, line.as_str(), "");
     }
-    let deepest = nested(alloc, 64)?;
-    reads(&rt, alloc, deepest.as_str(), deepest.as_str())
+    let deepest = nested(alloc, 64);
+    let is_read = reads(alloc, deepest.as_str(), deepest.as_str());
+    expect(&rt, is_read, deepest.as_str(), "");
 }
 
 // Each of these is below the next.
-const ASCENDING: [&str; 18] = [
+static ASCENDING: [&str; 18] = [
     "null",
     "false",
     "true",
@@ -148,55 +144,86 @@ fn are_ordered(x: &Value, y: &Value, want: Ordering) -> bool {
         && (x < y) == (want == Ordering::Less)
 }
 
-fn compares(alloc: Global, low: &str, high: &str, want: Ordering) -> Result<bool, JsonFault> {
-    let x = value_of(alloc, low)?;
-    let y = value_of(alloc, high)?;
-    Ok(are_ordered(&x, &y, want))
+// Whether the value stands so to each of the lines, of which it is the one at `at`.
+fn is_in_order(alloc: Global, value: &Value, at: usize) -> bool {
+    let mut holds = true;
+    for (k, line) in ASCENDING.iter().enumerate() {
+        holds = holds && compares(alloc, value, line, at.cmp(&k));
+    }
+    holds
+}
+
+fn compares(alloc: Global, value: &Value, line: &str, want: Ordering) -> bool {
+    match from_json_line(alloc, line.as_bytes()) {
+        Ok(other) => are_ordered(value, &other, want),
+        Err(_) => false,
+    }
+}
+
+fn orders_at(alloc: Global, line: &str, at: usize) -> bool {
+    match from_json_line(alloc, line.as_bytes()) {
+        Ok(value) => is_in_order(alloc, &value, at),
+        Err(_) => false,
+    }
 }
 
 #[test]
-fn orders(rt: HostRuntime) -> Result<(), Fail> {
-    for (i, low) in ASCENDING.iter().enumerate() {
-        for (k, high) in ASCENDING.iter().enumerate() {
-            assert!(rt; compares(rt.alloc(), low, high, i.cmp(&k))?, "{low} {high}");
-        }
+fn orders(rt: HostRuntime) {
+    for (i, line) in ASCENDING.iter().enumerate() {
+        expect(&rt, orders_at(rt.alloc(), line, i), line, "");
     }
     order_is_total();
     text_is_read_back();
-    Ok(())
 }
 
-const UNSORTED: [&str; 4] = ["[2]", "null", "[1,5]", "null"];
+static UNSORTED: [&str; 4] = ["[2]", "null", "[1,5]", "null"];
+
+fn push(alloc: Global, values: &mut Vec<Value>, line: &str) -> bool {
+    match from_json_line(alloc, line.as_bytes()) {
+        Ok(value) => values.push(value).is_ok(),
+        Err(_) => false,
+    }
+}
+
+fn insert(alloc: Global, values: &mut HashSet<Value>, line: &str) -> bool {
+    match from_json_line(alloc, line.as_bytes()) {
+        Ok(value) => values.insert(value).is_ok(),
+        Err(_) => false,
+    }
+}
+
+fn holds_json(alloc: Global, value: Option<&Value>, json: &str) -> bool {
+    match value {
+        Some(value) => is_written(alloc, value, json),
+        None => false,
+    }
+}
 
 #[test]
-fn sorts(rt: HostRuntime) -> Result<(), Fail> {
+fn sorts(rt: HostRuntime) {
     let alloc = rt.alloc();
     let mut values = Vec::new(alloc);
-    for line in UNSORTED {
-        values.push(value_of(alloc, line)?)?;
+    for line in &UNSORTED {
+        expect(&rt, push(alloc, &mut values, line), line, "");
     }
-    values.sort()?;
-    assert_eq!(rt; values.len(), 4);
-    assert!(rt; cmp(&values[0], &Value::Null) == Ordering::Equal);
-    assert!(rt; cmp(&values[3], &value_of(alloc, "[2]")?) == Ordering::Equal);
-    Ok(())
+    let is_sorted = values.sort().is_ok() && values.len() == 4;
+    expect(&rt, is_sorted, "sorted", "");
+    expect(
+        &rt,
+        holds_json(alloc, values.get(0), "null"),
+        "the first",
+        "",
+    );
+    expect(&rt, holds_json(alloc, values.get(3), "[2]"), "the last", "");
 }
 
 #[test]
-fn hashes(rt: HostRuntime) -> Result<(), Fail> {
-    let alloc = rt.alloc();
-    let mut distinct = HashSet::new(alloc);
-    for line in UNSORTED {
-        distinct.insert(value_of(alloc, line)?)?;
+fn hashes(rt: HostRuntime) {
+    let mut distinct = HashSet::new(rt.alloc());
+    for line in &UNSORTED {
+        expect(&rt, insert(rt.alloc(), &mut distinct, line), line, "");
     }
-    assert_eq!(rt; distinct.len(), 3);
-    Ok(())
-}
-
-fn converts(rt: &impl Abort, value: &Value, truth: bool, number: i64, line: &str) {
-    assert_eq!(rt; truthy(value), truth, "{line}");
-    assert_eq!(rt; to_number(value), number, "{line}");
-    recall_well_formed(value);
+    expect(&rt, distinct.len() == 3, "distinct values", "");
 }
 
 static CONVERSIONS: [(&str, bool, i64); 19] = [
@@ -221,81 +248,134 @@ static CONVERSIONS: [(&str, bool, i64); 19] = [
     ("{\"a\":3}", true, 0),
 ];
 
-#[test]
-fn conversions(rt: HostRuntime) -> Result<(), Fail> {
-    let alloc = rt.alloc();
-    for (line, truth, number) in &CONVERSIONS {
-        let value = value_of(alloc, line)?;
-        converts(&rt, &value, *truth, *number, line);
-    }
-    Ok(())
-}
-
-#[test]
-fn lists(rt: HostRuntime) -> Result<(), Fail> {
-    let alloc = rt.alloc();
-    let mut names = Names::new(alloc);
-    names.push(Text::new(alloc, "a")?)?;
-    let first = names.get(0).ok_or("no name")?;
-    assert_eq!(rt; first.copy(alloc)?.as_str(), "a");
-    assert_eq!(rt; names.len(), names.as_slice().len());
-    Ok(())
-}
-
-#[test]
-fn lists_of_numbers(rt: HostRuntime) -> Result<(), Fail> {
-    let mut numbers = CollNos::new(rt.alloc());
-    numbers.push(CollNo(3))?;
-    assert!(rt; numbers.get(0) == Some(&CollNo(3)) && numbers.get(1).is_none());
-    Ok(())
-}
-
-#[test]
-fn lists_of_values(rt: HostRuntime) -> Result<(), Fail> {
-    let mut items = Items::new(rt.alloc());
-    items.push(Value::Num(4))?;
-    assert!(rt;
-        items.as_slice().len() == items.len()
-            && items.get(0) == Some(&Value::Num(4))
-            && items.get(1).is_none()
-    );
-    Ok(())
-}
-
-fn some_members(alloc: Global) -> Result<Members, OutOfMemory> {
-    let mut members = Members::new(alloc);
-    for (name, number) in [("b", 1), ("a", 2), ("b", 3), ("c", 4)] {
-        members.set(Text::new(alloc, name)?, Value::Num(number))?;
-    }
-    Ok(members)
-}
-
-fn check_members(rt: &impl Abort, members: &Members) -> Result<(), Fail> {
-    assert_eq!(rt; members.len(), 3);
-    assert!(rt; members.value("b") == Some(&Value::Num(3)) && members.value("d").is_none());
-    assert!(rt; members.name(2).ok_or("no name")?.as_str() == "c" && members.name(3).is_none());
-    let (name, value) = members.entry(1).ok_or("no entry")?;
-    assert!(rt; name.as_str() == "b" && value == &Value::Num(3) && members.entry(3).is_none());
-    assert!(rt; members.value_at(0) == Some(&Value::Num(2)) && members.value_at(3).is_none());
-    Ok(())
-}
-
-#[test]
-fn members(rt: HostRuntime) -> Result<(), Fail> {
-    let members = some_members(rt.alloc())?;
-    check_members(&rt, &members)
-}
-
-fn has_text(alloc: Global, value: &Value, want: &str) -> bool {
-    match to_text(alloc, value) {
-        Ok(text) => text.as_str() == want,
+fn converts(alloc: Global, line: &str, truth: bool, number: i64) -> bool {
+    match from_json_line(alloc, line.as_bytes()) {
+        Ok(value) => {
+            recall_well_formed(&value);
+            truthy(&value) == truth && to_number(&value) == number
+        }
         Err(_) => false,
     }
 }
 
 #[test]
+fn conversions(rt: HostRuntime) {
+    for (line, truth, number) in &CONVERSIONS {
+        expect(&rt, converts(rt.alloc(), line, *truth, *number), line, "");
+    }
+}
+
+fn is_name(name: Option<&Text>, want: &str) -> bool {
+    match name {
+        Some(name) => name.as_str() == want,
+        None => false,
+    }
+}
+
+fn is_number(value: Option<&Value>, want: i64) -> bool {
+    match value {
+        Some(Value::Num(number)) => *number == want,
+        _ => false,
+    }
+}
+
+fn push_name(alloc: Global, names: &mut Names, name: &str) -> bool {
+    match Text::new(alloc, name) {
+        Ok(name) => names.push(name).is_ok(),
+        Err(_) => false,
+    }
+}
+
+fn copies_name(alloc: Global, name: Option<&Text>, want: &str) -> bool {
+    match name {
+        Some(name) => is_name(name.copy(alloc).ok().as_ref(), want),
+        None => false,
+    }
+}
+
+#[test]
+fn lists(rt: HostRuntime) {
+    let alloc = rt.alloc();
+    let mut names = Names::new(alloc);
+    expect(&rt, push_name(alloc, &mut names, "a"), "pushed", "");
+    expect(&rt, copies_name(alloc, names.get(0), "a"), "a copy", "");
+    expect(&rt, names.len() == names.as_slice().len(), "its length", "");
+}
+
+#[test]
+fn lists_of_numbers(rt: HostRuntime) {
+    let mut numbers = CollNos::new(rt.alloc());
+    expect(&rt, numbers.push(CollNo(3)).is_ok(), "pushed", "");
+    let found = numbers.get(0) == Some(&CollNo(3)) && numbers.get(1).is_none();
+    expect(&rt, found, "the numbers", "");
+}
+
+#[test]
+fn lists_of_values(rt: HostRuntime) {
+    let mut items = Items::new(rt.alloc());
+    expect(&rt, items.push(Value::Num(4)).is_ok(), "pushed", "");
+    let found = is_number(items.get(0), 4) && items.get(1).is_none();
+    expect(
+        &rt,
+        found && items.as_slice().len() == items.len(),
+        "items",
+        "",
+    );
+}
+
+fn set(alloc: Global, members: &mut Members, name: &str, number: i64) -> bool {
+    match Text::new(alloc, name) {
+        Ok(name) => members.set(name, Value::Num(number)).is_ok(),
+        Err(_) => false,
+    }
+}
+
+fn is_entry(entry: Option<(&Text, &Value)>, name: &str, number: i64) -> bool {
+    match entry {
+        Some((found, value)) => is_name(Some(found), name) && is_number(Some(value), number),
+        None => false,
+    }
+}
+
+static MEMBERS: [(&str, i64); 4] = [("b", 1), ("a", 2), ("b", 3), ("c", 4)];
+
+static PLACES: [(usize, &str, i64); 3] = [(0, "a", 2), (1, "b", 3), (2, "c", 4)];
+
+fn stands_at(members: &Members, at: usize, name: &str, number: i64) -> bool {
+    is_name(members.name(at), name)
+        && is_number(members.value_at(at), number)
+        && is_number(members.value(name), number)
+        && is_entry(members.entry(at), name, number)
+}
+
+fn ends_at(members: &Members, at: usize) -> bool {
+    members.len() == at
+        && members.name(at).is_none()
+        && members.value_at(at).is_none()
+        && members.entry(at).is_none()
+}
+
+#[test]
+fn members(rt: HostRuntime) {
+    let mut members = Members::new(rt.alloc());
+    for (name, number) in &MEMBERS {
+        expect(&rt, set(rt.alloc(), &mut members, name, *number), name, "");
+    }
+    for (at, name, number) in &PLACES {
+        expect(&rt, stands_at(&members, *at, name, *number), name, "");
+    }
+    let is_all = ends_at(&members, 3) && members.value("d").is_none();
+    expect(&rt, is_all, "the end", "");
+}
+
+fn has_text(alloc: Global, value: &Value, want: &str) -> bool {
+    is_name(to_text(alloc, value).ok().as_ref(), want)
+}
+
+#[test]
 fn texts_of_values(rt: HostRuntime) {
     let alloc = rt.alloc();
-    assert!(rt; has_text(alloc, &Value::Num(-7), "-7"));
-    assert!(rt; has_text(alloc, &Value::Object(Members::new(alloc)), "{}"));
+    let empty = Value::Object(Members::new(alloc));
+    expect(&rt, has_text(alloc, &Value::Num(-7), "-7"), "-7", "");
+    expect(&rt, has_text(alloc, &empty, "{}"), "{}", "");
 }
