@@ -1,15 +1,110 @@
-use aql_doc::{Catalog, CatalogFault, DocFault};
+use crate::pages::expect;
+use aql_doc::{Catalog, CatalogFault, CollInfo, DocFault};
 use aql_value::{CollNo, DocNo, Names, Text, Value, from_json_line, write_json};
 use std::alloc::Global;
 use std::process::Abort;
-use std::test::Fail;
 
-fn names(alloc: Global, list: &[&str]) -> Result<Names, Fail> {
-    let mut out = Names::new(alloc);
-    for name in list {
-        out.push(Text::new(alloc, name)?)?;
+fn push(alloc: Global, names: &mut Names, name: &str) -> bool {
+    match Text::new(alloc, name) {
+        Ok(name) => names.push(name).is_ok(),
+        Err(_) => false,
     }
-    Ok(out)
+}
+
+// A list of names; none where memory is short.
+pub fn names(alloc: Global, list: &[&str]) -> Names {
+    let mut names = Names::new(alloc);
+    for name in list {
+        if !push(alloc, &mut names, name) {
+            return Names::new(alloc);
+        }
+    }
+    names
+}
+
+// Declares a collection with these keys.
+pub fn declare(
+    alloc: Global,
+    catalog: &mut Catalog,
+    name: &str,
+    edge: bool,
+    shards: u32,
+    keys: &[&str],
+) -> Result<CollNo, CatalogFault> {
+    let keys = names(alloc, keys);
+    if keys.len() < 1 || keys.len() > 8 || shards < 1 || shards > 32 {
+        return Err(CatalogFault::Memory);
+    }
+    match Text::new(alloc, name) {
+        Ok(name) => catalog.declare(alloc, name, edge, shards, keys),
+        Err(_) => Err(CatalogFault::Memory),
+    }
+}
+
+fn is_indexed(alloc: Global, catalog: &mut Catalog, list: &[&str]) -> bool {
+    let attributes = names(alloc, list);
+    if attributes.len() < 1 || attributes.len() > 8 || catalog.len() != 2 {
+        return false;
+    }
+    catalog.add_index(CollNo(0), attributes).is_ok()
+}
+
+// Whether a collection is declared so, with so many shard keys and indexes.
+pub fn is_info(
+    info: Option<&CollInfo>,
+    edge: bool,
+    shards: u32,
+    keys: usize,
+    indexes: usize,
+) -> bool {
+    match info {
+        Some(info) => {
+            info.edge == edge
+                && info.shards == shards
+                && info.keys.len() == keys
+                && info.indexes.len() == indexes
+        }
+        None => false,
+    }
+}
+
+static DECLARED: [(&str, bool, u32, &[&str], Result<CollNo, CatalogFault>); 3] = [
+    ("c", false, 1, &["_key"], Ok(CollNo(0))),
+    ("e", true, 32, &["_key", "g"], Ok(CollNo(1))),
+    ("c", true, 1, &["_key"], Err(CatalogFault::Twice)),
+];
+
+static INDEXED: [&[&str]; 4] = [&["a"], &["a", "b"], &["a"], &["b", "a"]];
+
+fn check_declared(rt: &impl Abort, alloc: Global, catalog: &mut Catalog) {
+    for (name, edge, shards, keys, want) in &DECLARED {
+        let declared = declare(alloc, catalog, name, *edge, *shards, keys);
+        expect(rt, declared == *want, name, "");
+    }
+}
+
+fn check_indexed(rt: &impl Abort, alloc: Global, catalog: &mut Catalog) {
+    for list in &INDEXED {
+        expect(rt, is_indexed(alloc, catalog, list), "indexed", "");
+    }
+}
+
+fn are_declared(catalog: &Catalog) -> bool {
+    catalog.len() == 2
+        && catalog.find("e") == Some(CollNo(1))
+        && catalog.find("d").is_none()
+        && is_info(catalog.info(CollNo(0)), false, 1, 1, 3)
+        && catalog.info(CollNo(2)).is_none()
+        && catalog.documents(CollNo(2)).is_none()
+}
+
+#[test]
+fn declarations(rt: HostRuntime) {
+    let alloc = rt.alloc();
+    let mut catalog = Catalog::new(alloc);
+    check_declared(&rt, alloc, &mut catalog);
+    check_indexed(&rt, alloc, &mut catalog);
+    expect(&rt, are_declared(&catalog), "collections", "");
 }
 
 fn fault_name(fault: &DocFault) -> &'static str {
@@ -24,79 +119,40 @@ fn fault_name(fault: &DocFault) -> &'static str {
     }
 }
 
-// Declares a collection with these keys.
-fn declare(
-    rt: &impl Abort,
-    alloc: Global,
-    catalog: &mut Catalog,
-    name: &str,
-    edge: bool,
-    shards: u32,
-    keys: &[&str],
-) -> Result<Result<CollNo, CatalogFault>, Fail> {
-    let name = Text::new(alloc, name)?;
-    let listed = names(alloc, keys)?;
-    assert!(rt; listed.len() == keys.len() && listed.len() >= 1 && listed.len() <= 8);
-    assert!(rt; shards >= 1 && shards <= 32);
-    Ok(catalog.declare(alloc, name, edge, shards, listed))
-}
-
-fn add_index(
-    rt: &impl Abort,
-    alloc: Global,
-    catalog: &mut Catalog,
-    list: &[&str],
-) -> Result<(), Fail> {
-    let attributes = names(alloc, list)?;
-    assert!(rt; attributes.len() >= 1 && attributes.len() <= 8 && catalog.len() == 2);
-    assert!(rt; catalog.add_index(CollNo(0), attributes).is_ok());
-    Ok(())
-}
-
-fn check_declarations(rt: &impl Abort, alloc: Global, catalog: &mut Catalog) -> Result<(), Fail> {
-    let c = declare(rt, alloc, catalog, "c", false, 1, &["_key"])?;
-    let e = declare(rt, alloc, catalog, "e", true, 32, &["_key", "g"])?;
-    assert!(rt; c == Ok(CollNo(0)) && e == Ok(CollNo(1)) && catalog.len() == 2);
-    assert!(rt; catalog.find("e") == Some(CollNo(1)) && catalog.find("d").is_none());
-    let again = declare(rt, alloc, catalog, "c", true, 1, &["_key"])?;
-    assert!(rt; again == Err(CatalogFault::Twice));
-
-    let lists: [&[&str]; 4] = [&["a"], &["a", "b"], &["a"], &["b", "a"]];
-    for list in lists {
-        add_index(rt, alloc, catalog, list)?;
-    }
-    let info = catalog.info(CollNo(0)).ok_or("c")?;
-    assert!(rt; info.indexes.len() == 3 && info.shards == 1 && !info.edge);
-    assert!(rt; catalog.info(CollNo(2)).is_none() && catalog.documents(CollNo(2)).is_none());
-    Ok(())
-}
-
-#[test]
-fn declarations(rt: HostRuntime) -> Result<(), Fail> {
-    let alloc = rt.alloc();
-    check_declarations(&rt, alloc, &mut Catalog::new(alloc))
-}
-
 // What a document of the collection 0 is refused with, or nothing where it is added.
-fn refusal(
-    rt: &impl Abort,
-    alloc: Global,
-    catalog: &mut Catalog,
-    line: &str,
-) -> Result<&'static str, Fail> {
-    assert!(rt; catalog.len() == 1);
-    let value = from_json_line(alloc, line.as_bytes())?;
-    match catalog.add_document(alloc, CollNo(0), value) {
-        Ok(_) => Ok(""),
-        Err(fault) => Ok(fault_name(&fault)),
+fn refusal(alloc: Global, catalog: &mut Catalog, line: &str) -> &'static str {
+    if catalog.len() != 1 {
+        return "no collection";
     }
+    match from_json_line(alloc, line.as_bytes()) {
+        Ok(value) => match &catalog.add_document(alloc, CollNo(0), value) {
+            Ok(_) => "",
+            Err(fault) => fault_name(fault),
+        },
+        Err(_) => "not JSON",
+    }
+}
+
+fn is_written(alloc: Global, value: &Value, json: &str) -> bool {
+    let mut out = Vec::new(alloc);
+    write_json(value, &mut out).is_ok() && out.as_slice() == json.as_bytes()
 }
 
 // Whether a document has this text.
-fn is_written(alloc: Global, document: &Value, json: &str) -> Result<bool, Fail> {
-    let mut out = Vec::new(alloc);
-    write_json(document, &mut out)?;
-    Ok(out.as_slice() == json.as_bytes())
+pub fn is_held(alloc: Global, catalog: &Catalog, coll: u32, doc: u32, json: &str) -> bool {
+    match catalog.document(CollNo(coll), DocNo(doc)) {
+        Some(document) => is_written(alloc, document, json),
+        None => false,
+    }
+}
+
+fn holds(catalog: &Catalog, coll: u32, count: usize) -> bool {
+    match catalog.documents(CollNo(coll)) {
+        Some(documents) => {
+            documents.len() == count && catalog.count(CollNo(coll)) == count as u64
+        }
+        None => false,
+    }
 }
 
 static DOCUMENTS: [(&str, &str); 11] = [
@@ -122,24 +178,26 @@ static DOCUMENTS: [(&str, &str); 11] = [
     ("{\"_id\":\"e/2\",\"_from\":\"a/b\",\"_to\":\"c/d\"}", ""),
 ];
 
-fn check_documents(rt: &impl Abort, alloc: Global, catalog: &mut Catalog) -> Result<(), Fail> {
-    let e = declare(rt, alloc, catalog, "e", true, 1, &["_key"])?
-        .ok()
-        .ok_or("e")?;
+fn check_documents(rt: &impl Abort, alloc: Global, catalog: &mut Catalog) {
     for (line, wanted) in &DOCUMENTS {
-        assert!(rt; refusal(rt, alloc, catalog, line)? == *wanted, "{line}");
+        expect(rt, refusal(alloc, catalog, line) == *wanted, line, "");
     }
-    assert!(rt; catalog.count(e) == 2 && catalog.count(CollNo(1)) == 0);
-    let second = catalog.document(e, DocNo(1)).ok_or("2")?;
-    let json = "{\"_from\":\"a/b\",\"_id\":\"e/2\",\"_key\":\"2\",\"_to\":\"c/d\"}";
-    assert!(rt; is_written(alloc, second, json)?);
-    assert!(rt; catalog.document(e, DocNo(2)).is_none());
-    assert!(rt; catalog.documents(e).ok_or("e")?.len() == 2);
-    Ok(())
 }
 
 #[test]
-fn documents(rt: HostRuntime) -> Result<(), Fail> {
+fn documents(rt: HostRuntime) {
     let alloc = rt.alloc();
-    check_documents(&rt, alloc, &mut Catalog::new(alloc))
+    let mut catalog = Catalog::new(alloc);
+    let e = declare(alloc, &mut catalog, "e", true, 1, &["_key"]);
+    expect(&rt, e == Ok(CollNo(0)), "e", "");
+    check_documents(&rt, alloc, &mut catalog);
+    expect(&rt, are_held(alloc, &catalog), "two documents", "");
+}
+
+fn are_held(alloc: Global, catalog: &Catalog) -> bool {
+    let json = "{\"_from\":\"a/b\",\"_id\":\"e/2\",\"_key\":\"2\",\"_to\":\"c/d\"}";
+    holds(catalog, 0, 2)
+        && catalog.count(CollNo(1)) == 0
+        && is_held(alloc, catalog, 0, 1, json)
+        && catalog.document(CollNo(0), DocNo(2)).is_none()
 }

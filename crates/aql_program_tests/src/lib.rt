@@ -4,9 +4,13 @@
 #[cfg(test)]
 mod catalogs;
 #[cfg(test)]
+mod pages;
+#[cfg(test)]
 mod runs;
 #[cfg(test)]
 mod scoping;
+#[cfg(test)]
+mod scoping_rows;
 #[cfg(test)]
 mod scripts;
 #[cfg(test)]

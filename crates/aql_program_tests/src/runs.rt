@@ -4,12 +4,13 @@ ghost use Rattle.aql_tree.specs.View.{clauses as clause_trees};
 ghost use Rattle.aql_meaning.specs.Plain.{IsPlain};
 ghost use Rattle.aql_lift.specs.Lifted.{ClauseLifted, ClausesLifted, IsLifted};
 
+use crate::catalogs::declare;
+use crate::pages::expect;
 use aql_doc::Catalog;
 use aql_run::run;
 use aql_tree::{Clause, Clauses, Expr, Ident, Query, Step};
-use aql_value::{Names, OutOfMemory, Seq, Text, Value, from_json_line};
+use aql_value::{OutOfMemory, Seq, Text, Value, from_json_line};
 use std::alloc::Global;
-use std::test::Fail;
 
 // `d.name`, where `d` is the variable 1.
 fn attribute(alloc: Global, name: &str) -> Result<Expr, OutOfMemory>
@@ -55,6 +56,13 @@ fn query(alloc: Global, clauses: Clauses, distinct: bool) -> Result<Query, OutOf
     Query::new(alloc, Seq::new(alloc), clauses, distinct, gives)
 }
 
+static FILLED: [&str; 4] = [
+    r#"{"_key":"1","a":true,"b":0}"#,
+    r#"{"_key":"2","a":1,"b":"x"}"#,
+    r#"{"_key":"3","a":"","b":1}"#,
+    r#"{"_key":"4","a":[],"b":{}}"#,
+];
+
 fn add(alloc: Global, catalog: &mut Catalog, json: &str) -> bool {
     let document = from_json_line(alloc, json.as_bytes()).unwrap_or(Value::Null);
     match catalog.find("c") {
@@ -63,79 +71,64 @@ fn add(alloc: Global, catalog: &mut Catalog, json: &str) -> bool {
     }
 }
 
-fn declare(alloc: Global, catalog: &mut Catalog) -> Result<(), OutOfMemory> {
-    let name = Text::new(alloc, "c")?;
-    let mut keys = Names::new(alloc);
-    keys.push(Text::new(alloc, "_key")?)?;
-    let _ = catalog.declare(alloc, name, false, 1, keys);
-    Ok(())
-}
-
 // The collection `c` with four documents.
-fn fill(alloc: Global, catalog: &mut Catalog) -> Result<(), OutOfMemory> {
-    declare(alloc, catalog)?;
-    for json in [
-        r#"{"_key":"1","a":true,"b":0}"#,
-        r#"{"_key":"2","a":1,"b":"x"}"#,
-        r#"{"_key":"3","a":"","b":1}"#,
-        r#"{"_key":"4","a":[],"b":{}}"#,
-    ] {
-        if !add(alloc, catalog, json) {
-            return Err(OutOfMemory);
-        }
+fn is_filled(alloc: Global, catalog: &mut Catalog) -> bool {
+    let mut is_filled = declare(alloc, catalog, "c", false, 1, &["_key"]).is_ok();
+    for json in &FILLED {
+        is_filled = is_filled && add(alloc, catalog, json);
     }
-    Ok(())
+    is_filled
 }
 
-fn is_text(lines: &Option<Vec<u8>>, want: Option<&str>) -> bool {
+fn is_text(lines: &Result<Option<Vec<u8>>, OutOfMemory>, want: Option<&str>) -> bool {
     match lines {
-        Some(lines) => match want {
+        Ok(Some(lines)) => match want {
             Some(want) => lines.as_slice() == want.as_bytes(),
             None => false,
         },
-        None => want.is_none(),
+        Ok(None) => want.is_none(),
+        Err(_) => false,
     }
 }
 
 // Whether the lines of a query over the four documents are these.
-fn prints(alloc: Global, asked: &Query, want: Option<&str>) -> Result<bool, OutOfMemory>
+fn prints(alloc: Global, asked: &Query, want: Option<&str>) -> bool
     requires { IsLifted (query_tree asked.now) }
 {
     let mut catalog = Catalog::new(alloc);
-    fill(alloc, &mut catalog)?;
-    let lines = run(alloc, asked, &catalog)?;
-    Ok(is_text(&lines, want))
+    is_filled(alloc, &mut catalog) && is_text(&run(alloc, asked, &catalog), want)
 }
 
-fn gives(
-    alloc: Global,
-    clauses: Clauses,
-    distinct: bool,
-    want: Option<&str>,
-) -> Result<bool, OutOfMemory>
+fn gives(alloc: Global, clauses: Clauses, distinct: bool, want: Option<&str>) -> bool
     requires { ClausesLifted (clause_trees (map clause_tree clauses)) }
 {
-    let asked = query(alloc, clauses, distinct)?;
-    prints(alloc, &asked, want)
+    match query(alloc, clauses, distinct) {
+        Ok(asked) => prints(alloc, &asked, want),
+        Err(_) => false,
+    }
+}
+
+fn filtered_gives(alloc: Global, distinct: bool, want: Option<&str>) -> bool {
+    match filtered(alloc) {
+        Ok(clauses) => gives(alloc, clauses, distinct, want),
+        Err(_) => false,
+    }
 }
 
 #[test]
-fn two_filters(rt: HostRuntime) -> Result<(), Fail> {
-    let alloc = rt.alloc();
-    assert!(rt; gives(alloc, filtered(alloc)?, false, Some("\"x\"\n{}\n"))?);
-    Ok(())
+fn two_filters(rt: HostRuntime) {
+    let is_given = filtered_gives(rt.alloc(), false, Some("\"x\"\n{}\n"));
+    expect(&rt, is_given, "two filters", "");
 }
 
 #[test]
-fn without_for(rt: HostRuntime) -> Result<(), Fail> {
+fn without_for(rt: HostRuntime) {
     let alloc = rt.alloc();
-    assert!(rt; gives(alloc, Seq::new(alloc), false, Some("null\n"))?);
-    Ok(())
+    let is_given = gives(alloc, Seq::new(alloc), false, Some("null\n"));
+    expect(&rt, is_given, "without FOR", "");
 }
 
 #[test]
-fn distinct(rt: HostRuntime) -> Result<(), Fail> {
-    let alloc = rt.alloc();
-    assert!(rt; gives(alloc, filtered(alloc)?, true, None)?);
-    Ok(())
+fn distinct(rt: HostRuntime) {
+    expect(&rt, filtered_gives(rt.alloc(), true, None), "distinct", "");
 }

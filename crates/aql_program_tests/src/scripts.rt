@@ -1,38 +1,47 @@
+use crate::catalogs::{is_held, is_info};
+use crate::pages::{Page, expect};
 use aql_io::MemorySource;
 use aql_script::{LimitKind, LineKind, LoadFault, Loaded, load};
-use aql_value::{CollNo, DocNo, write_json};
+use aql_value::CollNo;
 use std::alloc::Global;
 use std::process::Abort;
-use std::test::Fail;
 
-fn loaded(alloc: Global, script: &[u8]) -> Result<Result<Loaded, LoadFault>, Fail> {
-    let mut source = MemorySource::new(script.to_vec(alloc)?, 4096, None);
-    Ok(load(alloc, &mut source))
+// What is loaded from a source that hands out so many bytes at once.
+fn loaded(
+    alloc: Global,
+    script: &[u8],
+    piece: usize,
+    fail_at: Option<u64>,
+) -> Result<Loaded, LoadFault> {
+    if piece < 1 {
+        return Err(LoadFault::Memory);
+    }
+    match script.to_vec(alloc) {
+        Ok(bytes) => load(alloc, &mut MemorySource::new(bytes, piece, fail_at)),
+        Err(_) => Err(LoadFault::Memory),
+    }
 }
 
-fn fault_of(alloc: Global, script: &[u8]) -> Result<Option<LoadFault>, Fail> {
-    Ok(loaded(alloc, script)?.err())
+fn fault_of(alloc: Global, script: &[u8]) -> Option<LoadFault> {
+    loaded(alloc, script, 4096, None).err()
 }
 
 fn at(line: u32, kind: LineKind) -> LoadFault {
     LoadFault::Line { line, kind }
 }
 
-fn check(
-    rt: &impl Abort,
-    alloc: Global,
-    script: &str,
-    fault: Option<LoadFault>,
-) -> Result<(), Fail> {
-    assert!(rt; fault_of(alloc, script.as_bytes())? == fault, "{script}");
-    Ok(())
+fn check(rt: &impl Abort, alloc: Global, script: &str, fault: Option<LoadFault>) {
+    expect(rt, fault_of(alloc, script.as_bytes()) == fault, script, "");
 }
 
-static LINE_FAULTS: [(&str, u32, LineKind); 28] = [
+static QUERY_FAULTS: [(&str, u32, LineKind); 4] = [
     ("", 0, LineKind::NoQuery),
     ("%document c", 1, LineKind::NoQuery),
     ("%document c\n\n \t\n", 3, LineKind::NoQuery),
     ("{\"_key\":\"a\"}\n%query\n", 1, LineKind::NoCollection),
+];
+
+static DOCUMENT_FAULTS: [(&str, u32, LineKind); 11] = [
     (
         "%document c\n{\"_key\":\"k1\"}\n{\"_key\":\"k2\"}\n{\"_key\":\"k3\"\n",
         4,
@@ -68,6 +77,9 @@ static LINE_FAULTS: [(&str, u32, LineKind); 28] = [
         2,
         LineKind::BadEdge,
     ),
+];
+
+static DIRECTIVE_FAULTS: [(&str, u32, LineKind); 13] = [
     ("%document c\n%edge c\n", 2, LineKind::DeclaredTwice),
     ("%index c a\n", 1, LineKind::UnknownCollection),
     ("%document c\n%index c\n", 2, LineKind::BadDirective),
@@ -91,184 +103,176 @@ static LINE_FAULTS: [(&str, u32, LineKind); 28] = [
     ("%query\r", 1, LineKind::BadDirective),
 ];
 
+fn check_lines(rt: &impl Abort, alloc: Global, rows: &[(&str, u32, LineKind)]) {
+    for (script, line, kind) in rows {
+        check(rt, alloc, script, Some(at(*line, *kind)));
+    }
+}
+
 #[test]
-fn line_faults(rt: HostRuntime) -> Result<(), Fail> {
+fn line_faults(rt: HostRuntime) {
     let alloc = rt.alloc();
-    for (script, line, kind) in &LINE_FAULTS {
-        check(&rt, alloc, script, Some(at(*line, *kind)))?;
-    }
+    check_lines(&rt, alloc, &QUERY_FAULTS);
+    check_lines(&rt, alloc, &DOCUMENT_FAULTS);
+    check_lines(&rt, alloc, &DIRECTIVE_FAULTS);
     let bytes = b"%document c\n%query\nRETURN \xff";
-    assert!(rt; fault_of(alloc, bytes)? == Some(at(2, LineKind::QueryNotUtf8)));
-    Ok(())
+    let fault = Some(at(2, LineKind::QueryNotUtf8));
+    expect(&rt, fault_of(alloc, bytes) == fault, "not UTF-8", "");
 }
 
-// A text again and again.
-fn repeated(alloc: Global, text: &str, times: usize) -> Result<String, Fail> {
-    let mut out = String::new(alloc);
-    for _ in 0..times {
-        out.push_str(text)?;
+const SHARDS: LoadFault = LoadFault::Limit(LimitKind::Shards { line: 1 });
+
+static SHARD_LIMITS: [(&str, Option<LoadFault>); 3] = [
+    ("%document c shards=33\n", Some(SHARDS)),
+    ("%edge c shards=99999999999999999999\n", Some(SHARDS)),
+    ("%document c shards=032\n%query", None),
+];
+
+#[test]
+fn limits_of_shards(rt: HostRuntime) {
+    for (script, fault) in &SHARD_LIMITS {
+        check(&rt, rt.alloc(), script, *fault);
     }
-    Ok(out)
-}
-
-// A document whose `v` is nested arrays.
-fn nested(alloc: Global, depth: usize) -> Result<String, Fail> {
-    let open = repeated(alloc, "[", depth)?;
-    let close = repeated(alloc, "]", depth)?;
-    let head = "%document c\n{\"_key\":\"k\",\"v\":";
-    Ok(format!(in alloc; "{head}{open}{close}}}\n%query\n")?)
-}
-
-// A text again and again between two others.
-fn around(
-    alloc: Global,
-    before: &str,
-    text: &str,
-    times: usize,
-    behind: &str,
-) -> Result<String, Fail> {
-    let mut out = String::new(alloc);
-    out.push_str(before)?;
-    for _ in 0..times {
-        out.push_str(text)?;
-    }
-    out.push_str(behind)?;
-    Ok(out)
 }
 
 // A first line, and as many others, each with its number at the end.
-fn declarations(alloc: Global, first: &str, front: &str, count: u32) -> Result<String, Fail> {
-    let mut out = String::new(alloc);
-    out.push_str(first)?;
+fn declarations(alloc: Global, first: &str, front: &str, count: u32) -> Page {
+    let mut page = Page::new(alloc);
+    page.put(first);
     for i in 1..=count {
-        write!(out, "{front}{i}\n")?;
+        page.put(front);
+        page.put_shown(&i);
+        page.put("\n");
     }
-    Ok(out)
+    page
 }
 
-#[test]
-fn limits_of_shards(rt: HostRuntime) -> Result<(), Fail> {
-    let shards = Some(LoadFault::Limit(LimitKind::Shards { line: 1 }));
-    for (script, fault) in [
-        ("%document c shards=33\n", shards),
-        ("%edge c shards=99999999999999999999\n", shards),
-        ("%document c shards=032\n%query", None),
-    ] {
-        check(&rt, rt.alloc(), script, fault)?;
-    }
-    Ok(())
-}
+static DECLARATION_LIMITS: [(&str, &str, u32, LimitKind); 2] = [
+    ("", "%document c", 65, LimitKind::Collections { line: 65 }),
+    (
+        "%document c\n",
+        "%index c a",
+        17,
+        LimitKind::Indexes { line: 18 },
+    ),
+];
 
 #[test]
-fn limits_of_declarations(rt: HostRuntime) -> Result<(), Fail> {
+fn limits_of_declarations(rt: HostRuntime) {
     let alloc = rt.alloc();
-    let collections = LoadFault::Limit(LimitKind::Collections { line: 65 });
-    let indexes = LoadFault::Limit(LimitKind::Indexes { line: 18 });
-    for (first, front, count, fault) in [
-        ("", "%document c", 65, collections),
-        ("%document c\n", "%index c a", 17, indexes),
-    ] {
-        let many = declarations(alloc, first, front, count)?;
-        check(&rt, alloc, many.as_str(), Some(fault))?;
+    for (first, front, count, kind) in &DECLARATION_LIMITS {
+        let script = declarations(alloc, first, front, *count);
+        check(&rt, alloc, script.as_str(), Some(LoadFault::Limit(*kind)));
     }
-    Ok(())
+}
+
+// A document whose `v` is nested arrays.
+fn nested(alloc: Global, depth: usize) -> Page {
+    let mut page = Page::new(alloc);
+    page.put("%document c\n{\"_key\":\"k\",\"v\":");
+    page.put_times("[", depth);
+    page.put_times("]", depth);
+    page.put("}\n%query\n");
+    page
+}
+
+const DEEP: LoadFault = LoadFault::Limit(LimitKind::JsonDepth { line: 2 });
+
+const NOT_JSON: LoadFault = LoadFault::Line {
+    line: 2,
+    kind: LineKind::NotJson,
+};
+
+static DEPTH_LIMITS: [(usize, Option<LoadFault>); 4] = [
+    (63, None),
+    (64, Some(DEEP)),
+    (126, Some(DEEP)),
+    (127, Some(NOT_JSON)),
+];
+
+#[test]
+fn limits_of_depth(rt: HostRuntime) {
+    for (depth, fault) in &DEPTH_LIMITS {
+        let script = nested(rt.alloc(), *depth);
+        check(&rt, rt.alloc(), script.as_str(), *fault);
+    }
+}
+
+const BAD_KEY: LoadFault = LoadFault::Line {
+    line: 2,
+    kind: LineKind::BadKey,
+};
+
+const LONG: LoadFault = LoadFault::Limit(LimitKind::LineBytes { line: 2 });
+
+// A text again and again between two others.
+static LENGTH_LIMITS: [(&str, &str, usize, &str, Option<LoadFault>); 4] = [
+    ("%document c\n{\"_key\":\"", "k", 254, "\"}\n%query\n", None),
+    (
+        "%document c\n{\"_key\":\"",
+        "k",
+        255,
+        "\"}\n%query\n",
+        Some(BAD_KEY),
+    ),
+    ("%document c\n", " ", 1_048_576, "\r\n%query\n", None),
+    ("%document c\n", " ", 1_048_577, "\r\n%query\n", Some(LONG)),
+];
+
+#[test]
+fn limits_of_keys_and_lines(rt: HostRuntime) {
+    for (before, text, times, behind, fault) in &LENGTH_LIMITS {
+        let mut script = Page::new(rt.alloc());
+        script.put(before);
+        script.put_times(text, *times);
+        script.put(behind);
+        check(&rt, rt.alloc(), script.as_str(), *fault);
+    }
+}
+
+static EXPORTED: [(u32, u32, &str); 3] = [
+    (
+        0,
+        0,
+        "{\"_id\":\"users/1001\",\"_key\":\"1001\",\"_rev\":\"_a\",\"age\":31,\"name\":\"Ann\"}",
+    ),
+    (
+        0,
+        1,
+        "{\"_id\":\"users/1002\",\"_key\":\"1002\",\"age\":25,\"name\":\"Bob\"}",
+    ),
+    (
+        1,
+        0,
+        "{\"_from\":\"users/1001\",\"_id\":\"knows/1\",\"_key\":\"1\",\"_to\":\"users/1002\"}",
+    ),
+];
+
+fn is_exported(script: &Loaded) -> bool {
+    let catalog = &script.catalog;
+    script.query.as_str() == "RETURN 1\r\n"
+        && catalog.len() == 2
+        && catalog.find("users") == Some(CollNo(0))
+        && catalog.count(CollNo(0)) == 2
+        && catalog.count(CollNo(2)) == 0
+        && is_info(catalog.info(CollNo(0)), false, 2, 1, 2)
+        && is_info(catalog.info(CollNo(1)), true, 4, 2, 0)
+}
+
+fn check_export(rt: &impl Abort, alloc: Global, script: &Loaded) {
+    expect(rt, is_exported(script), "collections", "");
+    for (coll, doc, json) in &EXPORTED {
+        expect(
+            rt,
+            is_held(alloc, &script.catalog, *coll, *doc, json),
+            json,
+            "",
+        );
+    }
 }
 
 #[test]
-fn limits_of_depth(rt: HostRuntime) -> Result<(), Fail> {
-    let alloc = rt.alloc();
-    let deep = Some(LoadFault::Limit(LimitKind::JsonDepth { line: 2 }));
-    for (depth, fault) in [
-        (63, None),
-        (64, deep),
-        (126, deep),
-        (127, Some(at(2, LineKind::NotJson))),
-    ] {
-        let script = nested(alloc, depth)?;
-        check(&rt, alloc, script.as_str(), fault)?;
-    }
-    Ok(())
-}
-
-#[test]
-fn limits_of_keys(rt: HostRuntime) -> Result<(), Fail> {
-    let alloc = rt.alloc();
-    for (letters, fault) in [(254, None), (255, Some(at(2, LineKind::BadKey)))] {
-        let script = around(
-            alloc,
-            "%document c\n{\"_key\":\"",
-            "k",
-            letters,
-            "\"}\n%query\n",
-        )?;
-        assert!(rt; fault_of(alloc, script.as_bytes())? == fault, "{letters}");
-    }
-    Ok(())
-}
-
-#[test]
-fn limits_of_lines(rt: HostRuntime) -> Result<(), Fail> {
-    let alloc = rt.alloc();
-    let long = Some(LoadFault::Limit(LimitKind::LineBytes { line: 2 }));
-    for (blanks, fault) in [(1_048_576, None), (1_048_577, long)] {
-        let script = around(alloc, "%document c\n", " ", blanks, "\r\n%query\n")?;
-        assert!(rt; fault_of(alloc, script.as_bytes())? == fault, "{blanks}");
-    }
-    Ok(())
-}
-
-fn holds(
-    rt: &impl Abort,
-    alloc: Global,
-    script: &Loaded,
-    coll: u32,
-    doc: u32,
-    json: &str,
-) -> Result<(), Fail> {
-    let mut out = Vec::new(alloc);
-    let document = script
-        .catalog
-        .document(CollNo(coll), DocNo(doc))
-        .ok_or("no document")?;
-    write_json(document, &mut out)?;
-    assert_eq!(rt; out.as_slice(), json.as_bytes());
-    Ok(())
-}
-
-fn check_export(rt: &impl Abort, alloc: Global, script: &Loaded) -> Result<(), Fail> {
-    assert_eq!(rt; script.query.as_str(), "RETURN 1\r\n");
-    assert_eq!(rt; script.catalog.len(), 2);
-    let users = script.catalog.find("users").ok_or("users")?;
-    assert!(rt; script.catalog.count(users) == 2 && script.catalog.count(CollNo(2)) == 0);
-    let info = script.catalog.info(users).ok_or("users")?;
-    assert!(rt; !info.edge && info.shards == 2 && info.indexes.len() == 2);
-    let knows = script.catalog.info(CollNo(1)).ok_or("knows")?;
-    assert!(rt; knows.edge && knows.shards == 4 && knows.keys.len() == 2);
-    for (coll, doc, json) in [
-        (
-            0,
-            0,
-            "{\"_id\":\"users/1001\",\"_key\":\"1001\",\"_rev\":\"_a\",\"age\":31,\"name\":\"Ann\"}",
-        ),
-        (
-            0,
-            1,
-            "{\"_id\":\"users/1002\",\"_key\":\"1002\",\"age\":25,\"name\":\"Bob\"}",
-        ),
-        (
-            1,
-            0,
-            "{\"_from\":\"users/1001\",\"_id\":\"knows/1\",\"_key\":\"1\",\"_to\":\"users/1002\"}",
-        ),
-    ] {
-        holds(rt, alloc, script, coll, doc, json)?;
-    }
-    Ok(())
-}
-
-#[test]
-fn an_export(rt: HostRuntime) -> Result<(), Fail> {
-    let alloc = rt.alloc();
+fn an_export(rt: HostRuntime) {
     let text = "%document users shards=2\r\n\
         {\"_key\":\"1001\",\"_id\":\"users/1001\",\"_rev\":\"_a\",\"name\":\"Ann\",\"age\":31}\r\n\
         {\"_id\":\"users/1002\",\"name\":\"Bob\",\"age\":25}\n\
@@ -278,30 +282,30 @@ fn an_export(rt: HostRuntime) -> Result<(), Fail> {
         %index users age\n%index users name,age\n%index users age\n\
         %query\n\
         RETURN 1\r\n";
-    let script = loaded(alloc, text.as_bytes())?.ok().ok_or("a fault")?;
-    check_export(&rt, alloc, &script)
+    match loaded(rt.alloc(), text.as_bytes(), 4096, None) {
+        Ok(script) => check_export(&rt, rt.alloc(), &script),
+        Err(_) => expect(&rt, false, "a fault", ""),
+    }
 }
 
-// The fault of a source that fails behind so many bytes.
-fn fault_failing(alloc: Global, script: &[u8], fail_at: u64) -> Result<Option<LoadFault>, Fail> {
-    let mut source = MemorySource::new(script.to_vec(alloc)?, 3, Some(fail_at));
-    Ok(load(alloc, &mut source).err())
-}
+const NONSENSE: LoadFault = LoadFault::Line {
+    line: 3,
+    kind: LineKind::NotJson,
+};
+
+static FAILURES: [(u64, LoadFault); 5] = [
+    (0, LoadFault::Read),
+    (5, LoadFault::Read),
+    (30, LoadFault::Read),
+    (45, LoadFault::Read),
+    (100, NONSENSE),
+];
 
 #[test]
-fn failing_sources(rt: HostRuntime) -> Result<(), Fail> {
+fn failing_sources(rt: HostRuntime) {
     let script = b"%document c\n{\"_key\":\"k\"}\nnonsense\n%query\nRETURN 1";
-    for (fail_at, fault) in [
-        (0, LoadFault::Read),
-        (5, LoadFault::Read),
-        (30, LoadFault::Read),
-        (45, LoadFault::Read),
-        (100, at(3, LineKind::NotJson)),
-    ] {
-        assert!(rt;
-            fault_failing(rt.alloc(), script, fail_at)? == Some(fault),
-            "{fail_at}"
-        );
+    for (fail_at, fault) in &FAILURES {
+        let found = loaded(rt.alloc(), script, 3, Some(*fail_at)).err();
+        expect(&rt, found == Some(*fault), "failing", "");
     }
-    Ok(())
 }

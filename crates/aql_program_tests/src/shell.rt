@@ -1,11 +1,12 @@
 ghost use Rattle.std.specs.Prelude.{◌≤◌};
 
+use crate::catalogs::names;
+use crate::pages::{Page, expect};
 use aql_io::{MemorySink, MemorySource};
 use aql_top::run_shell;
-use aql_value::{Names, Text};
+use aql_value::Names;
 use std::alloc::Global;
 use std::process::Abort;
-use std::test::Fail;
 
 // The streams of a run: where each fails, and how much room the output has.
 #[derive(Clone, Copy)]
@@ -23,65 +24,69 @@ const SOUND: Streams = Streams {
     room: 1000,
 };
 
-// What a run gave.
-#[derive(Drop)]
-struct Gave {
-    status: u8,
-    out: MemorySink,
-    err: MemorySink,
-}
-
-impl Gave {
-    fn check(&self, rt: &impl Abort, script: &str, status: u8, text: &[u8], line: &[u8]) {
-        assert_eq!(rt; self.status, status, "{script}");
-        assert_eq!(rt; self.out.written(), text, "{script}");
-        assert_eq!(rt; self.err.written(), line, "{script}");
+// The status of a run; 255 where there is no memory for its streams.
+fn run_on(
+    alloc: Global,
+    words: &Names,
+    script: &[u8],
+    source_fails: Option<u64>,
+    out: &mut MemorySink,
+    err: &mut MemorySink,
+) -> u8 {
+    match script.to_vec(alloc) {
+        Ok(script) => {
+            let mut source = MemorySource::new(script, 7, source_fails);
+            run_shell(alloc, words, &mut source, out, err)
+        }
+        Err(_) => 255,
     }
 }
 
-fn names(alloc: Global, list: &[&str]) -> Result<Names, Fail> {
-    let mut names = Names::new(alloc);
-    for name in list {
-        names.push(Text::new(alloc, name)?)?;
-    }
-    Ok(names)
-}
-
-fn sink(alloc: Global, piece: usize, fail_at: Option<u64>, room: usize) -> Result<MemorySink, Fail>
+fn sink(alloc: Global, piece: usize, fail_at: Option<u64>, room: usize) -> MemorySink
     requires { 1 ≤ piece }
 {
     let mut sink = MemorySink::new(alloc, piece, fail_at);
-    sink.reserve(room)?;
-    Ok(sink)
-}
-
-fn run_on(alloc: Global, script: &[u8], streams: &Streams) -> Result<Gave, Fail> {
-    let script = script.to_vec(alloc)?;
-    let words = names(alloc, &["aql_shell"])?;
-    let mut out = sink(alloc, 5, streams.out_fails, streams.room)?;
-    let mut err = sink(alloc, 3, streams.err_fails, 100)?;
-    let mut source = MemorySource::new(script, 7, streams.source_fails);
-    let status = run_shell(alloc, &words, &mut source, &mut out, &mut err);
-    Ok(Gave { status, out, err })
+    let _ = sink.reserve(room);
+    sink
 }
 
 // Runs a script, and compares the status, what was written and the line on the error output.
 fn gives(
     rt: &impl Abort,
     alloc: Global,
-    script: &str,
+    script: &[u8],
     streams: &Streams,
     status: u8,
-    text: &str,
+    text: &[u8],
     line: &str,
-) -> Result<(), Fail> {
-    let gave = run_on(alloc, script.as_bytes(), streams)?;
-    gave.check(rt, script, status, text.as_bytes(), line.as_bytes());
-    Ok(())
+) {
+    let words = names(alloc, &["aql_shell"]);
+    let mut out = sink(alloc, 5, streams.out_fails, streams.room);
+    let mut err = sink(alloc, 3, streams.err_fails, 100);
+    let found = run_on(
+        alloc,
+        &words,
+        script,
+        streams.source_fails,
+        &mut out,
+        &mut err,
+    );
+    expect(rt, found == status, "the status", line);
+    expect(rt, out.written() == text, "the output", line);
+    expect(
+        rt,
+        err.written() == line.as_bytes(),
+        "the error output",
+        line,
+    );
 }
 
-fn prints(rt: &impl Abort, alloc: Global, script: &str, text: &str) -> Result<(), Fail> {
-    gives(rt, alloc, script, &SOUND, 0, text, "")
+fn prints(rt: &impl Abort, alloc: Global, script: &str, text: &str) {
+    gives(rt, alloc, script.as_bytes(), &SOUND, 0, text.as_bytes(), "");
+}
+
+fn refuses(rt: &impl Abort, alloc: Global, script: &str, status: u8, line: &str) {
+    gives(rt, alloc, script.as_bytes(), &SOUND, status, b"", line);
 }
 
 const FIRST: &str =
@@ -91,61 +96,54 @@ const FIRST: &str =
 const KEPT: &str = "{\"_id\":\"c/k1\",\"_key\":\"k1\",\"a\":1,\"b\":\"x\"}\n";
 
 // A script of the collection c with these lines, of an edge collection e and this query.
-fn script_of(alloc: Global, lines: &str, query: &str) -> Result<String, Fail> {
-    Ok(format!(in alloc; "%edge e\n%document c\n{lines}%query\n{query}")?)
+fn script_of(alloc: Global, lines: &str, query: &str) -> Page {
+    let mut script = Page::new(alloc);
+    script.put_pair("%edge e\n%document c\n", lines);
+    script.put_pair("%query\n", query);
+    script
 }
 
-// A script without collections.
-fn alone(alloc: Global, query: &str) -> Result<String, Fail> {
-    Ok(format!(in alloc; "%query\n{query}")?)
+// A text between two others.
+fn around(alloc: Global, before: &str, text: &str, behind: &str) -> Page {
+    let mut page = Page::new(alloc);
+    page.put_pair(before, text);
+    page.put(behind);
+    page
 }
 
-fn is_refused(
-    rt: &impl Abort,
-    alloc: Global,
-    query: &str,
-    status: u8,
-    line: &str,
-) -> Result<(), Fail> {
-    let script = script_of(alloc, "", query)?;
-    let line = format!(in alloc; "aql: {line}\n")?;
-    gives(
-        rt,
-        alloc,
-        script.as_str(),
-        &SOUND,
-        status,
-        "",
-        line.as_str(),
-    )
-}
-
-// The same of a query that is made for it.
-fn is_refused_long(
-    rt: &impl Abort,
-    alloc: Global,
-    query: String,
-    status: u8,
-    line: &str,
-) -> Result<(), Fail> {
-    is_refused(rt, alloc, query.as_str(), status, line)
+fn is_refused(rt: &impl Abort, alloc: Global, query: &str, status: u8, line: &str) {
+    let script = script_of(alloc, "", query);
+    let line = around(alloc, "aql: ", line, "\n");
+    refuses(rt, alloc, script.as_str(), status, line.as_str());
 }
 
 // RETURN of something within brackets.
-fn nested(alloc: Global, depth: usize, inner: &str) -> Result<String, Fail> {
-    let opening = "(".repeat(alloc, depth)?;
-    let closing = ")".repeat(alloc, depth)?;
-    Ok(format!(in alloc; "RETURN {opening}{inner}{closing}")?)
+fn nested(alloc: Global, depth: usize, inner: &str) -> Page {
+    let mut query = Page::new(alloc);
+    query.put("RETURN ");
+    query.put_times("(", depth);
+    query.put(inner);
+    query.put_times(")", depth);
+    query
+}
+
+// A first line, and as many others, each with its number within it, and what follows them.
+fn numbered(alloc: Global, first: &str, other: &str, count: usize, ends: &str) -> Page {
+    let mut script = Page::new(alloc);
+    script.put(first);
+    for number in 1..=count {
+        script.put(other);
+        script.put_shown(&number);
+        script.put(ends);
+    }
+    script
 }
 
 // As many LETs, each of another variable, and what follows them.
-fn lets(alloc: Global, count: usize, behind: &str) -> Result<String, Fail> {
-    let mut query = String::new(alloc);
-    for number in 0..count {
-        write!(query, "LET x{number} = 1 ")?;
-    }
-    query.push_str(behind)?;
-    Ok(query)
+fn lets(alloc: Global, count: usize, behind: &str) -> Page {
+    let mut query = numbered(alloc, "", "LET x", count, " = 1 ");
+    query.put(behind);
+    query
 }
 
 static DOCUMENTS: [(&str, &str, &str); 9] = [
@@ -182,15 +180,14 @@ static DOCUMENTS: [(&str, &str, &str); 9] = [
 ];
 
 #[test]
-fn prints_documents(rt: HostRuntime) -> Result<(), Fail> {
+fn prints_documents(rt: HostRuntime) {
     let alloc = rt.alloc();
-    prints(&rt, alloc, FIRST, KEPT)?;
-    let ends = format!(in alloc; "{FIRST}\n")?;
-    prints(&rt, alloc, ends.as_str(), KEPT)?;
+    prints(&rt, alloc, FIRST, KEPT);
+    prints(&rt, alloc, around(alloc, FIRST, "\n", "").as_str(), KEPT);
     for (lines, query, text) in &DOCUMENTS {
-        prints(&rt, alloc, script_of(alloc, lines, query)?.as_str(), text)?;
+        let script = script_of(alloc, lines, query);
+        prints(&rt, alloc, script.as_str(), text);
     }
-    Ok(())
 }
 
 static SCRIPTS: [(&str, &str); 3] = [
@@ -210,14 +207,13 @@ static SCRIPTS: [(&str, &str); 3] = [
 ];
 
 #[test]
-fn prints_documents_of_scripts(rt: HostRuntime) -> Result<(), Fail> {
+fn prints_documents_of_scripts(rt: HostRuntime) {
     let alloc = rt.alloc();
     let query = "FOR x IN d FILTER x.a == 1 RETURN x";
     for (script, text) in &SCRIPTS {
-        let script = format!(in alloc; "{script}{query}")?;
-        prints(&rt, alloc, script.as_str(), text)?;
+        let script = around(alloc, script, query, "");
+        prints(&rt, alloc, script.as_str(), text);
     }
-    Ok(())
 }
 
 static VALUES: [(&str, &str); 9] = [
@@ -253,18 +249,14 @@ static VALUES: [(&str, &str); 9] = [
     ),
 ];
 
-fn prints_value(rt: &impl Abort, alloc: Global, value: &str, text: &str) -> Result<(), Fail> {
-    let script = format!(in alloc; "%query\nRETURN {value}")?;
-    let line = format!(in alloc; "{text}\n")?;
-    prints(rt, alloc, script.as_str(), line.as_str())
-}
-
 #[test]
-fn prints_values(rt: HostRuntime) -> Result<(), Fail> {
+fn prints_values(rt: HostRuntime) {
+    let alloc = rt.alloc();
     for (value, text) in &VALUES {
-        prints_value(&rt, rt.alloc(), value, text)?;
+        let script = around(alloc, "%query\nRETURN ", value, "");
+        let line = around(alloc, "", text, "\n");
+        prints(&rt, alloc, script.as_str(), line.as_str());
     }
-    Ok(())
 }
 
 static BAD_SCRIPTS: [(&str, &str); 15] = [
@@ -311,69 +303,45 @@ static BAD_SCRIPTS: [(&str, &str); 15] = [
 ];
 
 #[test]
-fn refuses_scripts(rt: HostRuntime) -> Result<(), Fail> {
+fn refuses_scripts(rt: HostRuntime) {
     let alloc = rt.alloc();
     for (script, line) in &BAD_SCRIPTS {
-        gives(&rt, alloc, script, &SOUND, 3, "", line)?;
+        refuses(&rt, alloc, script, 3, line);
     }
     let shards = "%document c shards=33\n%query\nRETURN y";
-    gives(
-        &rt,
-        alloc,
-        shards,
-        &SOUND,
-        5,
-        "",
-        "aql: limit: line 1: shards\n",
-    )
+    refuses(&rt, alloc, shards, 5, "aql: limit: line 1: shards\n");
 }
 
 // A script whose document nests arrays so deep.
-fn arrays_in(alloc: Global, depth: usize) -> Result<String, Fail> {
-    let before = "%document c\n{\"_key\":\"k\",\"v\":";
-    let opening = "[".repeat(alloc, depth)?;
-    let closing = "]".repeat(alloc, depth)?;
-    let behind = "}\n%query\nRETURN 1";
-    Ok(format!(in alloc; "{before}{opening}{closing}{behind}")?)
+fn arrays_in(alloc: Global, depth: usize) -> Page {
+    let mut script = Page::new(alloc);
+    script.put("%document c\n{\"_key\":\"k\",\"v\":");
+    script.put_times("[", depth);
+    script.put_times("]", depth);
+    script.put("}\n%query\nRETURN 1");
+    script
 }
 
-// A first line, and as many of another, each with its number at the end.
-fn lines_numbered(alloc: Global, first: &str, other: &str, count: usize) -> Result<String, Fail> {
-    let mut script = String::new(alloc);
-    script.push_str(first)?;
-    for number in 1..=count {
-        write!(script, "{other}{number}\n")?;
-    }
-    Ok(script)
-}
+static LIMITS: [(&str, &str, usize, &str); 2] = [
+    ("", "%document c", 65, "aql: limit: line 65: collections\n"),
+    (
+        "%document c\n",
+        "%index c a",
+        17,
+        "aql: limit: line 18: indexes\n",
+    ),
+];
 
 #[test]
-fn keeps_limits_of_scripts(rt: HostRuntime) -> Result<(), Fail> {
+fn keeps_limits_of_scripts(rt: HostRuntime) {
     let alloc = rt.alloc();
-    prints(&rt, alloc, arrays_in(alloc, 63)?.as_str(), "1\n")?;
+    prints(&rt, alloc, arrays_in(alloc, 63).as_str(), "1\n");
     let line = "aql: limit: line 2: JSON depth\n";
-    gives(
-        &rt,
-        alloc,
-        arrays_in(alloc, 64)?.as_str(),
-        &SOUND,
-        5,
-        "",
-        line,
-    )?;
-    for (first, other, count, line) in [
-        ("", "%document c", 65, "aql: limit: line 65: collections\n"),
-        (
-            "%document c\n",
-            "%index c a",
-            17,
-            "aql: limit: line 18: indexes\n",
-        ),
-    ] {
-        let script = lines_numbered(alloc, first, other, count)?;
-        gives(&rt, alloc, script.as_str(), &SOUND, 5, "", line)?;
+    refuses(&rt, alloc, arrays_in(alloc, 64).as_str(), 5, line);
+    for (first, other, count, line) in &LIMITS {
+        let script = numbered(alloc, first, other, *count, "\n");
+        refuses(&rt, alloc, script.as_str(), 5, line);
     }
-    Ok(())
 }
 
 static BAD_QUERIES: [(&str, &str); 19] = [
@@ -421,83 +389,82 @@ static BAD_QUERIES: [(&str, &str); 19] = [
 ];
 
 #[test]
-fn refuses_queries(rt: HostRuntime) -> Result<(), Fail> {
+fn refuses_queries(rt: HostRuntime) {
     let alloc = rt.alloc();
     for (query, line) in &BAD_QUERIES {
-        is_refused(&rt, alloc, query, 4, line)?;
+        is_refused(&rt, alloc, query, 4, line);
     }
-    Ok(())
 }
 
 // So many spaces behind a text that eight bytes more make a query as long as may be.
-fn spaced(alloc: Global, before: &str, behind: &str) -> Result<String, Fail> {
-    let spaces = " ".repeat(alloc, 65_528)?;
-    Ok(format!(in alloc; "{before}{spaces}{behind}")?)
+fn spaced(alloc: Global, before: &str, behind: &str) -> Page {
+    let mut script = Page::new(alloc);
+    script.put(before);
+    script.put_times(" ", 65_528);
+    script.put(behind);
+    script
 }
 
 #[test]
-fn keeps_limits(rt: HostRuntime) -> Result<(), Fail> {
+fn keeps_limits(rt: HostRuntime) {
     let alloc = rt.alloc();
-    let most = spaced(alloc, "%query\nRETURN 1", "")?;
-    prints(&rt, alloc, most.as_str(), "1\n")?;
-    let deep = alone(alloc, nested(alloc, 64, "1")?.as_str())?;
-    prints(&rt, alloc, deep.as_str(), "1\n")
+    let most = spaced(alloc, "%query\nRETURN 1", "");
+    prints(&rt, alloc, most.as_str(), "1\n");
+    let deep = nested(alloc, 64, "1");
+    let script = around(alloc, "%query\n", deep.as_str(), "");
+    prints(&rt, alloc, script.as_str(), "1\n");
 }
 
-#[test]
-fn refuses_beyond_limits(rt: HostRuntime) -> Result<(), Fail> {
-    let alloc = rt.alloc();
-    let bytes = "limit: query bytes";
-    is_refused_long(&rt, alloc, spaced(alloc, "RETURN #", " ")?, 5, bytes)?;
-    is_refused_long(&rt, alloc, nested(alloc, 65, "1")?, 5, "limit: nesting")?;
-    is_refused_long(&rt, alloc, lets(alloc, 127, "RETURN 1")?, 9, "not yet")?;
-    is_refused_long(
-        &rt,
-        alloc,
-        lets(alloc, 128, "RETURN 1")?,
-        5,
-        "limit: clauses",
-    )?;
-    is_refused(
-        &rt,
-        alloc,
+static NESTED: [(usize, &str, u8, &str); 2] = [
+    (65, "1", 5, "limit: nesting"),
+    (65, "1.5", 4, "query: byte 72: fraction"),
+];
+
+static LETS: [(usize, &str, u8, &str); 3] = [
+    (127, "RETURN 1", 9, "not yet"),
+    (128, "RETURN 1", 5, "limit: clauses"),
+    (129, "", 5, "limit: clauses"),
+];
+
+static DEPTHS: [(&str, u8, &str); 3] = [
+    (
         "FOR v IN 1..33 OUTBOUND 'c/a' e RETURN v",
         5,
         "limit: traversal depth",
-    )
-}
+    ),
+    (
+        "FOR v IN 1..33 OUTBOUND 'c/a' e",
+        4,
+        "query: not in the grammar",
+    ),
+    (
+        "FOR v IN 1..33 OUTBOUND 'c/a' e RETURN y",
+        5,
+        "limit: traversal depth",
+    ),
+];
 
 // Where a query exceeds several limits or has faults too, the first of tokens, nesting, clauses,
 // grammar, traversals and names decides.
 #[test]
-fn orders_limits(rt: HostRuntime) -> Result<(), Fail> {
+fn refuses_beyond_limits(rt: HostRuntime) {
     let alloc = rt.alloc();
-    let fraction = "query: byte 72: fraction";
-    is_refused_long(&rt, alloc, nested(alloc, 65, "1.5")?, 4, fraction)?;
-    let open = nested(alloc, 65, "(")?;
-    is_refused_long(
-        &rt,
-        alloc,
-        lets(alloc, 128, open.as_str())?,
-        5,
-        "limit: nesting",
-    )?;
-    is_refused_long(&rt, alloc, lets(alloc, 129, "")?, 5, "limit: clauses")?;
-    for (query, status, line) in [
-        (
-            "FOR v IN 1..33 OUTBOUND 'c/a' e",
-            4,
-            "query: not in the grammar",
-        ),
-        (
-            "FOR v IN 1..33 OUTBOUND 'c/a' e RETURN y",
-            5,
-            "limit: traversal depth",
-        ),
-    ] {
-        is_refused(&rt, alloc, query, status, line)?;
+    let long = spaced(alloc, "RETURN #", " ");
+    is_refused(&rt, alloc, long.as_str(), 5, "limit: query bytes");
+    for (depth, inner, status, line) in &NESTED {
+        let query = nested(alloc, *depth, inner);
+        is_refused(&rt, alloc, query.as_str(), *status, line);
     }
-    Ok(())
+    for (count, behind, status, line) in &LETS {
+        let query = lets(alloc, *count, behind);
+        is_refused(&rt, alloc, query.as_str(), *status, line);
+    }
+    let open = nested(alloc, 65, "(");
+    let query = lets(alloc, 128, open.as_str());
+    is_refused(&rt, alloc, query.as_str(), 5, "limit: nesting");
+    for (query, status, line) in &DEPTHS {
+        is_refused(&rt, alloc, query, *status, line);
+    }
 }
 
 static OTHER_FORMS: [&str; 11] = [
@@ -515,50 +482,53 @@ static OTHER_FORMS: [&str; 11] = [
 ];
 
 #[test]
-fn runs_no_other_form(rt: HostRuntime) -> Result<(), Fail> {
+fn runs_no_other_form(rt: HostRuntime) {
     let alloc = rt.alloc();
     for query in &OTHER_FORMS {
-        is_refused(&rt, alloc, query, 9, "not yet")?;
+        is_refused(&rt, alloc, query, 9, "not yet");
     }
-    Ok(())
 }
 
 // Each front of a script is refused, or is a script without a query's end.
 #[test]
-fn takes_each_front(rt: HostRuntime) -> Result<(), Fail> {
+fn takes_each_front(rt: HostRuntime) {
+    let alloc = rt.alloc();
     let script = FIRST.as_bytes();
+    let words = names(alloc, &["aql_shell"]);
     for count in 0..script.len() {
-        let gave = run_on(rt.alloc(), &script[..count], &SOUND)?;
-        assert!(rt; matches!(gave.status, 3 | 4), "{count}");
-        assert_eq!(rt; gave.out.written(), b"".as_slice(), "{count}");
+        let mut out = sink(alloc, 5, None, 1000);
+        let mut err = sink(alloc, 3, None, 100);
+        let status = run_on(alloc, &words, &script[..count], None, &mut out, &mut err);
+        let is_quiet = out.written().is_empty();
+        expect(&rt, matches!(status, 3 | 4) && is_quiet, "a front", "");
     }
-    Ok(())
 }
 
 #[test]
-fn sources_fail(rt: HostRuntime) -> Result<(), Fail> {
+fn sources_fail(rt: HostRuntime) {
+    let alloc = rt.alloc();
     for count in 0..=FIRST.len() as u64 {
         let mut streams = SOUND;
         streams.source_fails = Some(count);
-        gives(&rt, rt.alloc(), FIRST, &streams, 6, "", "aql: read fault\n")?;
+        let line = "aql: read fault\n";
+        gives(&rt, alloc, FIRST.as_bytes(), &streams, 6, b"", line);
     }
-    Ok(())
 }
 
 #[test]
-fn outputs_fail(rt: HostRuntime) -> Result<(), Fail> {
+fn outputs_fail(rt: HostRuntime) {
     let alloc = rt.alloc();
+    let script = FIRST.as_bytes();
     let kept = KEPT.as_bytes();
-    let line = b"aql: write fault\n";
+    let line = "aql: write fault\n";
     for count in 0..kept.len() {
         let mut streams = SOUND;
         streams.out_fails = Some(count as u64);
-        let gave = run_on(alloc, FIRST.as_bytes(), &streams)?;
-        gave.check(&rt, FIRST, 7, &kept[..count], line);
+        gives(&rt, alloc, script, &streams, 7, &kept[..count], line);
     }
     let mut full = SOUND;
     full.room = 3;
-    gives(&rt, alloc, FIRST, &full, 7, "{\"_", "aql: write fault\n")
+    gives(&rt, alloc, script, &full, 7, b"{\"_", line);
 }
 
 static ENDS: [(&str, u8, &str, &str); 6] = [
@@ -571,29 +541,30 @@ static ENDS: [(&str, u8, &str, &str); 6] = [
 ];
 
 #[test]
-fn error_output_fails(rt: HostRuntime) -> Result<(), Fail> {
+fn error_output_fails(rt: HostRuntime) {
+    let alloc = rt.alloc();
     let mut streams = SOUND;
     streams.err_fails = Some(6);
     for (script, status, text, line) in &ENDS {
-        gives(&rt, rt.alloc(), script, &streams, *status, text, line)?;
+        let script = script.as_bytes();
+        gives(&rt, alloc, script, &streams, *status, text.as_bytes(), line);
     }
-    Ok(())
 }
 
 // Words that are refused, on an error output that fails.
 #[test]
-fn words_fail(rt: HostRuntime) -> Result<(), Fail> {
+fn words_fail(rt: HostRuntime) {
     let alloc = rt.alloc();
-    let script = FIRST.as_bytes().to_vec(alloc)?;
-    let words = names(alloc, &["aql_shell", "--explain"])?;
-    let mut err = sink(alloc, 4, Some(6), 100)?;
-    let mut source = MemorySource::new(script, 9, None);
+    let words = names(alloc, &["aql_shell", "--explain"]);
+    let mut err = sink(alloc, 4, Some(6), 100);
     let mut out = MemorySink::new(alloc, 1, None);
-    assert_eq!(rt;
-        run_shell(alloc, &words, &mut source, &mut out, &mut err),
-        2
+    let status = run_on(alloc, &words, FIRST.as_bytes(), None, &mut out, &mut err);
+    expect(&rt, status == 2, "the status", "");
+    expect(
+        &rt,
+        err.written() == b"aql: w".as_slice(),
+        "the error output",
+        "",
     );
-    assert_eq!(rt; err.written(), b"aql: w".as_slice());
-    assert_eq!(rt; out.written(), b"".as_slice());
-    Ok(())
+    expect(&rt, out.written().is_empty(), "the output", "");
 }

@@ -1,3 +1,4 @@
+use crate::pages::expect;
 use aql_io::{
     MemorySink, MemorySource, ReadAllFault, ReadFailed, Sink, Source, StdSink, StdSource,
     WriteFailed, read_all, write_all,
@@ -6,20 +7,8 @@ use std::alloc::Global;
 use std::io;
 use std::io::{ErrorKind, Read, Write};
 use std::process::Abort;
-use std::test::Fail;
 
 const TEXT: &[u8] = b"abcde";
-
-// A source of `TEXT` in memory.
-fn text_source(
-    rt: &impl Abort,
-    alloc: Global,
-    piece: usize,
-    fail_at: Option<u64>,
-) -> Result<MemorySource, Fail> {
-    assert!(rt; piece >= 1);
-    Ok(MemorySource::new(TEXT.to_vec(alloc)?, piece, fail_at))
-}
 
 // Whether the source gives `TEXT`, or this fault.
 fn reads(
@@ -31,6 +20,23 @@ fn reads(
     match read_all(alloc, source, limit) {
         Ok(bytes) => bytes.as_slice() == TEXT && fault == None,
         Err(found) => fault == Some(found),
+    }
+}
+
+// The same of a source of `TEXT` in memory.
+fn reads_text(
+    alloc: Global,
+    piece: usize,
+    fail_at: Option<u64>,
+    limit: u64,
+    fault: Option<ReadAllFault>,
+) -> bool {
+    match TEXT.to_vec(alloc) {
+        Ok(bytes) if piece >= 1 => {
+            let mut source = MemorySource::new(bytes, piece, fail_at);
+            reads(alloc, &mut source, limit, fault)
+        }
+        _ => false,
     }
 }
 
@@ -56,15 +62,11 @@ static READS: [(usize, Option<u64>, u64, Option<ReadAllFault>); 17] = [
 ];
 
 #[test]
-fn reads_whole(rt: HostRuntime) -> Result<(), Fail> {
+fn reads_whole(rt: HostRuntime) {
     for (piece, fail_at, limit, fault) in &READS {
-        let mut source = text_source(&rt, rt.alloc(), *piece, *fail_at)?;
-        assert!(rt;
-            reads(rt.alloc(), &mut source, *limit, *fault),
-            "piece {piece}, limit {limit}"
-        );
+        let is_read = reads_text(rt.alloc(), *piece, *fail_at, *limit, *fault);
+        expect(&rt, is_read, "read", "");
     }
-    Ok(())
 }
 
 // The room, and what a read into it gives.
@@ -77,50 +79,51 @@ static PIECES: [(usize, Result<&[u8], ReadFailed>); 6] = [
     (1, Err(ReadFailed)),
 ];
 
-fn check_pieces(rt: &impl Abort, source: &mut MemorySource) {
+fn reads_piece(source: &mut MemorySource, room: usize, want: Result<&[u8], ReadFailed>) -> bool {
     let mut buffer = [0; 8];
+    if room > 8 {
+        return false;
+    }
+    match source.read_some(&mut buffer[..room]) {
+        Ok(count) => Ok(&buffer[..count]) == want,
+        Err(fault) => Err(fault) == want,
+    }
+}
+
+fn check_pieces(rt: &impl Abort, source: &mut MemorySource) {
     for (room, want) in &PIECES {
-        let room = *room;
-        assert!(rt; room <= 8);
-        match source.read_some(&mut buffer[..room]) {
-            Ok(count) => assert_eq!(rt; Ok(&buffer[..count]), *want, "room {room}"),
-            Err(fault) => assert_eq!(rt; Err(fault), *want, "room {room}"),
-        }
+        expect(rt, reads_piece(source, *room, *want), "a piece", "");
+    }
+}
+
+fn check_at_once(rt: &impl Abort, source: &mut MemorySource) {
+    let mut buffer = [0; 8];
+    expect(rt, source.read_some(&mut buffer) == Ok(5), "all", "");
+    expect(rt, source.read_some(&mut buffer) == Ok(0), "the end", "");
+}
+
+#[test]
+fn reads_pieces(rt: HostRuntime) {
+    match TEXT.to_vec(rt.alloc()) {
+        Ok(bytes) => check_pieces(&rt, &mut MemorySource::new(bytes, 3, Some(4))),
+        Err(_) => expect(&rt, false, "no memory", ""),
     }
 }
 
 #[test]
-fn reads_pieces(rt: HostRuntime) -> Result<(), Fail> {
-    let mut source = text_source(&rt, rt.alloc(), 3, Some(4))?;
-    check_pieces(&rt, &mut source);
-    Ok(())
+fn reads_at_once(rt: HostRuntime) {
+    match TEXT.to_vec(rt.alloc()) {
+        Ok(bytes) => check_at_once(&rt, &mut MemorySource::new(bytes, 8, None)),
+        Err(_) => expect(&rt, false, "no memory", ""),
+    }
 }
 
-#[test]
-fn reads_at_once(rt: HostRuntime) -> Result<(), Fail> {
-    let mut buffer = [0; 8];
-    let mut whole = text_source(&rt, rt.alloc(), 8, None)?;
-    assert_eq!(rt; whole.read_some(&mut buffer), Ok(5));
-    assert_eq!(rt; whole.read_some(&mut buffer), Ok(0));
-    Ok(())
-}
-
-fn check_writing(
-    rt: &impl Abort,
-    sink: &mut MemorySink,
-    room: usize,
-    want: &[u8],
-) -> Result<(), Fail> {
-    assert_eq!(rt; write_all(sink, b""), Ok(()));
-    sink.reserve(room)?;
-    let due = if want.len() == 5 {
-        Ok(())
-    } else {
-        Err(WriteFailed)
-    };
-    assert_eq!(rt; write_all(sink, TEXT), due, "room {room}");
-    assert_eq!(rt; sink.written(), want, "room {room}");
-    Ok(())
+fn writes(sink: &mut MemorySink, room: usize, want: &[u8]) -> bool {
+    let is_whole = want.len() == 5;
+    write_all(sink, b"") == Ok(())
+        && sink.reserve(room).is_ok()
+        && write_all(sink, TEXT) == (if is_whole { Ok(()) } else { Err(WriteFailed) })
+        && sink.written() == want
 }
 
 // The piece, the bytes before a fault, the room, and what is written of `TEXT`.
@@ -138,30 +141,29 @@ static WRITES: [(usize, Option<u64>, usize, &[u8]); 10] = [
 ];
 
 #[test]
-fn writes_whole(rt: HostRuntime) -> Result<(), Fail> {
+fn writes_whole(rt: HostRuntime) {
     for (piece, fail_at, room, want) in &WRITES {
         assert!(rt; *piece >= 1);
         let mut sink = MemorySink::new(rt.alloc(), *piece, *fail_at);
-        check_writing(&rt, &mut sink, *room, want)?;
+        expect(&rt, writes(&mut sink, *room, want), "written", "");
     }
-    Ok(())
 }
 
-fn check_room(rt: &impl Abort, sink: &mut MemorySink) -> Result<(), Fail> {
-    sink.reserve(2)?;
-    sink.reserve(1)?;
-    assert_eq!(rt; sink.write_some(TEXT), Ok(3));
-    assert_eq!(rt; sink.write_some(TEXT), Err(WriteFailed));
-    sink.reserve(1)?;
-    assert_eq!(rt; sink.write_some(TEXT), Ok(1));
-    assert_eq!(rt; sink.written(), b"abca".as_slice());
-    assert!(rt; sink.reserve(usize::MAX).is_err());
-    Ok(())
+fn adds_up(sink: &mut MemorySink) -> bool {
+    sink.reserve(2).is_ok()
+        && sink.reserve(1).is_ok()
+        && sink.write_some(TEXT) == Ok(3)
+        && sink.write_some(TEXT) == Err(WriteFailed)
+        && sink.reserve(1).is_ok()
+        && sink.write_some(TEXT) == Ok(1)
+        && sink.written() == b"abca".as_slice()
+        && sink.reserve(usize::MAX).is_err()
 }
 
 #[test]
-fn room_adds_up(rt: HostRuntime) -> Result<(), Fail> {
-    check_room(&rt, &mut MemorySink::new(rt.alloc(), 8, None))
+fn room_adds_up(rt: HostRuntime) {
+    let mut sink = MemorySink::new(rt.alloc(), 8, None);
+    expect(&rt, adds_up(&mut sink), "room", "");
 }
 
 // A stream that gives no byte and takes each, until it breaks.
@@ -200,38 +202,55 @@ impl Write for Pipe {
     }
 }
 
+fn gives_text(alloc: Global, source: &mut StdSource<&[u8]>) -> bool {
+    match read_all(alloc, source, 5) {
+        Ok(bytes) => bytes.as_slice() == TEXT,
+        Err(_) => false,
+    }
+}
+
 #[test]
-fn adapts_sources(rt: HostRuntime) -> Result<(), Fail> {
+fn adapts_sources(rt: HostRuntime) {
     let mut broken = StdSource::new(Pipe::new(0));
-    assert_eq!(rt; broken.read_some(&mut []), Ok(0));
-    assert_eq!(rt; broken.read_some(&mut [0; 4]), Err(ReadFailed));
+    expect(&rt, broken.read_some(&mut []) == Ok(0), "nothing", "");
+    expect(
+        &rt,
+        broken.read_some(&mut [0; 4]) == Err(ReadFailed),
+        "broken",
+        "",
+    );
     let mut source = StdSource::new(TEXT);
-    let bytes = read_all(rt.alloc(), &mut source, 5)?;
-    assert_eq!(rt; bytes.as_slice(), TEXT);
-    Ok(())
+    expect(&rt, gives_text(rt.alloc(), &mut source), "the text", "");
 }
 
 #[test]
 fn adapts_sinks(rt: HostRuntime) {
     let mut written = Vec::new(rt.alloc());
-    assert_eq!(rt; write_all(&mut StdSink::new(&mut written), TEXT), Ok(()));
-    assert_eq!(rt; written.as_slice(), TEXT);
+    let is_whole = write_all(&mut StdSink::new(&mut written), TEXT) == Ok(());
+    expect(&rt, is_whole && written.as_slice() == TEXT, "whole", "");
 
     // A slice takes nothing more once it is full.
     let mut full = [0; 3];
-    assert_eq!(rt;
-        write_all(&mut StdSink::new(full.as_mut_slice()), TEXT),
-        Err(WriteFailed)
+    let is_cut = write_all(&mut StdSink::new(full.as_mut_slice()), TEXT) == Err(WriteFailed);
+    expect(
+        &rt,
+        is_cut && full.as_slice() == b"abc".as_slice(),
+        "full",
+        "",
     );
-    assert_eq!(rt; full.as_slice(), b"abc".as_slice());
 }
+
+static FLUSHES: [(u32, Result<(), WriteFailed>, u32); 2] = [
+    (0, Ok(()), 3),
+    (2, Err(WriteFailed), 2),
+];
 
 // Each of the three pieces is flushed; the second flush of the other pipe fails.
 #[test]
 fn flushes(rt: HostRuntime) {
-    for (breaks_at, due, flushes) in [(0, Ok(()), 3), (2, Err(WriteFailed), 2)] {
-        let mut pipe = Pipe::new(breaks_at);
-        assert_eq!(rt; write_all(&mut StdSink::new(&mut pipe), TEXT), due);
-        assert_eq!(rt; pipe.flushes, flushes);
+    for (breaks_at, due, flushes) in &FLUSHES {
+        let mut pipe = Pipe::new(*breaks_at);
+        let is_due = write_all(&mut StdSink::new(&mut pipe), TEXT) == *due;
+        expect(&rt, is_due && pipe.flushes == *flushes, "flushed", "");
     }
 }

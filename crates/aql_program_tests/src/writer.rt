@@ -1,35 +1,48 @@
 // A scoped query as text: variables as #1, collections by their names, lifted queries in brackets.
+use crate::pages::Page;
 use aql_func::{BinOp, UnaryOp};
 use aql_scope::Scoped;
-use aql_tree::{Clause, Collect, Expr, Field, Ident, Key, Link, Query, Step, Traversal};
+use aql_tree::{
+    AggregateItem, Clause, Collect, Expr, Field, Ident, Into, Key, Let, Link, Query, Step,
+    Traversal,
+};
 use aql_value::{Text, Value};
-use std::alloc::AllocError;
 
-fn write_ident(out: &mut String, ident: &Ident) -> Result<(), AllocError> {
+fn write_ident(before: &str, ident: &Ident, page: &mut Page) {
+    page.put(before);
     match ident {
-        Ident::Name(name) => write!(out, "?{}", name.as_str())?,
-        Ident::Num(number) => write!(out, "#{number}")?,
+        Ident::Name(name) => page.put_pair("?", name.as_str()),
+        Ident::Num(number) => {
+            page.put("#");
+            page.put_shown(number);
+        }
     }
-    Ok(())
 }
 
-fn write_names(out: &mut String, names: &[Text]) -> Result<(), AllocError> {
+fn write_variable(ident: &Option<Ident>, page: &mut Page) {
+    if let Some(ident) = ident {
+        write_ident(" ", ident, page);
+    }
+}
+
+fn write_names(names: &[Text], page: &mut Page) {
     for name in names {
-        out.push_str(" ")?;
-        out.push_str(name.as_str())?;
+        page.put_pair(" ", name.as_str());
     }
-    Ok(())
 }
 
-fn write_value(out: &mut String, value: &Value) -> Result<(), AllocError> {
+fn write_value(value: &Value, page: &mut Page) {
     match value {
-        Value::Null => out.push_str("null")?,
-        Value::Bool(is_true) => write!(out, "{is_true}")?,
-        Value::Num(number) => write!(out, "{number}")?,
-        Value::Text(text) => write!(out, "'{}'", text.as_str())?,
-        _ => out.push_str("?")?,
+        Value::Null => page.put("null"),
+        Value::Bool(true) => page.put("true"),
+        Value::Bool(false) => page.put("false"),
+        Value::Num(number) => page.put_shown(number),
+        Value::Text(text) => {
+            page.put_pair("'", text.as_str());
+            page.put("'");
+        }
+        _ => page.put("?"),
     }
-    Ok(())
 }
 
 fn operator(op: BinOp) -> &'static str {
@@ -53,38 +66,43 @@ fn sign(op: UnaryOp) -> &'static str {
 }
 
 #[cycle(write)]
-fn write_expr(expr: &Expr, out: &mut String) -> Result<(), AllocError> {
+fn write_expr(before: &str, expr: &Expr, page: &mut Page) {
+    page.put(before);
     match expr {
-        Expr::Lit(value) => write_value(out, value),
-        Expr::Var(ident) => write_ident(out, ident),
-        Expr::Current => out.push_str("@"),
-        Expr::List(items) => {
-            out.push_str("[")?;
-            write_exprs(items.as_slice(), out)?;
-            out.push_str(" ]")
-        }
+        Expr::Lit(value) => write_value(value, page),
+        Expr::Var(ident) => write_ident("", ident, page),
+        Expr::Current => page.put("@"),
+        Expr::List(items) => write_exprs("[", items.as_slice(), " ]", page),
         Expr::Object(fields) => {
-            out.push_str("{")?;
-            write_fields(fields.as_slice(), out)?;
-            out.push_str(" }")
+            page.put("{");
+            write_fields(fields.as_slice(), page);
+            page.put(" }");
         }
         Expr::Access { of, steps } => {
-            write_expr(of, out)?;
-            write_steps(steps.as_slice(), out)
+            write_expr("", of, page);
+            write_steps(steps.as_slice(), page);
         }
         Expr::Call { name, args } => {
-            out.push_str(name.as_str())?;
-            out.push_str("(")?;
-            write_exprs(args.as_slice(), out)?;
-            out.push_str(" )")
+            page.put(name.as_str());
+            write_exprs("(", args.as_slice(), " )", page);
         }
-        Expr::Unary { op, of } => {
-            out.push_str(sign(*op))?;
-            write_expr(of, out)
+        Expr::Sub(query) => {
+            page.put("(");
+            write_query(query, page);
+            page.put(")");
         }
+        _ => write_operation(expr, page),
+    }
+}
+
+// The parts of an operation, and nothing of another expression.
+#[cycle(write)]
+fn write_operation(expr: &Expr, page: &mut Page) {
+    match expr {
+        Expr::Unary { op, of } => write_expr(sign(*op), of, page),
         Expr::Chain { first, rest } => {
-            write_expr(first, out)?;
-            write_links(rest.as_slice(), out)
+            write_expr("", first, page);
+            write_links(rest.as_slice(), page);
         }
         Expr::Quant {
             left,
@@ -92,231 +110,215 @@ fn write_expr(expr: &Expr, out: &mut String) -> Result<(), AllocError> {
             op,
             right,
         } => {
-            write_expr(left, out)?;
-            write!(out, " {kind:?} {} ", operator(*op))?;
-            write_expr(right, out)
+            write_expr("", left, page);
+            page.put(" ");
+            page.put_named(kind);
+            page.put_pair(" ", operator(*op));
+            write_expr(" ", right, page);
         }
         Expr::Cond { test, yes, no } => {
-            write_expr(test, out)?;
-            out.push_str(" ?")?;
+            write_expr("", test, page);
+            page.put(" ?");
             if let Some(yes) = yes {
-                out.push_str(" ")?;
-                write_expr(yes, out)?;
+                write_expr(" ", yes, page);
             }
-            out.push_str(" : ")?;
-            write_expr(no, out)
+            write_expr(" : ", no, page);
         }
         Expr::Range { low, high } => {
-            write_expr(low, out)?;
-            out.push_str("..")?;
-            write_expr(high, out)
+            write_expr("", low, page);
+            write_expr("..", high, page);
         }
-        Expr::Sub(query) => {
-            out.push_str("(")?;
-            write_query(query, out)?;
-            out.push_str(")")
-        }
+        _ => {}
     }
 }
 
 #[cycle(write)]
-fn write_exprs(exprs: &[Expr], out: &mut String) -> Result<(), AllocError> {
+fn write_exprs(before: &str, exprs: &[Expr], behind: &str, page: &mut Page) {
+    page.put(before);
     for expr in exprs {
-        out.push_str(" ")?;
-        write_expr(expr, out)?;
+        write_expr(" ", expr, page);
     }
-    Ok(())
+    page.put(behind);
 }
 
 // A part behind its word, if it is there.
 #[cycle(write)]
-fn write_part(word: &str, part: &Option<Expr>, out: &mut String) -> Result<(), AllocError> {
+fn write_part(word: &str, part: &Option<Expr>, page: &mut Page) {
     if let Some(expr) = part {
-        out.push_str(word)?;
-        write_expr(expr, out)?;
+        write_expr(word, expr, page);
     }
-    Ok(())
 }
 
 #[cycle(write)]
-fn write_fields(fields: &[Field], out: &mut String) -> Result<(), AllocError> {
+fn write_fields(fields: &[Field], page: &mut Page) {
     for field in fields {
         match field {
             Field::Named { name, value } => {
-                out.push_str(" ")?;
-                out.push_str(name.as_str())?;
-                out.push_str(": ")?;
-                write_expr(value, out)?;
+                page.put_pair(" ", name.as_str());
+                write_expr(": ", value, page);
             }
             Field::Computed { name, value } => {
-                out.push_str(" [")?;
-                write_expr(name, out)?;
-                out.push_str("]: ")?;
-                write_expr(value, out)?;
+                write_expr(" [", name, page);
+                write_expr("]: ", value, page);
             }
         }
     }
-    Ok(())
 }
 
 #[cycle(write)]
-fn write_links(links: &[Link], out: &mut String) -> Result<(), AllocError> {
+fn write_links(links: &[Link], page: &mut Page) {
     for link in links {
-        out.push_str(" ")?;
-        out.push_str(operator(link.op))?;
-        out.push_str(" ")?;
-        write_expr(&link.right, out)?;
+        page.put_pair(" ", operator(link.op));
+        write_expr(" ", &link.right, page);
     }
-    Ok(())
 }
 
 #[cycle(write)]
-fn write_steps(steps: &[Step], out: &mut String) -> Result<(), AllocError> {
+fn write_steps(steps: &[Step], page: &mut Page) {
     for step in steps {
         match step {
-            Step::Name(name) => {
-                out.push_str(".")?;
-                out.push_str(name.as_str())?;
-            }
+            Step::Name(name) => page.put_pair(".", name.as_str()),
             Step::At(expr) => {
-                out.push_str("[")?;
-                write_expr(expr, out)?;
-                out.push_str("]")?;
+                write_expr("[", expr, page);
+                page.put("]");
             }
             Step::Each { filter, project } => {
-                out.push_str("[*")?;
-                write_part(" filter ", filter, out)?;
-                write_part(" return ", project, out)?;
-                out.push_str("]")?;
+                page.put("[*");
+                write_part(" filter ", filter, page);
+                write_part(" return ", project, page);
+                page.put("]");
             }
         }
     }
-    Ok(())
 }
 
 #[cycle(write)]
-fn write_keys(keys: &[Key], out: &mut String) -> Result<(), AllocError> {
+fn write_keys(keys: &[Key], page: &mut Page) {
     for key in keys {
-        out.push_str(" ")?;
-        write_expr(&key.expr, out)?;
-        if key.descending {
-            out.push_str(" desc")?;
-        }
+        write_expr(" ", &key.expr, page);
+        page.put(if key.descending { " desc" } else { "" });
     }
-    Ok(())
+}
+
+// The variables, depths and direction of a traversal.
+fn write_bounds(walk: &Traversal, page: &mut Page) {
+    write_ident("walk ", &walk.vertex, page);
+    write_variable(&walk.edge, page);
+    write_variable(&walk.path, page);
+    page.put(" in ");
+    page.put_shown(&walk.min);
+    page.put("..");
+    page.put_shown(&walk.max);
+    page.put(" ");
+    page.put_named(&walk.direction);
+}
+
+// The options that are understood.
+fn write_options(walk: &Traversal, page: &mut Page) {
+    page.put(" with ");
+    page.put_named(&walk.options.edges);
+    page.put(" ");
+    page.put_named(&walk.options.vertices);
+    page.put(if walk.options.bfs { " bfs" } else { "" });
 }
 
 #[cycle(write)]
-fn write_walk(walk: &Traversal, out: &mut String) -> Result<(), AllocError> {
-    out.push_str("walk ")?;
-    write_ident(out, &walk.vertex)?;
-    if let Some(edge) = &walk.edge {
-        out.push_str(" ")?;
-        write_ident(out, edge)?;
-    }
-    if let Some(path) = &walk.path {
-        out.push_str(" ")?;
-        write_ident(out, path)?;
-    }
-    write!(out, " in {}..{} {:?} ", walk.min, walk.max, walk.direction)?;
-    write_expr(&walk.start, out)?;
-    out.push_str(" over")?;
-    write_names(out, walk.collections.as_slice())?;
-    write_part(" prune ", &walk.prune, out)?;
-    write!(
-        out,
-        " with {:?} {:?}",
-        walk.options.edges, walk.options.vertices
-    )?;
-    if walk.options.bfs {
-        out.push_str(" bfs")?;
-    }
-    write_fields(walk.options.settings.as_slice(), out)
+fn write_walk(walk: &Traversal, page: &mut Page) {
+    write_bounds(walk, page);
+    write_expr(" ", &walk.start, page);
+    page.put(" over");
+    write_names(walk.collections.as_slice(), page);
+    write_part(" prune ", &walk.prune, page);
+    write_options(walk, page);
+    write_fields(walk.options.settings.as_slice(), page);
 }
 
 #[cycle(write)]
-fn write_collect(collect: &Collect, out: &mut String) -> Result<(), AllocError> {
-    out.push_str("collect")?;
-    for group in collect.groups.as_slice() {
-        out.push_str(" ")?;
-        write_ident(out, &group.var)?;
-        out.push_str(" = ")?;
-        write_expr(&group.expr, out)?;
+fn write_groups(groups: &[Let], page: &mut Page) {
+    for group in groups {
+        write_ident(" ", &group.var, page);
+        write_expr(" = ", &group.expr, page);
     }
-    for item in collect.aggregates.as_slice() {
-        out.push_str(" aggregate ")?;
-        write_ident(out, &item.var)?;
-        out.push_str(" = ")?;
-        out.push_str(item.name.as_str())?;
-        out.push_str("(")?;
-        write_part(" ", &item.arg, out)?;
-        out.push_str(" )")?;
+}
+
+#[cycle(write)]
+fn write_aggregates(items: &[AggregateItem], page: &mut Page) {
+    for item in items {
+        write_ident(" aggregate ", &item.var, page);
+        page.put_pair(" = ", item.name.as_str());
+        page.put("(");
+        write_part(" ", &item.arg, page);
+        page.put(" )");
     }
+}
+
+#[cycle(write)]
+fn write_into(into: &Into, page: &mut Page) {
+    write_ident(" into ", &into.var, page);
+    write_part(" = ", &into.what, page);
+    write_names(into.keep.as_slice(), page);
+}
+
+#[cycle(write)]
+fn write_collect(collect: &Collect, page: &mut Page) {
+    page.put("collect");
+    write_groups(collect.groups.as_slice(), page);
+    write_aggregates(collect.aggregates.as_slice(), page);
     if let Some(into) = &collect.into {
-        out.push_str(" into ")?;
-        write_ident(out, &into.var)?;
-        write_part(" = ", &into.what, out)?;
-        write_names(out, into.keep.as_slice())?;
+        write_into(into, page);
     }
-    Ok(())
 }
 
 #[cycle(write)]
-fn write_clause(clause: &Clause, out: &mut String) -> Result<(), AllocError> {
+fn write_clause(clause: &Clause, page: &mut Page) {
     match clause {
         Clause::For { var, list } => {
-            out.push_str("for ")?;
-            write_ident(out, var)?;
-            out.push_str(" in ")?;
-            write_expr(list, out)
+            write_ident("for ", var, page);
+            write_expr(" in ", list, page);
         }
         Clause::ForDocs { var, collection } => {
-            out.push_str("for ")?;
-            write_ident(out, var)?;
-            out.push_str(" in ")?;
-            out.push_str(collection.as_str())
+            write_ident("for ", var, page);
+            page.put_pair(" in ", collection.as_str());
         }
-        Clause::Walk(walk) => write_walk(walk, out),
-        Clause::Filter(expr) => {
-            out.push_str("filter ")?;
-            write_expr(expr, out)
-        }
+        Clause::Walk(walk) => write_walk(walk, page),
+        Clause::Filter(expr) => write_expr("filter ", expr, page),
         Clause::Let { var, expr } => {
-            out.push_str("let ")?;
-            write_ident(out, var)?;
-            out.push_str(" = ")?;
-            write_expr(expr, out)
+            write_ident("let ", var, page);
+            write_expr(" = ", expr, page);
         }
         Clause::Sort(keys) => {
-            out.push_str("sort")?;
-            write_keys(keys.as_slice(), out)
+            page.put("sort");
+            write_keys(keys.as_slice(), page);
         }
-        Clause::Limit { offset, count } => Ok(write!(out, "limit {offset} {count}")?),
-        Clause::Collect(collect) => write_collect(collect, out),
+        Clause::Limit { offset, count } => {
+            page.put("limit ");
+            page.put_shown(offset);
+            page.put(" ");
+            page.put_shown(count);
+        }
+        Clause::Collect(collect) => write_collect(collect, page),
     }
 }
 
 #[cycle(write)]
-fn write_query(query: &Query, out: &mut String) -> Result<(), AllocError> {
+fn write_query(query: &Query, page: &mut Page) {
     if query.with.len() > 0 {
-        out.push_str("with")?;
-        write_names(out, query.with.as_slice())?;
-        out.push_str("; ")?;
+        page.put("with");
+        write_names(query.with.as_slice(), page);
+        page.put("; ");
     }
     for clause in query.clauses.as_slice() {
-        write_clause(clause, out)?;
-        out.push_str("; ")?;
+        write_clause(clause, page);
+        page.put("; ");
     }
-    out.push_str("return ")?;
-    if query.distinct {
-        out.push_str("distinct ")?;
-    }
-    write_expr(&query.result, out)
+    page.put("return ");
+    let distinct = if query.distinct { "distinct " } else { "" };
+    write_expr(distinct, &query.result, page);
 }
 
 // The query, and behind a bar the names of its variables.
-pub fn write_scoped(scoped: &Scoped, out: &mut String) -> Result<(), AllocError> {
-    write_query(&scoped.query, out)?;
-    out.push_str(" |")?;
-    write_names(out, scoped.names.as_slice())
+pub fn write_scoped(scoped: &Scoped, page: &mut Page) {
+    write_query(&scoped.query, page);
+    page.put(" |");
+    write_names(scoped.names.as_slice(), page);
 }
