@@ -18,23 +18,26 @@ fn is_range(expr: &Expr) -> bool {
     }
 }
 
-fn gives_range(expr: &Result<Expr, OutOfMemory>) -> bool {
+fn gives_range(expr: Result<Expr, OutOfMemory>) -> bool {
     match expr {
-        Ok(expr) => is_range(expr),
+        Ok(expr) => is_range(&expr),
         Err(_) => false,
     }
 }
 
-fn is_copied(alloc: Global, expr: &Result<Expr, OutOfMemory>) -> bool {
-    match expr {
-        Ok(expr) => gives_range(&copy_expr(alloc, expr)),
+// Whether the copy is the range, and what was copied still is.
+fn range_is_copied(alloc: Global) -> bool {
+    match Expr::range(alloc, Expr::Lit(Value::Num(7)), Expr::Current) {
+        Ok(expr) => {
+            let is_copied = gives_range(copy_expr(alloc, &expr));
+            let is_kept = gives_range(Ok(expr));
+            is_copied && is_kept
+        }
         Err(_) => false,
     }
 }
 
 #[test]
 fn copies(rt: HostRuntime) {
-    let alloc = rt.alloc();
-    let range = Expr::range(alloc, Expr::Lit(Value::Num(7)), Expr::Current);
-    expect(&rt, is_copied(alloc, &range), "a range", "");
+    expect(&rt, range_is_copied(rt.alloc()), "a range", "");
 }

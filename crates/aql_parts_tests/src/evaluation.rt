@@ -5,12 +5,13 @@ ghost use Rattle.aql_tree.specs.View.{links as link_trees, steps as step_trees};
 ghost use Rattle.aql_meaning.specs.Plain.{IsPlain, LinksPlain, MaybePlain, StepsPlain};
 ghost use Rattle.aql_expr.specs.Numbered.{numbered};
 
+use crate::pages::expect;
+use crate::values::is_written;
 use aql_expr::{RowView, eval};
 use aql_func::{BinOp, UnaryOp};
 use aql_tree::{Expr, Field, Ident, Link, Links, QuantKind, Step, Steps};
-use aql_value::{Items, OutOfMemory, Seq, Text, Value, from_json_line, write_json};
+use aql_value::{Items, OutOfMemory, Seq, Text, Value, from_json_line};
 use std::alloc::Global;
-use std::process::Abort;
 
 // The variables 0, 1, .. in order.
 #[derive(Drop)]
@@ -39,25 +40,30 @@ fn row(alloc: Global) -> Result<Listed, OutOfMemory> {
     Ok(Listed { values })
 }
 
-// Whether the value at the row has this text.
-fn prints(alloc: Global, expr: &Expr, want: &str) -> Result<bool, OutOfMemory>
+fn gives(alloc: Global, expr: &Expr, row: &Listed, want: &str) -> bool
     requires { IsPlain (tree expr.now) }
 {
-    let row = row(alloc)?;
-    is_written(alloc, &eval(alloc, expr, &row)?, want)
+    match eval(alloc, expr, row) {
+        Ok(value) => is_written(alloc, &value, want),
+        Err(_) => false,
+    }
 }
 
-fn is_written(alloc: Global, value: &Value, want: &str) -> Result<bool, OutOfMemory> {
-    let mut out = Vec::new(alloc);
-    write_json(value, &mut out)?;
-    Ok(out.as_slice() == want.as_bytes())
+// Whether the value at the row has this text.
+fn prints(alloc: Global, expr: &Expr, want: &str) -> bool
+    requires { IsPlain (tree expr.now) }
+{
+    match row(alloc) {
+        Ok(row) => gives(alloc, expr, &row, want),
+        Err(_) => false,
+    }
 }
 
 fn has_value(alloc: Global, expr: Result<Expr, OutOfMemory>, want: &str) -> bool
     requires { IfOk expr (λ e. IsPlain (tree e)) }
 {
     match expr {
-        Ok(expr) => prints(alloc, &expr, want).unwrap_or(false),
+        Ok(expr) => prints(alloc, &expr, want),
         Err(_) => false,
     }
 }
@@ -201,21 +207,23 @@ fn long(alloc: Global) -> Result<Expr, OutOfMemory>
     Expr::access(alloc, lit(alloc, "[[1]]"), steps)
 }
 
-// `CURRENT op right`.
-fn of_current(alloc: Global, op: BinOp, right: &str) -> Result<Expr, OutOfMemory>
-    ensures { IfOk result (λ e. IsPlain (tree e)) }
+// `CURRENT op right`, if there is memory for it.
+fn of_current(alloc: Global, op: BinOp, right: &str) -> Option<Expr>
+    ensures { MaybePlain (maybe (option_map tree result)) }
 {
-    let rest = link(alloc, op, right)?;
-    Expr::chain(alloc, Expr::Current, rest)
+    match link(alloc, op, right) {
+        Ok(rest) => Expr::chain(alloc, Expr::Current, rest).ok(),
+        Err(_) => None,
+    }
 }
 
 // `[1,2,3][* FILTER CURRENT > 1 RETURN CURRENT * 2]`.
 fn inline(alloc: Global) -> Result<Expr, OutOfMemory>
     ensures { IfOk result (λ e. IsPlain (tree e)) }
 {
-    let filter = of_current(alloc, BinOp::Gt, "1")?;
-    let project = of_current(alloc, BinOp::Mul, "2")?;
-    let steps = one(alloc, Step::each(Some(filter), Some(project)))?;
+    let filter = of_current(alloc, BinOp::Gt, "1");
+    let project = of_current(alloc, BinOp::Mul, "2");
+    let steps = one(alloc, Step::each(filter, project))?;
     Expr::access(alloc, lit(alloc, "[1,2,3]"), steps)
 }
 
@@ -300,14 +308,15 @@ fn operators(rt: HostRuntime) {
     let alloc = rt.alloc();
     for (left, op, right, want) in &OPERATIONS {
         let expr = operation(alloc, left, *op, right);
-        assert!(rt; has_value(alloc, expr, want), "{left} {op:?} {right}");
+        expect(&rt, has_value(alloc, expr, want), left, right);
     }
-    assert!(rt; has_value(alloc, chain(alloc), "5"));
+    expect(&rt, has_value(alloc, chain(alloc), "5"), "a chain", "");
     let not = unary(alloc, UnaryOp::Not, lit(alloc, r#""""#));
-    assert!(rt; has_value(alloc, not, "true"));
+    expect(&rt, has_value(alloc, not, "true"), "not", "");
     let minus = unary(alloc, UnaryOp::Minus, var(1));
-    assert!(rt; has_value(alloc, minus, "-5"));
-    assert!(rt; has_value(alloc, range(alloc, "3", "1"), "[3,2,1]"));
+    expect(&rt, has_value(alloc, minus, "-5"), "minus", "");
+    let range = range(alloc, "3", "1");
+    expect(&rt, has_value(alloc, range, "[3,2,1]"), "a range", "");
 }
 
 static CHOICES: [(&str, Option<&str>, &str, &str); 4] = [
@@ -322,7 +331,7 @@ fn choices(rt: HostRuntime) {
     let alloc = rt.alloc();
     for (test, yes, no, want) in &CHOICES {
         let expr = choice(alloc, test, *yes, no);
-        assert!(rt; has_value(alloc, expr, want), "{test} {yes:?} {no}");
+        expect(&rt, has_value(alloc, expr, want), test, no);
     }
 }
 
@@ -339,12 +348,15 @@ fn quantifiers(rt: HostRuntime) {
     let alloc = rt.alloc();
     for (left, kind, op, right, want) in &QUANTIFIERS {
         let expr = quantified(alloc, left, *kind, *op, right);
-        assert!(rt;
-            has_value(alloc, expr, want),
-            "{left} {kind:?} {op:?} {right}"
-        );
+        expect(&rt, has_value(alloc, expr, want), left, right);
     }
 }
+
+static ATTRIBUTES: [(u32, &str, &str); 3] = [
+    (0, "name", r#""a""#),
+    (0, "other", "null"),
+    (1, "name", "null"),
+];
 
 static PLACES: [(&str, &str, &str); 6] = [
     ("[7,8,9]", "0", "7"),
@@ -358,61 +370,77 @@ static PLACES: [(&str, &str, &str); 6] = [
 #[test]
 fn accesses(rt: HostRuntime) {
     let alloc = rt.alloc();
-    for (number, name, want) in [
-        (0, "name", r#""a""#),
-        (0, "other", "null"),
-        (1, "name", "null"),
-    ] {
-        let expr = attribute(alloc, number, name);
-        assert!(rt; has_value(alloc, expr, want), "{number} {name}");
+    for (number, name, want) in &ATTRIBUTES {
+        let expr = attribute(alloc, *number, name);
+        expect(&rt, has_value(alloc, expr, want), name, want);
     }
     let tags = place_in_variable(alloc, 0, r#""tags""#);
-    assert!(rt; has_value(alloc, tags, "[1,2,3]"));
+    expect(&rt, has_value(alloc, tags, "[1,2,3]"), "tags", "");
     for (of, place, want) in &PLACES {
         let expr = place_in(alloc, of, place);
-        assert!(rt; has_value(alloc, expr, want), "{of} {place}");
+        expect(&rt, has_value(alloc, expr, want), of, place);
     }
-    assert!(rt; has_value(alloc, long(alloc), "null"));
+    expect(&rt, has_value(alloc, long(alloc), "null"), "long", "");
 }
 
 #[test]
 fn inline_operators(rt: HostRuntime) {
     let alloc = rt.alloc();
-    assert!(rt; has_value(alloc, inline(alloc), "[4,6]"));
+    expect(&rt, has_value(alloc, inline(alloc), "[4,6]"), "inline", "");
     let some = filtered(alloc, r#"[{"p":1},{"q":2},{"p":3}]"#);
-    assert!(rt; has_value(alloc, some, "[1,3]"));
-    assert!(rt; has_value(alloc, filtered(alloc, "1"), "[]"));
+    expect(&rt, has_value(alloc, some, "[1,3]"), "some", "");
+    let none = filtered(alloc, "1");
+    expect(&rt, has_value(alloc, none, "[]"), "none", "");
     let nested = twice(alloc, "[[1],[],2,[3,4]]");
-    assert!(rt; has_value(alloc, nested, "[[1],[],[],[3,4]]"));
+    expect(
+        &rt,
+        has_value(alloc, nested, "[[1],[],[],[3,4]]"),
+        "nested",
+        "",
+    );
 }
 
+static CALLED: [(&str, &str, &str); 3] = [
+    ("length", "[1,2]", "2"),
+    ("NO_SUCH", "1", "null"),
+    ("RANGE", "1", "null"),
+];
+
 #[test]
-fn literals_and_calls(rt: HostRuntime) {
+fn calls(rt: HostRuntime) {
     let alloc = rt.alloc();
-    assert!(rt; has_value(alloc, Ok(var(1)), "5"));
-    assert!(rt; has_value(alloc, Ok(var(2)), "null"));
-    assert!(rt; has_value(alloc, Ok(Expr::Current), "null"));
-    assert!(rt; has_value(alloc, list(alloc), "[null,5,null]"));
-    assert!(rt; has_value(alloc, object(alloc), r#"{"2":3,"a":4}"#));
-    for (name, arg, want) in [
-        ("length", "[1,2]", "2"),
-        ("NO_SUCH", "1", "null"),
-        ("RANGE", "1", "null"),
-    ] {
+    for (name, arg, want) in &CALLED {
         let expr = call(alloc, name, arg);
-        assert!(rt; has_value(alloc, expr, want), "{name} {arg}");
+        expect(&rt, has_value(alloc, expr, want), name, arg);
     }
 }
 
-fn is_five(alloc: Global, expr: &Expr) -> Result<bool, OutOfMemory>
-    requires { IsPlain (tree expr.now) }
-{
-    let row = row(alloc)?;
-    Ok(matches!(eval(alloc, expr, &row)?, Value::Num(5)))
+static VARIABLES: [(u32, &str); 2] = [(1, "5"), (2, "null")];
+
+#[test]
+fn variables(rt: HostRuntime) {
+    for (number, want) in &VARIABLES {
+        let is_found = has_value(rt.alloc(), Ok(var(*number)), want);
+        expect(&rt, is_found, "a variable", want);
+    }
 }
 
 #[test]
-fn is_called(rt: HostRuntime) {
-    let is_five = is_five(rt.alloc(), &var(1)).unwrap_or(false);
-    assert!(rt; is_five);
+fn literals(rt: HostRuntime) {
+    let alloc = rt.alloc();
+    let current = has_value(alloc, Ok(Expr::Current), "null");
+    expect(&rt, current, "CURRENT", "");
+    expect(
+        &rt,
+        has_value(alloc, list(alloc), "[null,5,null]"),
+        "a list",
+        "",
+    );
+    let object = object(alloc);
+    expect(
+        &rt,
+        has_value(alloc, object, r#"{"2":3,"a":4}"#),
+        "an object",
+        "",
+    );
 }

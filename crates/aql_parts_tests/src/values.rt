@@ -6,6 +6,7 @@ use aql_value::{
 use std::alloc::Global;
 use std::cmp::Ordering;
 use std::collections::HashSet;
+use std::process::Abort;
 
 // Whether this is the canonical JSON of a value.
 pub fn is_written(alloc: Global, value: &Value, json: &str) -> bool {
@@ -199,6 +200,13 @@ fn holds_json(alloc: Global, value: Option<&Value>, json: &str) -> bool {
     }
 }
 
+fn are_sorted(alloc: Global, values: &mut Vec<Value>) -> bool {
+    values.sort().is_ok()
+        && values.len() == 4
+        && holds_json(alloc, values.get(0), "null")
+        && holds_json(alloc, values.get(3), "[2]")
+}
+
 #[test]
 fn sorts(rt: HostRuntime) {
     let alloc = rt.alloc();
@@ -206,15 +214,7 @@ fn sorts(rt: HostRuntime) {
     for line in &UNSORTED {
         expect(&rt, push(alloc, &mut values, line), line, "");
     }
-    let is_sorted = values.sort().is_ok() && values.len() == 4;
-    expect(&rt, is_sorted, "sorted", "");
-    expect(
-        &rt,
-        holds_json(alloc, values.get(0), "null"),
-        "the first",
-        "",
-    );
-    expect(&rt, holds_json(alloc, values.get(3), "[2]"), "the last", "");
+    expect(&rt, are_sorted(alloc, &mut values), "sorted", "");
 }
 
 #[test]
@@ -353,6 +353,14 @@ fn ends_at(members: &Members, at: usize) -> bool {
         && members.name(at).is_none()
         && members.value_at(at).is_none()
         && members.entry(at).is_none()
+        && members.value("d").is_none()
+}
+
+fn check_members(rt: &impl Abort, members: &Members) {
+    for (at, name, number) in &PLACES {
+        expect(rt, stands_at(members, *at, name, *number), name, "");
+    }
+    expect(rt, ends_at(members, 3), "the end", "");
 }
 
 #[test]
@@ -361,11 +369,7 @@ fn members(rt: HostRuntime) {
     for (name, number) in &MEMBERS {
         expect(&rt, set(rt.alloc(), &mut members, name, *number), name, "");
     }
-    for (at, name, number) in &PLACES {
-        expect(&rt, stands_at(&members, *at, name, *number), name, "");
-    }
-    let is_all = ends_at(&members, 3) && members.value("d").is_none();
-    expect(&rt, is_all, "the end", "");
+    check_members(&rt, &members);
 }
 
 fn has_text(alloc: Global, value: &Value, want: &str) -> bool {
