@@ -1,17 +1,18 @@
 -- The steps of an access, one step further, and an inline operator, one element further.
-use Rattle.std.proofs.Common.{rules, ◌≡◌, ℕ, suc, ◌+◌, ◌<◌, ◌≤◌, List, [], ◌∷◌, ◌++◌, length, get_or, map, drop, option_map, Option, Bool, true, false, cond, ap, sym, subst, ◌∙◌, append_assoc, add-one}
+use Rattle.std.proofs.Common.{rules, ◌≡◌, ℕ, suc, ◌+◌, ◌<◌, ◌≤◌, List, [], ◌∷◌, ◌++◌, length, get_or, map, drop, option_map, Option, Bool, true, false, cond, refl, ap, sym, subst, ◌∙◌, append_assoc, add-one}
 use Rattle.std.proofs.Math.Seq.{drop-cons}
 use Rattle.std.proofs.lemmas.List.{append-nil, at_drop_all}
 use Rattle.aql_value.specs.declared.values.Value.{Value}
 use Rattle.aql_value.specs.Tree.{Tree}
 use Rattle.aql_value.specs.Truth.{truth}
 use Rattle.aql_value.specs.View.{tree_of, trees_in}
+use Rattle.aql_func.specs.Objects.{with_all}
 use Rattle.aql_tree.specs.declared.syntax.Expr.{Expr}
 use Rattle.aql_tree.specs.declared.syntax.Step.{Step, Name, At, Each, the_lemmas}
-use Rattle.aql_tree.specs.View.{tree, StepPart, name, at, each, step_part, steps}
+use Rattle.aql_tree.specs.View.{tree, StepPart, name, at, each, step_part, steps, MemberPart, named, computed, members}
 use Rattle.aql_meaning.specs.Clauses.{kept}
 use Rattle.aql_meaning.specs.Row.{Row}
-use Rattle.aql_meaning.specs.Value.{stepped}
+use Rattle.aql_meaning.specs.Value.{stepped, members as values_of}
 
 -- what is left of a list begins with its item at this place
 pub left : {A : Type 0} (xs : List A) (i : ℕ) (x : A) → i < length xs → x ≡ get_or xs i x
@@ -65,3 +66,10 @@ module _ (after given tested : Tree → Tree) where
       → done ++ taken (trees_in (drop i vs)) ≡ taken (trees_in vs) → done ≡ taken (trees_in vs)
   all_taken done vs i e h =
       sym (append-nil done) ∙ sym (at_drop_all (λ us. done ++ taken (trees_in us)) vs i e) ∙ h
+
+-- the first member of an object literal is set before the others
+pub one_member : (out : List (List ℕ × Tree)) (m : MemberPart) (ms : List MemberPart) (cur : Tree) (row : Row)
+    → with_all (with_all out (values_of (members (m ∷ [])) cur row)) (values_of (members ms) cur row)
+    ≡ with_all out (values_of (members (m ∷ ms)) cur row)
+one_member out (named n e) ms cur row = refl
+one_member out (computed n e) ms cur row = refl

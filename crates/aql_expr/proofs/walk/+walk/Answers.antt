@@ -1,11 +1,12 @@
-use Rattle.std.proofs.Common.{arith, ◌≡◌, ◌≤◌, ◌+◌, ◌++◌, Bor, [], ◌∷◌, length, map, drop, option_map, true, ap, sym, ◌∙◌}
+use Rattle.std.proofs.Common.{arith, ◌≡◌, ◌≤◌, ◌+◌, ◌++◌, Bor, [], ◌∷◌, length, map, drop, option_map, true, ap, sym, ◌∙◌, append_assoc}
 use Rattle.aql_value.specs.Parts.{list, at_name, at_value}
 use Rattle.aql_value.specs.Tree.{Tree, boolean}
 use Rattle.aql_value.specs.View.{tree_of, trees_in}
 use Rattle.aql_value.specs.declared.values.Value.{Value}
-use Rattle.aql_tree.specs.View.{tree, StepPart, maybe, step_part, steps, name, at, each}
-use Rattle.aql_meaning.specs.Value.{stepped, value_or}
-use Rattle.aql_expr.proofs.Stepped.{left, part-Name, part-At, part-Each, from_here, taken, one_kept, one_dropped, all_taken}
+use Rattle.aql_func.specs.Objects.{with_all}
+use Rattle.aql_tree.specs.View.{tree, trees, links, link_part, members, member_part, StepPart, maybe, step_part, steps, name, at, each}
+use Rattle.aql_meaning.specs.Value.{stepped, value, values, value_or, linked, members as values_of}
+use Rattle.aql_expr.proofs.Stepped.{left, part-Name, part-At, part-Each, from_here, taken, one_kept, one_dropped, all_taken, one_member}
 use Rattle.aql_expr.proofs.walk.+walk.Goals as goal
 use Rattle.aql_expr.proofs.walk.+walk.Goals.{stepped-in-Name, stepped-in-At+in_ok-which-in-At+in-Text-1, stepped-in-At+in_ok-which-in-At+in-List-1, stepped-in-At+in_ok-which-in-At+in-Object-1, stepped-in-At+in_ok-which-in-At+in-Null-1, stepped-then-branch+in_ok-given-in-Each+in_ok-stepped_given-in-Each+in_ok-push-in-Each, stepped-else-branch}
 
@@ -99,3 +100,41 @@ stepped-returns-in-Each g t c =
     ap list (all_taken after given tested c.loop-element.out all c.loop-element.element-index ended
     c.loop-element.invariant
     ∙ ap (taken after given tested) c.elements-element-items.ensures) ∙ sym here ∙ c.loop-at.invariant
+
+pub evaluate_all-loop-expr-preserved : goal.evaluate_all-loop-expr-preserved
+evaluate_all-loop-expr-preserved g t c =
+    let cur = tree_of c.args.cur.now in
+    let row = g.R.RowView.vars c.args.row.now in
+    let all = c.args.exprs.now in
+    let i = c.loop-expr.expr-index in
+    let out = c.loop-expr.out in
+    let rest = values (trees (map tree (drop (i + 1) all))) cur row in
+    ap (λ ts. ts ++ rest) (c.in_ok-push.ensures.ok ∙ ap (λ v. out ++ v ∷ []) c.in_ok-evaluate.ensures)
+    ∙ append_assoc out (value (tree c.expr-item.result) cur row ∷ []) rest
+    ∙ ap (λ es. out ++ values (trees (map tree es)) cur row)
+    (sym (left all i c.expr-item.result c.loop-expr-test.true c.expr-item.is))
+    ∙ c.loop-expr.invariant
+
+pub evaluate_members-loop-field-preserved : goal.evaluate_members-loop-field-preserved
+evaluate_members-loop-field-preserved g t c =
+    let cur = tree_of c.args.cur.now in
+    let row = g.R.RowView.vars c.args.row.now in
+    let all = c.args.fields.now in
+    let i = c.loop-field.field-index in
+    let rest = map member_part (drop (i + 1) all) in
+    ap (λ ms. with_all ms (values_of (members rest) cur row)) c.in_ok-set_member.ensures
+    ∙ one_member c.loop-field.out (member_part c.field-item.result) rest cur row
+    ∙ ap (λ fs. with_all c.loop-field.out (values_of (members (map member_part fs)) cur row))
+    (sym (left all i c.field-item.result c.loop-field-test.true c.field-item.is))
+    ∙ c.loop-field.invariant
+
+pub linked-loop-link-preserved : goal.linked-loop-link-preserved
+linked-loop-link-preserved g t c =
+    let cur = tree_of c.args.cur.now in
+    let row = g.R.RowView.vars c.args.row.now in
+    let all = c.args.all.now in
+    let i = c.loop-link.link-index in
+    ap (linked (links (map link_part (drop (i + 1) all))) cur row) c.in_ok-left.ensures
+    ∙ ap (λ ls. linked (links (map link_part ls)) cur row (tree_of c.loop-link.left))
+    (sym (left all i c.link-item.result c.loop-link-test.true c.link-item.is))
+    ∙ c.loop-link.invariant
