@@ -5,7 +5,7 @@ use Rattle.std.proofs.lemmas.List.{append-nil, at_drop_all}
 use Rattle.aql_value.specs.declared.values.Value.{Value}
 use Rattle.aql_value.specs.Tree.{Tree}
 use Rattle.aql_value.specs.Truth.{truth}
-use Rattle.aql_value.specs.View.{tree_of, trees_in}
+use Rattle.aql_value.specs.View.{trees_in}
 use Rattle.aql_func.specs.Objects.{with_all}
 use Rattle.aql_tree.specs.declared.syntax.Expr.{Expr}
 use Rattle.aql_tree.specs.declared.syntax.Step.{Step, Name, At, Each, the_lemmas}

@@ -1,5 +1,5 @@
 //! The grammar of queries as a relation between tokens and syntax trees, and the part of its parser
-//! that holds no expression. `aql_parse` has the rest.
+//! that holds no expression. `aql_phrases` and the crates above it have the rest.
 #![tactic(auto)]
 
 mod cursor;
