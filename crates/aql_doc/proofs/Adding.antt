@@ -18,11 +18,6 @@ use Rattle.aql_doc.specs.Taken.{key_of, bytes_of, has_key}
 use Rattle.aql_doc.specs.Documents.{filled, with_document, with_members}
 use Rattle.aql_doc.proofs.Attributes.{attribute_same, attribute_other}
 
--- an object's attributes are judged as they are listed
-pub opened : (h : Held) (total : ℕ) (ms : List (List ℕ × Tree))
-    → with_document h total (object (object_of ms)) ≡ with_members h total ms
-opened h total ms = ap (with_members h total) (fields_list-object_of ms)
-
 -- a document has the key that it is given
 pub key_of-filled : (name key : List ℕ) (ms : List (List ℕ × Tree)) → key_of (filled name key ms) ≡ key
 unfolding filled

@@ -2,9 +2,9 @@
 -- collections; Graphs, edges). A document is held with its `_key` and its `_id`: where the key is missing it comes
 -- from the id, and where the id is missing it comes from the key. An edge also has `_from` and `_to`.
 use Rattle.std.specs.Prelude.{ℕ, List, [], ◌∷◌, ◌++◌, Bool, ◌&&◌, not, Option, Some, None, Result, Ok, Err, if◌then◌else◌, codes, nat_lt, slice_get}
-use Rattle.aql_value.specs.Tree.{Tree, text, object}
+use Rattle.aql_value.specs.Tree.{Tree, text}
 use Rattle.aql_value.specs.Attributes.{attribute, with_attribute}
-use Rattle.aql_value.specs.Parts.{fields_list, record_of}
+use Rattle.aql_value.specs.Parts.{members_of, record_of}
 use Rattle.aql_doc.specs.Keys.{is_key, id_of, is_text, behind, is_end}
 use Rattle.aql_doc.specs.Held.{Held, documents_in}
 use Rattle.aql_doc.specs.Taken.{has_key}
@@ -60,9 +60,12 @@ with_members h total fields =
     with_key h total fields
     (key_given h.info.name (attribute (codes "_key") fields) (attribute (codes "_id") fields))
 
+abbrev pub with_object : Held → ℕ → Option (List (List ℕ × Tree)) → Result Held DocFault
+with_object h total (Some fields) = with_members h total fields
+with_object h total None = Err NotObject
+
 abbrev pub with_document : Held → ℕ → Tree → Result Held DocFault
-with_document h total (object fs) = with_members h total (fields_list fs)
-with_document h total t = Err NotObject
+with_document h total t = with_object h total (members_of t)
 
 abbrev pub added : List Held → ℕ → Tree → Result (List Held) DocFault
 added held number t = changed held number (λ h. with_document h (documents_in held) t) (slice_get held number)

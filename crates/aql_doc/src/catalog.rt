@@ -17,10 +17,18 @@ const COLLECTIONS: usize = 64;
 
 /// The collections of a script, in the order of their declaration, and their documents. Contracts
 /// see the list of the collections, each with its declaration and its documents.
-#[derive(Drop)]
 pub struct Catalog {
     collections: Vec<Collection>,
     total: u32,
+}
+
+impl Drop for Catalog {
+    fn drop(self) {
+        let Catalog {
+            collections: _,
+            total: _,
+        } = self;
+    }
 }
 
 impl Model for Catalog {

@@ -24,11 +24,20 @@ pub(crate) const DOCUMENTS: u32 = 200_000;
 const INDEXES: usize = 16;
 
 // A key is looked up among the keys that are taken, and not among the documents.
-#[derive(Drop)]
 pub(crate) struct Collection {
     info: CollInfo,
     documents: Items,
     taken: HashSet<String>,
+}
+
+impl Drop for Collection {
+    fn drop(self) {
+        let Collection {
+            info: _,
+            documents: _,
+            taken: _,
+        } = self;
+    }
 }
 
 impl Model for Collection {
@@ -82,7 +91,6 @@ impl Collection {
     }
 
     // Adds a document, where so many are held in all.
-    #[tactic(auto, using(crate::proofs::Adding::opened))]
     pub(crate) fn add(&mut self, alloc: Global, total: u32, doc: Value) -> Result<DocNo, DocFault>
         requires { length self.old.documents ≤ total }
         ensures ok { IfOk result (λ n. (n.0 ≡ length self.old.documents)
@@ -93,9 +101,9 @@ impl Collection {
         ensures err { IfErr result (λ e. Refuses e (with_document self.old total (tree_of doc))) }
         ensures unchanged { OnErr result (self.new ≡ self.old) }
     {
-        match doc {
-            Value::Object(members) => self.add_object(alloc, total, members),
-            _ => Err(DocFault::NotObject),
+        match doc.into_members() {
+            Some(members) => self.add_object(alloc, total, members),
+            None => Err(DocFault::NotObject),
         }
     }
 

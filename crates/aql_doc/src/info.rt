@@ -4,7 +4,6 @@ use aql_value::{Names, Seq, Text};
 pub type IndexLists = Seq<Names>;
 
 /// How a collection was declared.
-#[derive(Drop)]
 pub struct CollInfo {
     /// The collection's name.
     pub name: Text,
@@ -17,4 +16,16 @@ pub struct CollInfo {
     /// The attributes of each sorted index, as declared: at most 16 indexes, each over one to
     /// eight attributes, and no two alike.
     pub indexes: IndexLists,
+}
+
+impl Drop for CollInfo {
+    fn drop(self) {
+        let CollInfo {
+            name: _,
+            edge: _,
+            shards: _,
+            keys: _,
+            indexes: _,
+        } = self;
+    }
 }

@@ -3,7 +3,6 @@ use aql_parse::ParseFault;
 use aql_scope::ScopeFault;
 
 /// Why a text gives no query. Where several causes hold, the first of this list is told.
-#[derive(Drop)]
 pub enum QueryFault {
     /// The text has more than 65,536 bytes.
     TooLong,
@@ -22,6 +21,21 @@ pub enum QueryFault {
     Scope(ScopeFault),
     /// Memory ran out.
     Memory,
+}
+
+impl Drop for QueryFault {
+    fn drop(self) {
+        match self {
+            QueryFault::TooLong
+            | QueryFault::Lexical { place: _, kind: _ }
+            | QueryFault::TooDeep
+            | QueryFault::TooManyClauses
+            | QueryFault::NotInGrammar
+            | QueryFault::WalkTooDeep
+            | QueryFault::Scope(_)
+            | QueryFault::Memory => {}
+        }
+    }
 }
 
 impl From<LexFault> for QueryFault {
@@ -62,7 +76,7 @@ impl From<ScopeFault> for QueryFault {
     ghost from_gives = { λ fault given. given ≡ named fault };
 
     fn from(fault: ScopeFault) -> QueryFault {
-        match fault {
+        match &fault {
             ScopeFault::Memory => QueryFault::Memory,
             _ => QueryFault::Scope(fault),
         }

@@ -5,7 +5,6 @@ use aql_value::{Seq, Text};
 pub type Tokens = Seq<Token>;
 
 /// A token, and the bytes of the text that spell it: from `start`, counted from 0, up to `end`.
-#[derive(Drop)]
 pub struct Token {
     pub start: u32,
     pub end: u32,
@@ -15,7 +14,6 @@ pub struct Token {
 /// What a token is (AQL fundamentals, Syntax). A name holds the bytes that stand in the text, a
 /// quoted one without its backticks; a text holds what it stands for, without quotes and escapes; a
 /// number is 0 or more.
-#[derive(Drop)]
 pub enum TokenKind {
     Word(Text),
     Quoted(Text),
@@ -23,4 +21,27 @@ pub enum TokenKind {
     Number(i64),
     Text(Text),
     Symbol(Symbol),
+}
+
+impl Drop for Token {
+    fn drop(self) {
+        let Token {
+            start: _,
+            end: _,
+            kind: _,
+        } = self;
+    }
+}
+
+impl Drop for TokenKind {
+    fn drop(self) {
+        match self {
+            TokenKind::Word(_)
+            | TokenKind::Quoted(_)
+            | TokenKind::Keyword(_)
+            | TokenKind::Number(_)
+            | TokenKind::Text(_)
+            | TokenKind::Symbol(_) => {}
+        }
+    }
 }

@@ -2,7 +2,6 @@ use aql_value::{OutOfMemory, Text};
 use std::alloc::{AllocError, AllocFailed};
 
 /// The first fault of a query, in the order of its text.
-#[derive(Drop)]
 pub enum ScopeFault {
     /// A name in an expression is no visible variable, or one behind KEEP none of the same query.
     UnknownName { name: Text },
@@ -54,5 +53,21 @@ impl<T: Drop> From<AllocFailed<T>> for ScopeFault {
 
     fn from(_: AllocFailed<T>) -> ScopeFault {
         ScopeFault::Memory
+    }
+}
+
+impl Drop for ScopeFault {
+    fn drop(self) {
+        match self {
+            ScopeFault::UnknownName { name: _ }
+            | ScopeFault::Redeclared { name: _ }
+            | ScopeFault::UnknownCollection { name: _ }
+            | ScopeFault::UnknownFunction { name: _ }
+            | ScopeFault::WrongArity { name: _, given: _ }
+            | ScopeFault::NotEdge { name: _ }
+            | ScopeFault::SubqueryNotAllowed
+            | ScopeFault::BadOption { name: _ }
+            | ScopeFault::Memory => {}
+        }
     }
 }

@@ -14,9 +14,14 @@ use std::alloc::Global;
 use std::marker::Model;
 
 /// Names with their numbers. Contracts see the latest first.
-#[derive(Drop)]
 pub struct NameList {
     items: Vec<(Ident, u32)>,
+}
+
+impl Drop for NameList {
+    fn drop(self) {
+        let NameList { items: _ } = self;
+    }
 }
 
 impl Model for NameList {
@@ -30,10 +35,15 @@ impl Model for NameList {
 }
 
 /// The names that are visible: those of the query at hand, and those of the queries around it.
-#[derive(Drop)]
 pub struct Scope {
     pub own: NameList,
     pub outer: NameList,
+}
+
+impl Drop for Scope {
+    fn drop(self) {
+        let Scope { own: _, outer: _ } = self;
+    }
 }
 
 /// Where a part stands: the collections, the visible names, and whether a subquery may stand there.

@@ -7,10 +7,9 @@ use std::process::Abort;
 
 // The values of a JSON list, or none.
 fn listed(alloc: Global, json: &str) -> Items {
-    match from_json_line(alloc, json.as_bytes()) {
-        Ok(Value::List(items)) => items,
-        _ => Items::new(alloc),
-    }
+    let read = from_json_line(alloc, json.as_bytes());
+    let items = read.ok().and_then(Value::into_items);
+    items.unwrap_or(Items::new(alloc))
 }
 
 fn is_value(alloc: Global, found: &Result<Value, OutOfMemory>, json: &str) -> bool {

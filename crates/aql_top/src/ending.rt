@@ -3,7 +3,6 @@ use aql_script::LoadFault;
 use aql_value::OutOfMemory;
 
 /// How a run ends.
-#[derive(Drop)]
 pub enum Ending {
     /// All lines of the answer were written.
     Printed,
@@ -21,6 +20,20 @@ pub enum Ending {
     NotYet,
 }
 
+impl Drop for Ending {
+    fn drop(self) {
+        match self {
+            Ending::Printed
+            | Ending::BadWords
+            | Ending::NotLoaded(_)
+            | Ending::Refused(_)
+            | Ending::WriteFault
+            | Ending::NoMemory
+            | Ending::NotYet => {}
+        }
+    }
+}
+
 impl From<QueryFault> for Ending {
     ghost use Rattle.std.specs.Prelude.{◌≡◌};
     ghost use Rattle.aql_top.specs.Refusals.{refusal};
@@ -28,7 +41,7 @@ impl From<QueryFault> for Ending {
     ghost from_gives = { λ fault ending. ending ≡ refusal fault };
 
     fn from(fault: QueryFault) -> Ending {
-        match fault {
+        match &fault {
             QueryFault::Memory => Ending::NoMemory,
             _ => Ending::Refused(fault),
         }

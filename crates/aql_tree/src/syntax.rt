@@ -2,7 +2,6 @@ use aql_func::{BinOp, UnaryOp};
 use aql_value::{Names, Seq, Text, Value};
 
 /// A variable: a name as it is written before scoping, a number after it.
-#[derive(Drop)]
 pub enum Ident {
     Name(Text),
     Num(u32),
@@ -66,7 +65,6 @@ pub enum UniqueVertices {
 
 /// An expression. Contracts see it as a tree of definitions, by `tree` of specs/View.
 #[cycle(syntax)]
-#[derive(Drop)]
 pub enum Expr {
     /// A literal.
     Lit(Value),
@@ -123,7 +121,6 @@ pub enum Expr {
 
 /// One step of an access.
 #[cycle(syntax)]
-#[derive(Drop)]
 pub enum Step {
     /// `.name`.
     Name(Text),
@@ -138,7 +135,6 @@ pub enum Step {
 
 /// One member of an object literal.
 #[cycle(syntax)]
-#[derive(Drop)]
 pub enum Field {
     /// `name: e`; `name` alone stands for `name: name`.
     Named { name: Text, value: Expr },
@@ -148,7 +144,6 @@ pub enum Field {
 
 /// An operator of a chain with what stands right of it.
 #[cycle(syntax)]
-#[derive(Drop)]
 pub struct Link {
     pub op: BinOp,
     pub right: Expr,
@@ -156,7 +151,6 @@ pub struct Link {
 
 /// A whole query or a subquery.
 #[cycle(syntax)]
-#[derive(Drop)]
 pub struct Query {
     /// The collections that WITH names; empty in a subquery.
     pub with: Seq<Text>,
@@ -169,7 +163,6 @@ pub struct Query {
 
 /// A clause (High-level operations).
 #[cycle(syntax)]
-#[derive(Drop)]
 pub enum Clause {
     /// `FOR var IN list`. The parser makes it for every name after IN.
     For { var: Ident, list: Expr },
@@ -191,7 +184,6 @@ pub enum Clause {
 
 /// One key of SORT.
 #[cycle(syntax)]
-#[derive(Drop)]
 pub struct Key {
     pub expr: Expr,
     pub descending: bool,
@@ -199,7 +191,6 @@ pub struct Key {
 
 /// A variable with the expression that it takes.
 #[cycle(syntax)]
-#[derive(Drop)]
 pub struct Let {
     pub var: Ident,
     pub expr: Expr,
@@ -207,7 +198,6 @@ pub struct Let {
 
 /// `FOR vertex, edge, path IN min..max DIRECTION start collections PRUNE prune OPTIONS options`.
 #[cycle(syntax)]
-#[derive(Drop)]
 pub struct Traversal {
     pub vertex: Ident,
     pub edge: Option<Ident>,
@@ -226,7 +216,6 @@ pub struct Traversal {
 
 /// The options of a traversal. The parser fills `settings`, scoping the three others.
 #[cycle(syntax)]
-#[derive(Drop)]
 pub struct Options {
     pub settings: Seq<Field>,
     pub edges: UniqueEdges,
@@ -237,7 +226,6 @@ pub struct Options {
 
 /// `COLLECT groups AGGREGATE aggregates INTO into`.
 #[cycle(syntax)]
-#[derive(Drop)]
 pub struct Collect {
     pub groups: Seq<Let>,
     pub aggregates: Seq<AggregateItem>,
@@ -246,7 +234,6 @@ pub struct Collect {
 
 /// `var = NAME(arg)` of AGGREGATE.
 #[cycle(syntax)]
-#[derive(Drop)]
 pub struct AggregateItem {
     pub var: Ident,
     pub name: Text,
@@ -255,10 +242,194 @@ pub struct AggregateItem {
 
 /// `INTO var`, `INTO var = what` or `INTO var KEEP keep`.
 #[cycle(syntax)]
-#[derive(Drop)]
 pub struct Into {
     pub var: Ident,
     pub what: Option<Expr>,
     /// The names of KEEP; empty where there is no KEEP.
     pub keep: Seq<Text>,
+}
+
+// A drop that is written, and not derived, is one function here: a derived one is written out in each crate
+// that lets a tree go, at each place.
+
+impl Drop for Ident {
+    fn drop(self) {
+        match self {
+            Ident::Name(_) | Ident::Num(_) => {}
+        }
+    }
+}
+
+impl Drop for Expr {
+    #[cycle(drop)]
+    fn drop(self) {
+        match self {
+            Expr::Lit(_)
+            | Expr::Var(_)
+            | Expr::Current
+            | Expr::List(_)
+            | Expr::Object(_)
+            | Expr::Access { of: _, steps: _ }
+            | Expr::Call { name: _, args: _ }
+            | Expr::Unary { op: _, of: _ }
+            | Expr::Chain { first: _, rest: _ }
+            | Expr::Quant {
+                left: _,
+                kind: _,
+                op: _,
+                right: _,
+            }
+            | Expr::Cond {
+                test: _,
+                yes: _,
+                no: _,
+            }
+            | Expr::Range { low: _, high: _ }
+            | Expr::Sub(_) => {}
+        }
+    }
+}
+
+impl Drop for Step {
+    #[cycle(drop)]
+    fn drop(self) {
+        match self {
+            Step::Name(_)
+            | Step::At(_)
+            | Step::Each {
+                filter: _,
+                project: _,
+            } => {}
+        }
+    }
+}
+
+impl Drop for Field {
+    #[cycle(drop)]
+    fn drop(self) {
+        match self {
+            Field::Named { name: _, value: _ } | Field::Computed { name: _, value: _ } => {}
+        }
+    }
+}
+
+impl Drop for Link {
+    #[cycle(drop)]
+    fn drop(self) {
+        let Link { op: _, right: _ } = self;
+    }
+}
+
+impl Drop for Query {
+    #[cycle(drop)]
+    fn drop(self) {
+        let Query {
+            with: _,
+            clauses: _,
+            distinct: _,
+            result: _,
+        } = self;
+    }
+}
+
+impl Drop for Clause {
+    #[cycle(drop)]
+    fn drop(self) {
+        match self {
+            Clause::For { var: _, list: _ }
+            | Clause::ForDocs {
+                var: _,
+                collection: _,
+            }
+            | Clause::Walk(_)
+            | Clause::Filter(_)
+            | Clause::Let { var: _, expr: _ }
+            | Clause::Sort(_)
+            | Clause::Limit {
+                offset: _,
+                count: _,
+            }
+            | Clause::Collect(_) => {}
+        }
+    }
+}
+
+impl Drop for Key {
+    #[cycle(drop)]
+    fn drop(self) {
+        let Key {
+            expr: _,
+            descending: _,
+        } = self;
+    }
+}
+
+impl Drop for Let {
+    #[cycle(drop)]
+    fn drop(self) {
+        let Let { var: _, expr: _ } = self;
+    }
+}
+
+impl Drop for Traversal {
+    #[cycle(drop)]
+    fn drop(self) {
+        let Traversal {
+            vertex: _,
+            edge: _,
+            path: _,
+            min: _,
+            max: _,
+            direction: _,
+            start: _,
+            collections: _,
+            prune: _,
+            options: _,
+        } = self;
+    }
+}
+
+impl Drop for Options {
+    #[cycle(drop)]
+    fn drop(self) {
+        let Options {
+            settings: _,
+            edges: _,
+            vertices: _,
+            bfs: _,
+        } = self;
+    }
+}
+
+impl Drop for Collect {
+    #[cycle(drop)]
+    fn drop(self) {
+        let Collect {
+            groups: _,
+            aggregates: _,
+            into: _,
+        } = self;
+    }
+}
+
+impl Drop for AggregateItem {
+    #[cycle(drop)]
+    fn drop(self) {
+        let AggregateItem {
+            var: _,
+            name: _,
+            arg: _,
+        } = self;
+    }
+}
+
+impl Drop for Into {
+    #[cycle(drop)]
+    fn drop(self) {
+        let Into {
+            var: _,
+            what: _,
+            keep: _,
+        } = self;
+    }
 }

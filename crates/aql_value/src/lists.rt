@@ -5,7 +5,6 @@ use std::alloc::Global;
 use std::marker::Model;
 
 /// A list. Contracts see it as the list of its items.
-#[derive(Drop)]
 pub struct Seq<T> {
     items: Vec<T>,
 }
@@ -26,6 +25,12 @@ pub struct CollNo(pub u32);
 /// A document's place in its collection, from 0.
 #[derive(Clone, Copy, Debug, PartialEq, Eq, Hash, PartialOrd, Ord)]
 pub struct DocNo(pub u32);
+
+impl<T: Drop> Drop for Seq<T> {
+    fn drop(self) {
+        let Seq { items: _ } = self;
+    }
+}
 
 impl<T> Model for Seq<T> {
     ghost use Rattle.std.specs.Prelude.{List};

@@ -5,7 +5,6 @@ use std::alloc::Global;
 use std::marker::Model;
 
 /// A text in UTF-8. Contracts see it as the list of its bytes.
-#[derive(Drop)]
 pub struct Text {
     text: String,
 }
@@ -48,4 +47,10 @@ pub fn recall_utf8(text: &Text)
     ensures { IsUtf8 text.now }
 {
     let _text = text.as_str();
+}
+
+impl Drop for Text {
+    fn drop(self) {
+        let Text { text: _ } = self;
+    }
 }

@@ -10,7 +10,6 @@ use std::marker::Model;
 /// A value of AQL (AQL fundamentals, Data types): null, a bool, a whole number of 64 bits with its
 /// sign, a text, an array or an object. Contracts see it as a tree, by `tree_of`.
 #[cycle(value)]
-#[derive(Drop)]
 pub enum Value {
     Null,
     Bool(bool),
@@ -22,7 +21,6 @@ pub enum Value {
 
 /// The elements of an array, in order. Contracts see the list of their trees.
 #[cycle(value)]
-#[derive(Drop)]
 pub struct Items {
     pub(crate) items: Vec<Value>,
 }
@@ -54,7 +52,6 @@ impl Model for Items {
 
 /// One attribute of an object.
 #[cycle(value)]
-#[derive(Drop)]
 pub struct Member {
     pub name: Text,
     pub value: Value,
@@ -63,7 +60,6 @@ pub struct Member {
 /// The attributes of an object, in ascending order of the bytes of their names, each name once.
 /// Contracts see the list of the names with the trees of their values.
 #[cycle(value)]
-#[derive(Drop)]
 pub struct Members {
     pub(crate) entries: Vec<Member>,
 }
@@ -91,6 +87,33 @@ impl Model for Members {
     ghost use Rattle.aql_value.specs.laws.Falls.{members_fall};
 
     ghost size_decreases = { λ a h. members_fall a.entries.items };
+}
+
+impl Value {
+    ghost use Rattle.aql_value.specs.Parts.{items_of, members_of};
+
+    /// The elements of an array; `None` exactly where the value is none.
+    #[tactic(auto, using(crate::proofs::Listed::items_listed))]
+    pub fn into_items(self) -> Option<Items>
+        ensures { result ≡ items_of (tree_of self) }
+    {
+        match self {
+            Value::List(items) => Some(items),
+            Value::Null | Value::Bool(_) | Value::Num(_) | Value::Text(_) | Value::Object(_) =>
+                None,
+        }
+    }
+
+    /// The attributes of an object; `None` exactly where the value is none.
+    #[tactic(auto, using(crate::proofs::Listed::members_listed))]
+    pub fn into_members(self) -> Option<Members>
+        ensures { result ≡ members_of (tree_of self) }
+    {
+        match self {
+            Value::Object(members) => Some(members),
+            Value::Null | Value::Bool(_) | Value::Num(_) | Value::Text(_) | Value::List(_) => None,
+        }
+    }
 }
 
 impl Items {
@@ -154,5 +177,40 @@ pub fn recall_well_formed(value: &Value)
             let _entries = &members.entries;
         }
         _ => {}
+    }
+}
+
+impl Drop for Value {
+    #[cycle(drop)]
+    fn drop(self) {
+        match self {
+            Value::Null
+            | Value::Bool(_)
+            | Value::Num(_)
+            | Value::Text(_)
+            | Value::List(_)
+            | Value::Object(_) => {}
+        }
+    }
+}
+
+impl Drop for Items {
+    #[cycle(drop)]
+    fn drop(self) {
+        let Items { items: _ } = self;
+    }
+}
+
+impl Drop for Member {
+    #[cycle(drop)]
+    fn drop(self) {
+        let Member { name: _, value: _ } = self;
+    }
+}
+
+impl Drop for Members {
+    #[cycle(drop)]
+    fn drop(self) {
+        let Members { entries: _ } = self;
     }
 }

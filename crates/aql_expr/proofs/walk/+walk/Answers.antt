@@ -8,7 +8,7 @@ use Rattle.aql_tree.specs.View.{tree, trees, links, link_part, members, member_p
 use Rattle.aql_meaning.specs.Value.{stepped, value, values, value_or, linked, members as values_of}
 use Rattle.aql_expr.proofs.Stepped.{left, part-Name, part-At, part-Each, from_here, taken, one_kept, one_dropped, all_taken, one_member}
 use Rattle.aql_expr.proofs.walk.+walk.Goals as goal
-use Rattle.aql_expr.proofs.walk.+walk.Goals.{stepped-in-Name, stepped-in-At+in_ok-which-in-At+in-Text-1, stepped-in-At+in_ok-which-in-At+in-List-1, stepped-in-At+in_ok-which-in-At+in-Object-1, stepped-in-At+in_ok-which-in-At+in-Null-1, stepped-then-branch+in_ok-given-in-Each+in_ok-stepped_given-in-Each+in_ok-push-in-Each, stepped-else-branch}
+use Rattle.aql_expr.proofs.walk.+walk.Goals.{stepped-in-Name, stepped-in-At+in_ok-which-in-At, stepped-then-branch+in_ok-given-in-Each+in_ok-stepped_given-in-Each+in_ok-push-in-Each, stepped-else-branch}
 
 pub stepped-loop-at-preserved : goal.stepped-loop-at-preserved
 stepped-loop-at-preserved g t c =
@@ -25,25 +25,7 @@ stepped-loop-at-preserved g t c =
           ∙ ap (stepped rest cur row) (w.named-value.ensures ∙ ap (at_name from) w.as_str.ensures)
           ∙ sym (here (name w.in-Name.name) (ap step_part w.in-Name.is ∙ part-Name w.in-Name.name))
           ∙ c.loop-at.invariant
-      | stepped-in-At+in_ok-which-in-At+in-Text-1 w ↦
-          ap (λ (v : Bor Value). stepped rest cur row (tree_of v.now)) w.value-is
-          ∙ ap (stepped rest cur row)
-          (w.chosen-value.ensures ∙ ap (at_value from) w.in_ok-which-in-At.ensures)
-          ∙ sym (here (at (tree w.in-At.which)) (ap step_part w.in-At.is ∙ part-At w.in-At.which))
-          ∙ c.loop-at.invariant
-      | stepped-in-At+in_ok-which-in-At+in-List-1 w ↦
-          ap (λ (v : Bor Value). stepped rest cur row (tree_of v.now)) w.value-is
-          ∙ ap (stepped rest cur row)
-          (w.chosen-value.ensures ∙ ap (at_value from) w.in_ok-which-in-At.ensures)
-          ∙ sym (here (at (tree w.in-At.which)) (ap step_part w.in-At.is ∙ part-At w.in-At.which))
-          ∙ c.loop-at.invariant
-      | stepped-in-At+in_ok-which-in-At+in-Object-1 w ↦
-          ap (λ (v : Bor Value). stepped rest cur row (tree_of v.now)) w.value-is
-          ∙ ap (stepped rest cur row)
-          (w.chosen-value.ensures ∙ ap (at_value from) w.in_ok-which-in-At.ensures)
-          ∙ sym (here (at (tree w.in-At.which)) (ap step_part w.in-At.is ∙ part-At w.in-At.which))
-          ∙ c.loop-at.invariant
-      | stepped-in-At+in_ok-which-in-At+in-Null-1 w ↦
+      | stepped-in-At+in_ok-which-in-At w ↦
           ap (λ (v : Bor Value). stepped rest cur row (tree_of v.now)) w.value-is
           ∙ ap (stepped rest cur row)
           (w.chosen-value.ensures ∙ ap (at_value from) w.in_ok-which-in-At.ensures)
