@@ -18,7 +18,6 @@ ghost use Rattle.aql_tree.specs.View.{let_part, aggregate_part, into_part, walke
 use crate::parts::Queries;
 use aql_grammar::{Cursor, Depth, ParseFault, WalkNames, begins_clause, is_name};
 use aql_lex::{Keyword, Symbol, TokenKind};
-use aql_phrases::both;
 use aql_tree::{
     AggregateItem, Aggregates, Clause, Clauses, Direction, Expr, Fields, Ident, Into, Key, Keys,
     Let, Lets, Options, Query, Traversal, UniqueEdges, UniqueVertices,
@@ -391,11 +390,10 @@ impl<F: Fn(Global, &mut Cursor<'_>, usize, bool) -> Result<Expr, ParseFault>> Qu
         let depth = tokens.depth()?;
         let direction = tokens.way()?;
         let shape = walk_shape(names, depth, direction);
-        let from = both(shape, self.rules.expr(tokens))?;
-        let along = both(from, tokens.names(self.rules.alloc))?;
-        let until = both(along, self.prune(tokens))?;
-        let all = both(until, self.settings(tokens))?;
-        let ((((shape, start), collections), prune), settings) = all;
+        let start = self.rules.expr(tokens)?;
+        let collections = tokens.names(self.rules.alloc)?;
+        let prune = self.prune(tokens)?;
+        let settings = self.settings(tokens)?;
         Ok(walk_clause(shape, start, collections, prune, settings))
     }
 
@@ -408,7 +406,7 @@ impl<F: Fn(Global, &mut Cursor<'_>, usize, bool) -> Result<Expr, ParseFault>> Qu
             self.now.rules.inside tokens.old) result tokens.new }
     {
         let names = tokens.walk_names(self.rules.alloc)?;
-        let names = tokens.expect_keyword(Keyword::In).and(Ok(names))?;
+        tokens.expect_keyword(Keyword::In)?;
         if tokens.begins_walk() {
             return self.walk(tokens, names);
         }

@@ -11,7 +11,7 @@ ghost use Rattle.aql_tree.specs.View.{tree, step_part, member_part};
 
 use aql_grammar::{Cursor, ParseFault, begins_step};
 use aql_lex::{Keyword, Symbol, TokenKind};
-use aql_phrases::{Grammar, both, unquoted};
+use aql_phrases::{Grammar, unquoted};
 use aql_tree::{Expr, Exprs, Field, Fields, Step, Steps};
 use aql_value::{Seq, Text};
 use std::alloc::Global;
@@ -63,7 +63,7 @@ impl<F: Fn(Global, &mut Cursor<'_>, usize, bool) -> Result<Expr, ParseFault>> Qu
             self.now.rules.inside tokens.old) result tokens.new }
     {
         let name = self.rules.closed(tokens, Symbol::CloseBracket)?;
-        let (name, value) = both(name, self.rules.value(tokens))?;
+        let value = self.rules.value(tokens)?;
         Ok(Field::Computed { name, value })
     }
 
@@ -162,9 +162,9 @@ impl<F: Fn(Global, &mut Cursor<'_>, usize, bool) -> Result<Expr, ParseFault>> Qu
     {
         if tokens.eat(Symbol::Star) {
             let filter = self.element(tokens, Keyword::Filter)?;
-            let (filter, project) = both(filter, self.element(tokens, Keyword::Return))?;
-            let step = Step::each(filter, project);
-            tokens.expect(Symbol::CloseBracket).and(Ok(step))
+            let project = self.element(tokens, Keyword::Return)?;
+            tokens.expect(Symbol::CloseBracket)?;
+            Ok(Step::each(filter, project))
         } else {
             Ok(Step::At(self.rules.closed(tokens, Symbol::CloseBracket)?))
         }

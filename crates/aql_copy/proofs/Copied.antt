@@ -1,5 +1,5 @@
 -- One more element of a list is copied.
-use Rattle.std.proofs.Common.{rules, Result, Ok, IfOk, option_map, ◌≡◌, ℕ, ◌+◌, ◌<◌, List, [], ◌∷◌, ◌++◌, length, get_or, map, take, ap, sym, subst, ◌∙◌}
+use Rattle.std.proofs.Common.{rules, option_map, ◌≡◌, ℕ, ◌+◌, ◌<◌, List, [], ◌∷◌, ◌++◌, length, get_or, map, take, ap, sym, subst, ◌∙◌}
 use Rattle.aql_tree.specs.declared.syntax.Link.{Link, the_lemmas as link_lemmas}
 use Rattle.aql_tree.specs.declared.syntax.Key.{Key, the_lemmas as key_lemmas}
 use Rattle.aql_tree.specs.declared.syntax.Let.{Let, the_lemmas as let_lemmas}
@@ -26,7 +26,3 @@ let_is x = search (rules, let_lemmas)
 
 pub aggregate_is : (x : AggregateItem) → aggregate_part x ≡ (x.var, x.name, option_map tree x.arg)
 aggregate_is x = search (rules, aggregate_lemmas)
-
--- what holds where a copy is `Ok` holds of the copy
-pub of_ok : {A E : Type 0} (P : A → Type 0) (r : Result A E) (x : A) → r ≡ Ok x → IfOk r P → P x
-of_ok P r x e h = subst (λ s. IfOk s P) e h

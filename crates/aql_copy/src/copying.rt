@@ -1,12 +1,12 @@
 //! Copies of syntax trees.
 
-ghost use Rattle.std.specs.Prelude.{◌≡◌, map, IfOk, Ok, option_map};
+ghost use Rattle.std.specs.Prelude.{◌≡◌, map, IfOk, option_map};
 ghost use Rattle.aql_tree.specs.View.{tree, clause_tree, step_part, member_part, link_part};
 ghost use Rattle.aql_tree.specs.View.{key_part, let_part, aggregate_part, into_part};
 ghost use Rattle.aql_tree.specs.View.{traversal_part, query_tree};
 
 use aql_tree::{
-    AggregateItem, Clause, Expr, Field, Ident, Into, Key, Let, Link, Options, Query, Step,
+    AggregateItem, Clause, Collect, Expr, Field, Ident, Into, Key, Let, Link, Options, Query, Step,
     Traversal,
 };
 use aql_value::{OutOfMemory, Seq, Text, copy};
@@ -26,7 +26,7 @@ fn copy_ident(alloc: Global, ident: &Ident) -> Result<Ident, OutOfMemory>
     ensures { IfOk result (λ y. y ≡ ident.now) }
 {
     match ident {
-        Ident::Name(name) => name.copy(alloc).map(Ident::Name),
+        Ident::Name(name) => Ok(Ident::Name(name.copy(alloc)?)),
         Ident::Num(n) => Ok(Ident::Num(*n)),
     }
 }
@@ -35,20 +35,9 @@ fn copy_maybe_ident(alloc: Global, ident: &Option<Ident>) -> Result<Option<Ident
     ensures { IfOk result (λ y. y ≡ ident.now) }
 {
     match ident {
-        Some(ident) => copy_ident(alloc, ident).map(Some),
+        Some(ident) => Ok(Some(copy_ident(alloc, ident)?)),
         None => Ok(None),
     }
-}
-
-// Two copies; where one of them failed, the other is dropped.
-fn both<A: Drop, B: Drop>(
-    first: Result<A, OutOfMemory>,
-    second: Result<B, OutOfMemory>,
-) -> Result<(A, B), OutOfMemory>
-    ensures { IfOk result (λ pair. (first ≡ Ok pair.0) × (second ≡ Ok pair.1)) }
-{
-    let first = first?;
-    Ok((first, second?))
 }
 
 /// An equal expression.
@@ -57,51 +46,48 @@ pub fn copy_expr(alloc: Global, expr: &Expr) -> Result<Expr, OutOfMemory>
     ensures { IfOk result (λ f. tree f ≡ tree expr.now) }
 {
     match expr {
-        Expr::Lit(value) => copy(alloc, value).map(Expr::Lit),
-        Expr::Var(ident) => copy_ident(alloc, ident).map(Expr::Var),
+        Expr::Lit(value) => Ok(Expr::Lit(copy(alloc, value)?)),
+        Expr::Var(ident) => Ok(Expr::Var(copy_ident(alloc, ident)?)),
         Expr::Current => Ok(Expr::Current),
-        Expr::List(items) => copy_exprs(alloc, items.as_slice()).map(Expr::List),
-        Expr::Object(fields) => copy_fields(alloc, fields.as_slice()).map(Expr::Object),
-        Expr::Call { name, args } => {
-            let (name, args) = both(name.copy(alloc), copy_exprs(alloc, args.as_slice()))?;
-            Ok(Expr::Call { name, args })
-        }
+        Expr::List(items) => Ok(Expr::List(copy_exprs(alloc, items.as_slice())?)),
+        Expr::Object(fields) => Ok(Expr::Object(copy_fields(alloc, fields.as_slice())?)),
+        Expr::Call { name, args } => Ok(Expr::Call {
+            name: name.copy(alloc)?,
+            args: copy_exprs(alloc, args.as_slice())?,
+        }),
         Expr::Quant {
             left,
             kind,
             op,
             right,
-        } => {
-            let (left, right) = both(copy_boxed(alloc, left), copy_boxed(alloc, right))?;
-            Ok(Expr::Quant {
-                left,
-                kind: *kind,
-                op: *op,
-                right,
-            })
-        }
-        Expr::Range { low, high } => {
-            let (low, high) = both(copy_boxed(alloc, low), copy_boxed(alloc, high))?;
-            Ok(Expr::Range { low, high })
-        }
-        Expr::Access { of, steps } => {
-            let (of, steps) = both(copy_boxed(alloc, of), copy_steps(alloc, steps.as_slice()))?;
-            Ok(Expr::Access { of, steps })
-        }
+        } => Ok(Expr::Quant {
+            left: copy_boxed(alloc, left)?,
+            kind: *kind,
+            op: *op,
+            right: copy_boxed(alloc, right)?,
+        }),
+        Expr::Range { low, high } => Ok(Expr::Range {
+            low: copy_boxed(alloc, low)?,
+            high: copy_boxed(alloc, high)?,
+        }),
+        Expr::Access { of, steps } => Ok(Expr::Access {
+            of: copy_boxed(alloc, of)?,
+            steps: copy_steps(alloc, steps.as_slice())?,
+        }),
         Expr::Unary { op, of } => Ok(Expr::Unary {
             op: *op,
             of: copy_boxed(alloc, of)?,
         }),
-        Expr::Chain { first, rest } => {
-            let (first, rest) = both(copy_boxed(alloc, first), copy_links(alloc, rest.as_slice()))?;
-            Ok(Expr::Chain { first, rest })
-        }
-        Expr::Cond { test, yes, no } => {
-            let branches = both(copy_maybe_boxed(alloc, yes), copy_boxed(alloc, no));
-            let (test, (yes, no)) = both(copy_boxed(alloc, test), branches)?;
-            Ok(Expr::Cond { test, yes, no })
-        }
-        Expr::Sub(query) => copy_query(alloc, query).map(Expr::Sub),
+        Expr::Chain { first, rest } => Ok(Expr::Chain {
+            first: copy_boxed(alloc, first)?,
+            rest: copy_links(alloc, rest.as_slice())?,
+        }),
+        Expr::Cond { test, yes, no } => Ok(Expr::Cond {
+            test: copy_boxed(alloc, test)?,
+            yes: copy_maybe_boxed(alloc, yes)?,
+            no: copy_boxed(alloc, no)?,
+        }),
+        Expr::Sub(query) => Ok(Expr::Sub(copy_query(alloc, query)?)),
     }
 }
 
@@ -121,7 +107,7 @@ fn copy_maybe_boxed(
     ensures { IfOk result (λ f. option_map (λ b. tree b.value) f ≡ option_map (λ b. tree b.value) expr.now) }
 {
     match expr {
-        Some(expr) => copy_boxed(alloc, expr).map(Some),
+        Some(expr) => Ok(Some(copy_boxed(alloc, expr)?)),
         None => Ok(None),
     }
 }
@@ -131,7 +117,7 @@ fn copy_maybe(alloc: Global, expr: &Option<Expr>) -> Result<Option<Expr>, OutOfM
     ensures { IfOk result (λ f. option_map tree f ≡ option_map tree expr.now) }
 {
     match expr {
-        Some(expr) => copy_expr(alloc, expr).map(Some),
+        Some(expr) => Ok(Some(copy_expr(alloc, expr)?)),
         None => Ok(None),
     }
 }
@@ -203,8 +189,10 @@ fn copy_lets(alloc: Global, all: &[Let]) -> Result<Seq<Let>, OutOfMemory>
 {
     let mut out = Seq::new(alloc);
     for item in all {
-        let (var, expr) = both(copy_ident(alloc, &item.var), copy_expr(alloc, &item.expr))?;
-        out.push(Let { var, expr })?;
+        out.push(Let {
+            var: copy_ident(alloc, &item.var)?,
+            expr: copy_expr(alloc, &item.expr)?,
+        })?;
     }
     Ok(out)
 }
@@ -215,9 +203,11 @@ fn copy_aggregates(alloc: Global, all: &[AggregateItem]) -> Result<Seq<Aggregate
 {
     let mut out = Seq::new(alloc);
     for item in all {
-        let call = both(item.name.copy(alloc), copy_maybe(alloc, &item.arg));
-        let (var, (name, arg)) = both(copy_ident(alloc, &item.var), call)?;
-        out.push(AggregateItem { var, name, arg })?;
+        out.push(AggregateItem {
+            var: copy_ident(alloc, &item.var)?,
+            name: item.name.copy(alloc)?,
+            arg: copy_maybe(alloc, &item.arg)?,
+        })?;
     }
     Ok(out)
 }
@@ -238,14 +228,14 @@ fn copy_field(alloc: Global, field: &Field) -> Result<Field, OutOfMemory>
     ensures { IfOk result (λ out. member_part out ≡ member_part field.now) }
 {
     match field {
-        Field::Named { name, value } => {
-            let (name, value) = both(name.copy(alloc), copy_expr(alloc, value))?;
-            Ok(Field::Named { name, value })
-        }
-        Field::Computed { name, value } => {
-            let (name, value) = both(copy_expr(alloc, name), copy_expr(alloc, value))?;
-            Ok(Field::Computed { name, value })
-        }
+        Field::Named { name, value } => Ok(Field::Named {
+            name: name.copy(alloc)?,
+            value: copy_expr(alloc, value)?,
+        }),
+        Field::Computed { name, value } => Ok(Field::Computed {
+            name: copy_expr(alloc, name)?,
+            value: copy_expr(alloc, value)?,
+        }),
     }
 }
 
@@ -254,12 +244,12 @@ fn copy_step(alloc: Global, step: &Step) -> Result<Step, OutOfMemory>
     ensures { IfOk result (λ out. step_part out ≡ step_part step.now) }
 {
     match step {
-        Step::Name(name) => name.copy(alloc).map(Step::Name),
-        Step::At(e) => copy_expr(alloc, e).map(Step::At),
-        Step::Each { filter, project } => {
-            let (filter, project) = both(copy_maybe(alloc, filter), copy_maybe(alloc, project))?;
-            Ok(Step::Each { filter, project })
-        }
+        Step::Name(name) => Ok(Step::Name(name.copy(alloc)?)),
+        Step::At(e) => Ok(Step::At(copy_expr(alloc, e)?)),
+        Step::Each { filter, project } => Ok(Step::Each {
+            filter: copy_maybe(alloc, filter)?,
+            project: copy_maybe(alloc, project)?,
+        }),
     }
 }
 
@@ -268,14 +258,11 @@ fn copy_into(alloc: Global, into: &Option<Into>) -> Result<Option<Into>, OutOfMe
     ensures { IfOk result (λ j. option_map into_part j ≡ option_map into_part into.now) }
 {
     match into {
-        Some(into) => {
-            let names = both(
-                copy_ident(alloc, &into.var),
-                copy_texts(alloc, into.keep.as_slice()),
-            );
-            let (what, (var, keep)) = both(copy_maybe(alloc, &into.what), names)?;
-            Ok(Some(Into { var, what, keep }))
-        }
+        Some(into) => Ok(Some(Into {
+            var: copy_ident(alloc, &into.var)?,
+            what: copy_maybe(alloc, &into.what)?,
+            keep: copy_texts(alloc, into.keep.as_slice())?,
+        })),
         None => Ok(None),
     }
 }
@@ -284,29 +271,17 @@ fn copy_into(alloc: Global, into: &Option<Into>) -> Result<Option<Into>, OutOfMe
 fn copy_traversal(alloc: Global, walk: &Traversal) -> Result<Traversal, OutOfMemory>
     ensures { IfOk result (λ out. traversal_part out ≡ traversal_part walk.now) }
 {
-    let settings = copy_fields(alloc, walk.options.settings.as_slice());
-    let collections = copy_texts(alloc, walk.collections.as_slice());
-    let ends = both(
-        copy_ident(alloc, &walk.vertex),
-        copy_expr(alloc, &walk.start),
-    );
-    let vars = both(
-        copy_maybe_ident(alloc, &walk.edge),
-        copy_maybe_ident(alloc, &walk.path),
-    );
-    let lists = both(settings, collections);
-    let rest = both(copy_maybe(alloc, &walk.prune), both(vars, lists));
-    let ((vertex, start), (prune, ((edge, path), (settings, collections)))) = both(ends, rest)?;
+    let settings = copy_fields(alloc, walk.options.settings.as_slice())?;
     Ok(Traversal {
-        vertex,
-        edge,
-        path,
+        vertex: copy_ident(alloc, &walk.vertex)?,
+        edge: copy_maybe_ident(alloc, &walk.edge)?,
+        path: copy_maybe_ident(alloc, &walk.path)?,
         min: walk.min,
         max: walk.max,
         direction: walk.direction,
-        start,
-        collections,
-        prune,
+        start: copy_expr(alloc, &walk.start)?,
+        collections: copy_texts(alloc, walk.collections.as_slice())?,
+        prune: copy_maybe(alloc, &walk.prune)?,
         options: Options {
             settings,
             edges: walk.options.edges,
@@ -321,32 +296,30 @@ fn copy_clause(alloc: Global, clause: &Clause) -> Result<Clause, OutOfMemory>
     ensures { IfOk result (λ out. clause_tree out ≡ clause_tree clause.now) }
 {
     match clause {
-        Clause::For { var, list } => {
-            let (var, list) = both(copy_ident(alloc, var), copy_expr(alloc, list))?;
-            Ok(Clause::For { var, list })
-        }
-        Clause::ForDocs { var, collection } => {
-            let (var, collection) = both(copy_ident(alloc, var), collection.copy(alloc))?;
-            Ok(Clause::ForDocs { var, collection })
-        }
-        Clause::Walk(t) => copy_traversal(alloc, t).map(Clause::Walk),
-        Clause::Filter(e) => copy_expr(alloc, e).map(Clause::Filter),
-        Clause::Let { var, expr } => {
-            let (var, expr) = both(copy_ident(alloc, var), copy_expr(alloc, expr))?;
-            Ok(Clause::Let { var, expr })
-        }
-        Clause::Sort(keys) => copy_keys(alloc, keys.as_slice()).map(Clause::Sort),
+        Clause::For { var, list } => Ok(Clause::For {
+            var: copy_ident(alloc, var)?,
+            list: copy_expr(alloc, list)?,
+        }),
+        Clause::ForDocs { var, collection } => Ok(Clause::ForDocs {
+            var: copy_ident(alloc, var)?,
+            collection: collection.copy(alloc)?,
+        }),
+        Clause::Walk(t) => Ok(Clause::Walk(copy_traversal(alloc, t)?)),
+        Clause::Filter(e) => Ok(Clause::Filter(copy_expr(alloc, e)?)),
+        Clause::Let { var, expr } => Ok(Clause::Let {
+            var: copy_ident(alloc, var)?,
+            expr: copy_expr(alloc, expr)?,
+        }),
+        Clause::Sort(keys) => Ok(Clause::Sort(copy_keys(alloc, keys.as_slice())?)),
         Clause::Limit { offset, count } => Ok(Clause::Limit {
             offset: *offset,
             count: *count,
         }),
-        Clause::Collect(collect) => {
-            let into = copy_into(alloc, &collect.into);
-            let aggregates = copy_aggregates(alloc, collect.aggregates.as_slice());
-            let groups = copy_lets(alloc, collect.groups.as_slice());
-            let (groups, (aggregates, into)) = both(groups, both(aggregates, into))?;
-            Ok(Clause::collect(groups, aggregates, into))
-        }
+        Clause::Collect(collect) => Ok(Clause::Collect(Collect {
+            groups: copy_lets(alloc, collect.groups.as_slice())?,
+            aggregates: copy_aggregates(alloc, collect.aggregates.as_slice())?,
+            into: copy_into(alloc, &collect.into)?,
+        })),
     }
 }
 
@@ -354,16 +327,11 @@ fn copy_clause(alloc: Global, clause: &Clause) -> Result<Clause, OutOfMemory>
 fn copy_query(alloc: Global, query: &Query) -> Result<Box<Query>, OutOfMemory>
     ensures { IfOk result (λ out. query_tree out.value ≡ query_tree query.now) }
 {
-    let clauses = copy_clauses(alloc, query.clauses.as_slice());
-    let parts = both(clauses, copy_boxed(alloc, &query.result));
-    let (with, (clauses, result)) = both(copy_texts(alloc, query.with.as_slice()), parts)?;
-    Ok(Box::new(
-        alloc,
-        Query {
-            with,
-            clauses,
-            distinct: query.distinct,
-            result,
-        },
-    )?)
+    let copied = Query {
+        with: copy_texts(alloc, query.with.as_slice())?,
+        clauses: copy_clauses(alloc, query.clauses.as_slice())?,
+        distinct: query.distinct,
+        result: copy_boxed(alloc, &query.result)?,
+    };
+    Ok(Box::new(alloc, copied)?)
 }

@@ -9,7 +9,7 @@ ghost use Rattle.aql_tree.specs.View.{tree, link_part};
 use aql_clauses::Queries;
 use aql_grammar::{Cursor, ParseFault, begins_query, unary_at};
 use aql_lex::{Keyword, Symbol, TokenKind};
-use aql_phrases::{accessed, both, chained, unquoted};
+use aql_phrases::{accessed, chained, unquoted};
 use aql_tree::{Expr, Exprs, Ident, Link, Links};
 use aql_value::{Seq, Text, Value};
 use std::alloc::Global;
@@ -96,7 +96,8 @@ impl<F: Fn(Global, &mut Cursor<'_>, usize, bool) -> Result<Expr, ParseFault>> Ex
             self.now.queries.rules.inside tokens.old) result tokens.new }
     {
         let found = self.argument(tokens)?;
-        tokens.expect(Symbol::CloseParen).and(Ok(found))
+        tokens.expect(Symbol::CloseParen)?;
+        Ok(found)
     }
 
     #[tactic(auto, unfolding(aql_grammar::specs::Reader::primary))]
@@ -159,7 +160,7 @@ impl<F: Fn(Global, &mut Cursor<'_>, usize, bool) -> Result<Expr, ParseFault>> Ex
             self.now.queries.rules.inside tokens.old) result tokens.new }
     {
         let of = self.primary(tokens)?;
-        let (of, steps) = both(of, self.queries.steps(tokens))?;
+        let steps = self.queries.steps(tokens)?;
         Ok(accessed(self.queries.rules.alloc, of, steps)?)
     }
 
@@ -240,7 +241,7 @@ impl<F: Fn(Global, &mut Cursor<'_>, usize, bool) -> Result<Expr, ParseFault>> Ex
     {
         let low = self.level(tokens, level)?;
         if tokens.eat(Symbol::Range) {
-            let (low, high) = both(low, self.level(tokens, level))?;
+            let high = self.level(tokens, level)?;
             Ok(Expr::range(self.queries.rules.alloc, low, high)?)
         } else {
             Ok(low)
@@ -260,9 +261,9 @@ impl<F: Fn(Global, &mut Cursor<'_>, usize, bool) -> Result<Expr, ParseFault>> Ex
         if tokens.rank() != 7 {
             return Ok(left);
         }
-        let (left, kind) = both(left, tokens.quantifier())?;
-        let (left, op) = both(left, tokens.comparison())?;
-        let (left, right) = both(left, self.level(tokens, level))?;
+        let kind = tokens.quantifier()?;
+        let op = tokens.comparison()?;
+        let right = self.level(tokens, level)?;
         Ok(Expr::quantified(self.queries.rules.alloc, left, kind, op, right)?)
     }
 
@@ -277,7 +278,7 @@ impl<F: Fn(Global, &mut Cursor<'_>, usize, bool) -> Result<Expr, ParseFault>> Ex
             result tokens.new }
     {
         let first = self.level(tokens, level - 1)?;
-        let (first, rest) = both(first, self.links(tokens, level))?;
+        let rest = self.links(tokens, level)?;
         Ok(chained(self.queries.rules.alloc, first, rest)?)
     }
 

@@ -4,4 +4,4 @@
 
 mod phrases;
 
-pub use phrases::{Grammar, accessed, both, chained, unquoted};
+pub use phrases::{Grammar, accessed, chained, unquoted};

@@ -2,7 +2,6 @@
 //! that reads the expressions one bracket deeper as a parameter, so that it is proved by itself.
 
 ghost use Rattle.std.specs.Prelude.{◌≡◌, IfOk, map, true};
-ghost use Rattle.std.specs.Result.{result_map_both};
 ghost use Rattle.aql_grammar.specs.Input.{ReadsAs};
 ghost use Rattle.aql_grammar.specs.Objects.{unquoted};
 ghost use Rattle.aql_grammar.specs.Reader as reader;
@@ -26,13 +25,6 @@ pub struct Grammar<F> {
     pub inside: bool,
     /// Reads an expression one bracket deeper.
     pub expr: F,
-}
-
-/// What was found, with what was read behind it; or why that could not be read.
-pub fn both<A: Drop, B: Drop>(found: A, behind: Result<B, ParseFault>) -> Result<(A, B), ParseFault>
-    ensures { result ≡ result_map_both (λ b. (found, b)) (λ e. e) behind }
-{
-    Ok((found, behind?))
 }
 
 /// A name as a value: the word CURRENT is the element at hand inside an inline operator.
@@ -93,7 +85,8 @@ impl<F: Fn(Global, &mut Cursor<'_>, usize, bool) -> Result<Expr, ParseFault>> Gr
             result tokens.new }
     {
         let found = self.expr(tokens)?;
-        tokens.expect(close).and(Ok(found))
+        tokens.expect(close)?;
+        Ok(found)
     }
 
     /// A colon with the expression behind it.
@@ -148,11 +141,11 @@ impl<F: Fn(Global, &mut Cursor<'_>, usize, bool) -> Result<Expr, ParseFault>> Gr
             (tree test) tokens.old) result tokens.new }
     {
         if tokens.eat(Symbol::Colon) {
-            let (test, no) = both(test, self.expr(tokens))?;
+            let no = self.expr(tokens)?;
             return Ok(Expr::conditional(self.alloc, test, None, no)?);
         }
-        let asked = both(test, self.closed(tokens, Symbol::Colon))?;
-        let ((test, yes), no) = both(asked, self.expr(tokens))?;
+        let yes = self.closed(tokens, Symbol::Colon)?;
+        let no = self.expr(tokens)?;
         Ok(Expr::conditional(self.alloc, test, Some(yes), no)?)
     }
 

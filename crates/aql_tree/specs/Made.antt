@@ -1,6 +1,6 @@
 -- The words in which a grammar or a rule names trees, where the parts that repeat are plain lists:
 -- the trees themselves are those of Tree, in the order of the AQL manual's grammar.
-use Rattle.std.specs.Prelude.{ℕ, ℤ, Bool, true, false, List, [], ◌∷◌, Option, Some, None}
+use Rattle.std.specs.Prelude.{ℕ, ℤ, Bool, false, List, ◌∷◌, Option, Some, None}
 use Rattle.aql_value.specs.Tree as value
 use Rattle.aql_func.specs.declared.operators.BinOp.{BinOp}
 use Rattle.aql_tree.specs.declared.syntax.Ident.{Ident}
@@ -12,8 +12,8 @@ use Rattle.aql_tree.specs.Tree.{WalkOptions, WalkShape, ExprTree, literal, varia
 use Rattle.aql_tree.specs.Tree.{called, chain, choice, ClauseTree, for_each, define, QueryTree}
 use Rattle.aql_tree.specs.Tree as tree
 use Rattle.aql_tree.specs.View.{trees, maybe, MemberPart, members, StepPart, steps, LinkPart, links}
-use Rattle.aql_tree.specs.View.{LetPart, AggregatePart, IntoPart, CollectPart, grouped, clauses}
-use Rattle.aql_tree.specs.View.{TraversalPart, walked}
+use Rattle.aql_tree.specs.View.{LetPart, AggregatePart, IntoPart, clauses}
+use Rattle.aql_tree.specs.View.{TraversalPart}
 
 -- ---- expressions
 

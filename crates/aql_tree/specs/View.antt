@@ -4,7 +4,6 @@
 use Rattle.std.specs.Prelude.{ℕ, Bool, List, [], ◌∷◌, Option, Some, None, option_map, map}
 use Rattle.aql_value.specs.View.{tree_of}
 use Rattle.aql_func.specs.declared.operators.BinOp.{BinOp}
-use Rattle.aql_func.specs.declared.operators.UnaryOp.{UnaryOp}
 use Rattle.aql_tree.specs.Tree.{WalkShape, WalkOptions, ExprTree, literal, variable, current, listed, made}
 use Rattle.aql_tree.specs.Tree.{access, called, unary_of, chain, quantified, choice, range_of, subquery}
 use Rattle.aql_tree.specs.Tree.{ExprTrees, no_exprs, expr_then, MaybeExpr, no_expr, one_expr, MemberTrees}

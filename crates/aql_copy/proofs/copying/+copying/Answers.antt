@@ -1,6 +1,6 @@
-use Rattle.std.proofs.Common.{◌≡◌, Ok, option_map, ◌∙◌, ap, ap₂, sym}
+use Rattle.std.proofs.Common.{option_map, ◌∙◌, ap, ap₂, sym}
 use Rattle.aql_tree.specs.View.{tree, clause_tree, step_part, member_part, link_part, key_part, let_part, aggregate_part}
-use Rattle.aql_copy.proofs.Copied.{copied_more, link_is, key_is, let_is, aggregate_is, of_ok}
+use Rattle.aql_copy.proofs.Copied.{copied_more, link_is, key_is, let_is, aggregate_is}
 use Rattle.aql_copy.proofs.copying.+copying.Goals as goal
 
 pub copy_exprs-loop-item-preserved : goal.copy_exprs-loop-item-preserved
@@ -36,20 +36,14 @@ copy_keys-loop-item-preserved t c =
 pub copy_lets-loop-item-preserved : goal.copy_lets-loop-item-preserved
 copy_lets-loop-item-preserved t c =
     let item = c.item-item.result in
-    let var = of_ok (λ y. y ≡ item.var) _ _ c.in_ok-var.ensures.0 c.copy_ident.ensures in
-    let expr = of_ok (λ y. tree y ≡ tree item.expr) _ _ c.in_ok-var.ensures.1 c.copy_expr.ensures in
-    let same = let_is _ ∙ ap₂ (λ x e. (x, e)) var expr ∙ sym (let_is item) in
     copied_more let_part c.args.all.now c.loop-item.out _ c.loop-item.item-index item _ c.loop-item.invariant
-    c.loop-item-test.true c.item-item.is c.in_ok-push.ensures.ok same
+    c.loop-item-test.true c.item-item.is c.in_ok-push.ensures.ok (let_is _
+    ∙ ap₂ (λ x e. (x, e)) c.in_ok-copy_ident.ensures c.in_ok-copy_expr.ensures ∙ sym (let_is item))
 
 pub copy_aggregates-loop-item-preserved : goal.copy_aggregates-loop-item-preserved
 copy_aggregates-loop-item-preserved t c =
     let item = c.item-item.result in
-    let call = of_ok (λ y. (c.copy.result ≡ Ok y.0) × (c.copy_maybe.result ≡ Ok y.1)) _ _ c.in_ok-var.ensures.1 c.both-call.ensures in
-    let var = of_ok (λ y. y ≡ item.var) _ _ c.in_ok-var.ensures.0 c.copy_ident.ensures in
-    let name = of_ok (λ y. y ≡ item.name) _ _ call.0 c.copy.ensures in
-    let arg = of_ok (λ y. option_map tree y ≡ option_map tree item.arg) _ _ call.1 c.copy_maybe.ensures in
-    let same = aggregate_is _ ∙ ap (λ x. (x, c.in_ok-var.name, option_map tree c.in_ok-var.arg)) var
-    ∙ ap₂ (λ n a. (item.var, n, a)) name arg ∙ sym (aggregate_is item) in
+    let same = aggregate_is _ ∙ ap (λ x. (x, c.in_ok-copy.field-0, option_map tree c.in_ok-copy_maybe.field-0)) c.in_ok-copy_ident.ensures
+    ∙ ap₂ (λ n a. (item.var, n, a)) c.in_ok-copy.ensures c.in_ok-copy_maybe.ensures ∙ sym (aggregate_is item) in
     copied_more aggregate_part c.args.all.now c.loop-item.out _ c.loop-item.item-index item _ c.loop-item.invariant
     c.loop-item-test.true c.item-item.is c.in_ok-push.ensures.ok same
