@@ -20,7 +20,7 @@ use Rattle.aql_names.specs.Options.{unwritten}
 use Rattle.aql_names.specs.Faults.{first, new_names, seen, unless, walk_vars, edge_collections}
 use Rattle.aql_names.specs.Walk as W
 use Rattle.aql_names.specs.Walk.{Site, State, Outcome, Walks, Judges, on, judged, beside, next}
-use Rattle.aql_names.proofs.Words.{lifted_clause, paths_clause, walk_done}
+use Rattle.aql_names.proofs.Words.{lifted_clause, named_into, paths_clause, walk_done}
 
 -- where a part gives something, what follows goes on with it
 pub given_on : {A B R S : Type 0} (o : Outcome A R) (k : A → R → Outcome B S) (a : A) (r : R)
@@ -95,6 +95,13 @@ steps_by_step s found (view.each filter gives) ps st = by (W.maybe (W.inline_sit
   by (Err fault) = refl
   by (Ok p) = sym (on_on (rest p.0 p.1) (λ g last. Ok (view.each p.0 g, last)) go_on)
 
+-- a list from a place on begins with the element there
+pub from_here : {A : Type 0} (all : List A) (i : ℕ) (x : A) → i < length all → x ≡ get_or all i x
+    → drop i all ≡ x ∷ drop (i + 1) all
+from_here all i x h e =
+    subst (λ n. drop i all ≡ x ∷ drop n all) (sym (add-one i))
+    (subst (λ y. drop i all ≡ y ∷ drop (suc i) all) (sym e) (drop-cons all i x h))
+
 -- the steps from a place on begin with the step there
 pub steps_from : (s : Site) (found : List StepPart) (all : List Step) (i : ℕ) (x : Step) (st : State)
     → i < length all → x ≡ get_or all i x
@@ -102,12 +109,8 @@ pub steps_from : (s : Site) (found : List StepPart) (all : List Step) (i : ℕ) 
     ≡ on (W.step s (step_part x) st)
     (λ q later. W.steps s (found ++ q ∷ []) (view.steps (map step_part (drop (i + 1) all))) later)
 steps_from s found all i x st h e =
-    ap (λ xs. W.steps s found (view.steps (map step_part xs)) st) here
+    ap (λ xs. W.steps s found (view.steps (map step_part xs)) st) (from_here all i x h e)
     ∙ steps_by_step s found (step_part x) (map step_part (drop (i + 1) all)) st
-  where
-    here : drop i all ≡ x ∷ drop (i + 1) all
-    here = subst (λ n. drop i all ≡ x ∷ drop n all) (sym (add-one i))
-        (subst (λ (y : Step). drop i all ≡ y ∷ drop (suc i) all) (sym e) (drop-cons all i x h))
 
 -- an inline operator of the code, part by part
 pub of_each : (f p : Option Expr) → step_part (Each f p) ≡ view.each (option_map tree f) (option_map tree p)
@@ -184,6 +187,19 @@ pub into_given : {A : Type 0} (f : A → Option IntoPart × Names) (s : Site) (i
 into_given f s inner x m e keep names st r after is same h =
     subst (λ o. Walks f o r after)
     (ap₂ (λ (n : Option ExprTree) ns. W.into_walk s inner (view.into_tree (Some (x, n, ns))) st) (sym is) same) h
+
+-- INTO without one
+pub into_by_names : {A : Type 0} (f : A → Option IntoPart × Names) (s : Site) (inner : Names) (x : Ident)
+    (m : Option ExprTree) (keep names said : List (List ℕ)) (lets : List ClauseTree) (r : Result A ScopeFault)
+    (after : List (List ℕ)) → m ≡ None → names ≡ keep → Walks f (W.into_named s inner x names said) r after
+    → Walks f (W.into_walk s inner (view.into_tree (Some (x, m, keep))) (record { said = said; lets = lets })) r
+    (record { said = after; lets = lets })
+into_by_names f s inner x m keep names said lets r after is same h =
+    subst (λ o. Walks f o r (record { said = after; lets = lets }))
+    (sym (named_into s inner x names (record { said = said; lets = lets }))
+    ∙ ap₂ (λ (n : Option ExprTree) ns. W.into_walk s inner (view.into_tree (Some (x, n, ns)))
+    (record { said = said; lets = lets })) (sym is) same)
+    (beside_walks f lets (W.into_named s inner x names said) r after h)
 
 -- what INTO of the code says, part by part
 pub into_parts_of : (i : Into) → into_part i ≡ (i.var, option_map tree i.what, i.keep)

@@ -183,13 +183,10 @@ fn members(
                 name: name.copy(at.alloc)?,
                 value: expr(value, at, said, lets)?,
             },
-            Field::Computed { name, value } => {
-                let name = boxed(name, at, said, lets)?;
-                Field::Computed {
-                    value: expr(value, at, said, lets)?,
-                    name: Box::into_inner(name),
-                }
-            }
+            Field::Computed { name, value } => Field::Computed {
+                name: expr(name, at, said, lets)?,
+                value: expr(value, at, said, lets)?,
+            },
         };
         found.push(member)?;
     }
@@ -688,11 +685,7 @@ fn into_expr(
         (state said.old lets.old)) result (state said.new lets.new) }
 {
     let number = enter_new(at, var, behind, said)?;
-    let what = boxed(what, at, said, lets)?;
+    let what = expr(what, at, said, lets)?;
     check_kept(at.alloc, &at.scope.own, keep)?;
-    Ok(Into::new(
-        Ident::Num(number),
-        Some(Box::into_inner(what)),
-        Seq::new(at.alloc),
-    ))
+    Ok(Into::new(Ident::Num(number), Some(what), Seq::new(at.alloc)))
 }

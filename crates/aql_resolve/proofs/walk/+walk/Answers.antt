@@ -1,14 +1,16 @@
-use Rattle.std.proofs.Common.{◌≡◌, ◌∙◌, ap, sym, subst, map, rules, option_map, Option, Some, None, Ok, Err, [], ◌∷◌, ◌+◌, drop}
-use Rattle.std.proofs.lemmas.List.{map-append}
+use Rattle.std.proofs.Common.{◌≡◌, ◌∙◌, ap, sym, subst, map, rules, option_map, Option, Some, None, Ok, Err, [], ◌∷◌, ◌+◌, ◌<◌, ◌≤◌, drop, length, get_or}
+use Rattle.std.proofs.lemmas.List.{drop_all, map-append}
 use Rattle.aql_tree.specs.declared.syntax.Into.{Into}
-use Rattle.aql_tree.specs.Tree.{ClauseTree, subquery, for_paths, no_members}
-use Rattle.aql_tree.specs.View.{tree, steps, each, step_part, maybe, members, query_tree, clause_tree, IntoPart, into_part, into_tree, traversal_part, walked}
+use Rattle.aql_tree.specs.declared.syntax.Query.{roll-Query}
+use Rattle.aql_tree.specs.Tree.{ClauseTree, subquery, for_paths, no_members, query}
+use Rattle.aql_tree.specs.View.{tree, steps, each, step_part, maybe, members, clauses, query_tree, clause_tree, IntoPart, into_part, into_tree, traversal_part, walked}
 use Rattle.aql_lift.specs.Names.{Names, numbered_walk}
-use Rattle.aql_names.specs.Faults.{edge_collections}
+use Rattle.aql_names.specs.Faults.{edge_collections, known_collections}
 use Rattle.aql_names.specs.Options.{unwritten}
 use Rattle.aql_names.specs.Walk as walk
-use Rattle.aql_names.specs.Walk.{Walks, Judges, site_of, site_within, inline_site, with_own, state, next}
-use Rattle.aql_resolve.proofs.Turns.{let_of_query, let_of_value, of_query, no_query, into_given, walk_has_fault, walk_has_parts, shape_is, walk_parts_of, settings_have_fault, into_parts_of, steps_from, of_each, each_has_fault, fault_through, given_on, boxes, head_fault, head_new, head_depth, head_has_fault}
+use Rattle.aql_names.specs.Walk.{Site, Walks, Judges, site_of, site_within, inline_site, with_own, visible, state, next}
+use Rattle.aql_resolve.proofs.Turns.{let_of_query, let_of_value, of_query, no_query, into_given, walk_has_fault, walk_has_parts, shape_is, walk_parts_of, settings_have_fault, into_by_names, into_parts_of, steps_from, of_each, each_has_fault, fault_through, given_on, boxes, head_fault, head_new, head_depth, head_has_fault}
+use Rattle.aql_resolve.proofs.Queries.{query_parts_of, clause_has_fault, result_has_fault, gives_query}
 use Rattle.aql_resolve.proofs.walk.+walk.Goals as goal
 
 pub access_steps-returns-in_err-step : goal.access_steps-returns-in_err-step
@@ -180,3 +182,92 @@ walk_parts-returns-in_err-written t c =
     c.in_err-written.field-0.0 c.within.ensures (c.inline.ensures ∙ ap inline_site c.within-2.ensures) found edges
     pruned is is' written in
     search (rules, h)
+
+pub query_within-returns-in_err-scoped : goal.query_within-returns-in_err-scoped
+query_within-returns-in_err-scoped t c =
+    let q = c.args.query.now in
+    let held = c.args.at.now.catalog.now in
+    let known : known_collections held q.with ≡ None =
+    ap (known_collections held) (sym c.as_slice.ensures) ∙ c.in_ok-check_collections.ensures in
+    let is : c.clause.result ≡ Err c.in_err-scoped.field-0.0 = search rules in
+    let is' : c.from_residual-in_err-scoped.result ≡ Err c.in_err-scoped.field-0.0 = search rules in
+    let h : c.loop-item.item-index < length q.clauses = search rules in
+    let at : c.item-item.result ≡ get_or q.clauses c.loop-item.item-index c.item-item.result = search rules in
+    subst (λ p. Walks query_tree (walk.query_walk held (visible (site_of c.args.at.now)) p c.args.said.now)
+    c.from_residual-in_err-scoped.result c.clause.new.said) (sym (query_parts_of q))
+    (clause_has_fault held (visible (site_of c.args.at.now)) q.with q.clauses q.distinct (tree q.result.value)
+    c.args.said.now known (λ c'. (clause_tree c', c.clause.new.scope.own)) query_tree
+    (site_within c.args.at.now c.loop-item.scope) c.loop-item.item-index c.item-item.result
+    (state c.loop-item.said c.loop-item.done) (state c.clause.new.said c.clause.new.lets) c.clause.result
+    c.from_residual-in_err-scoped.result c.in_err-scoped.field-0.0 c.clause.new.said c.loop-item.invariant.0 h at is is'
+    c.clause.ensures.clause)
+
+pub query_within-returns-in_err-result : goal.query_within-returns-in_err-result
+query_within-returns-in_err-result t c =
+    let q = c.args.query.now in
+    let held = c.args.at.now.catalog.now in
+    let outer = visible (site_of c.args.at.now) in
+    let s = site_within c.args.at.now c.loop-item.scope in
+    let known : known_collections held q.with ≡ None =
+    ap (known_collections held) (sym c.as_slice.ensures) ∙ c.in_ok-check_collections.ensures in
+    let past : length q.clauses ≤ c.loop-item.item-index = search rules in
+    let done = drop_all c.loop-item.item-index q.clauses past in
+    let inner : site_of c.within-inner.result ≡ record s { outer = outer } =
+    c.within-inner.ensures ∙ ap (λ o. let t : Site = record s { outer = o } in t) c.loop-item.invariant.1 in
+    let is : c.boxed.result ≡ Err c.in_err-result.field-0.0 = search rules in
+    let is' : c.from_residual-in_err-result.result ≡ Err c.in_err-result.field-0.0 = search rules in
+    let before = state c.loop-item.said c.loop-item.done in
+    let last = state c.boxed.new.said c.boxed.new.lets in
+    let fails : Walks (λ b. tree b.value) (walk.expr (site_of c.within-inner.result) (tree q.result.value) before)
+    c.boxed.result last =
+    subst (λ b. Walks (λ b. tree b.value) (walk.expr (site_of c.within-inner.result) (tree b) before) c.boxed.result last)
+    c.deref.ensures c.boxed.ensures in
+    subst (λ p. Walks query_tree (walk.query_walk held outer p c.args.said.now) c.from_residual-in_err-result.result
+    c.boxed.new.said) (sym (query_parts_of q))
+    (result_has_fault held outer q.with q.clauses q.distinct (tree q.result.value) c.args.said.now known
+    (λ b. tree b.value) query_tree s (site_of c.within-inner.result) c.loop-item.item-index before last c.boxed.result
+    c.from_residual-in_err-result.result c.in_err-result.field-0.0 c.boxed.new.said c.loop-item.invariant.0 done inner
+    is is' fails)
+
+pub query_within-returns : goal.query_within-returns
+query_within-returns t c =
+    let q = c.args.query.now in
+    let held = c.args.at.now.catalog.now in
+    let outer = visible (site_of c.args.at.now) in
+    let s = site_within c.args.at.now c.loop-item.scope in
+    let known : known_collections held q.with ≡ None =
+    ap (known_collections held) (sym c.as_slice.ensures) ∙ c.in_ok-check_collections.ensures in
+    let past : length q.clauses ≤ c.loop-item.item-index = search rules in
+    let done = drop_all c.loop-item.item-index q.clauses past in
+    let inner : site_of c.within-inner.result ≡ record s { outer = outer } =
+    c.within-inner.ensures ∙ ap (λ o. let t : Site = record s { outer = o } in t) c.loop-item.invariant.1 in
+    let last = state c.boxed.new.said c.boxed.new.lets in
+    let found = tree c.in_ok-result.result.value in
+    let h : walk.expr (site_of c.within-inner.result) (tree q.result.value) (state c.loop-item.said c.loop-item.done)
+    ≡ Ok (found, last) =
+    ap (λ b. walk.expr (site_of c.within-inner.result) (tree b) (state c.loop-item.said c.loop-item.done))
+    (sym c.deref.ensures) ∙ c.in_ok-result.ensures in
+    let with : q.with ≡ c.in_ok-with.with = search rules in
+    ap (λ p. walk.query_walk held outer p c.args.said.now) (query_parts_of q)
+    ∙ gives_query held outer q.with q.clauses q.distinct (tree q.result.value) c.args.said.now known s
+    (site_of c.within-inner.result) c.loop-item.item-index (state c.loop-item.said c.loop-item.done) last found
+    c.loop-item.invariant.0 done inner h
+    ∙ ap (λ ws. Ok (query ws (clauses (map clause_tree c.boxed.new.lets)) q.distinct found, c.boxed.new.said)) with
+    ∙ ap (λ p. Ok (p, c.boxed.new.said)) (sym (query_parts_of (roll-Query record {
+      with = c.in_ok-with.with;
+      clauses = c.boxed.new.lets;
+      distinct = q.distinct;
+      result = c.in_ok-result.result;
+    })))
+
+pub into_some-returns-in-None : goal.into_some-returns-in-None
+into_some-returns-in-None t c =
+    let i = c.args.into.now in
+    let f : Into → Option IntoPart × Names = λ x. (Some (into_part x), c.into_names.new.behind) in
+    let h = into_by_names f (site_of c.args.at.now) c.args.behind.now i.var (option_map tree i.what) i.keep
+    c.as_slice-in-None.result.now c.args.said.now (map clause_tree c.args.lets.now) c.into_names.result
+    c.into_names.new.said (ap (option_map tree) c.in-None.is) c.as_slice-in-None.ensures c.into_names.ensures in
+    let h' = subst (λ p. Walks f (walk.into_walk (site_of c.args.at.now) c.args.behind.now (into_tree (Some p))
+    (state c.args.said.now c.args.lets.now)) c.into_names.result (state c.into_names.new.said c.args.lets.now))
+    (sym (into_parts_of i)) h in
+    search (rules, h')
