@@ -9,13 +9,12 @@ use Rattle.std.proofs.lemmas.Bool.Decides.{same_from_decides}
 use Rattle.std.proofs.lemmas.List.Folds.{list_any-append}
 use Rattle.std.proofs.lemmas.List.{take-append-drop}
 use Rattle.std.proofs.Math.Seq.{take-append_seam}
-use Rattle.aql_value.specs.Tree.{Tree, null, text, object, object_of}
+use Rattle.aql_value.specs.Tree.{Tree, null, text}
 use Rattle.aql_value.specs.Attributes.{attribute, with_attribute}
 use Rattle.aql_value.specs.laws.Lists.{fields_list-object_of}
-use Rattle.aql_doc.specs.Held.{Held}
 use Rattle.aql_doc.specs.Keys.{behind, id_of}
 use Rattle.aql_doc.specs.Taken.{key_of, bytes_of, has_key}
-use Rattle.aql_doc.specs.Documents.{filled, with_document, with_members}
+use Rattle.aql_doc.specs.Documents.{filled}
 use Rattle.aql_doc.proofs.Attributes.{attribute_same, attribute_other}
 
 -- a document has the key that it is given

@@ -7,13 +7,11 @@ ghost use Rattle.aql_doc.specs.Meets.{Refuses};
 ghost use Rattle.aql_doc.specs.declared.faults.CatalogFault.TheVariants.{Memory as NoMemory};
 
 use crate::collection::Collection;
+use crate::limits::takes_collection;
 use crate::{CatalogFault, CollInfo, DocFault, IndexLists};
 use aql_value::{CollNo, DocNo, Items, Names, Text, Value};
 use std::alloc::Global;
 use std::marker::Model;
-
-/// The most collections of a catalog.
-const COLLECTIONS: usize = 64;
 
 /// The collections of a script, in the order of their declaration, and their documents. Contracts
 /// see the list of the collections, each with its declaration and its documents.
@@ -101,7 +99,7 @@ impl Catalog {
             return Err(CatalogFault::Twice);
         }
         let at = self.collections.len();
-        if at >= COLLECTIONS {
+        if !takes_collection(at) {
             return Err(CatalogFault::TooMany);
         }
         let info = CollInfo {

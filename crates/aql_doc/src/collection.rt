@@ -11,17 +11,12 @@ ghost use Rattle.aql_doc.specs.declared.faults.CatalogFault.TheVariants.{Memory 
 
 use crate::document::{fill, lacks_ends, owned};
 use crate::keys::key_in;
+use crate::limits::{takes_document, takes_index};
 use crate::{CatalogFault, CollInfo, DocFault};
 use aql_value::{DocNo, Items, Members, Names, Text, Value};
 use std::alloc::Global;
 use std::collections::HashSet;
 use std::marker::Model;
-
-/// The most documents of a catalog.
-pub(crate) const DOCUMENTS: u32 = 200_000;
-
-/// The most sorted indexes of a collection.
-const INDEXES: usize = 16;
 
 // A key is looked up among the keys that are taken, and not among the documents.
 pub(crate) struct Collection {
@@ -127,7 +122,7 @@ impl Collection {
         if self.holds(&key) {
             return Err(DocFault::DuplicateKey { key });
         }
-        if total >= DOCUMENTS {
+        if !takes_document(total) {
             return Err(DocFault::TooMany);
         }
         self.put(alloc, key, members)
@@ -172,7 +167,7 @@ impl Collection {
         if has_index(&self.info, &attributes) {
             return Ok(());
         }
-        if self.info.indexes.len() >= INDEXES {
+        if !takes_index(self.info.indexes.len()) {
             return Err(CatalogFault::TooMany);
         }
         if self.info.indexes.push(attributes).is_err() {

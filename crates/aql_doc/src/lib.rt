@@ -9,6 +9,7 @@ mod document;
 mod faults;
 mod info;
 mod keys;
+mod limits;
 
 pub use catalog::Catalog;
 pub use faults::{CatalogFault, DocFault};

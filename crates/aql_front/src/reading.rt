@@ -1,4 +1,4 @@
-ghost use Rattle.std.specs.Prelude.{◌≡◌, ◌⊎◌, List, None, IfOk, IfErr, Err, IsOkUnless};
+ghost use Rattle.std.specs.Prelude.{◌≡◌, ◌⊎◌, ◌<◌, ◌≤◌, length, MatchBool, List, None, IfOk, IfErr, Err, IsOkUnless};
 ghost use Rattle.aql_value.specs.Tree.{Tree};
 ghost use Rattle.aql_value.specs.Database.{Database};
 ghost use Rattle.aql_tree.specs.Tree.{QueryTree};
@@ -17,12 +17,21 @@ use aql_scope::{Scoped, scope};
 use aql_tree::Query;
 use std::alloc::Global;
 
+/// The most bytes of a query.
+const QUERY_BYTES: usize = 65_536;
+
+fn is_too_long(text: &str) -> bool
+    ensures { MatchBool result (65536 < length text.now) (length text.now ≤ 65536) }
+{
+    text.len() > QUERY_BYTES
+}
+
 // The query that a text spells.
 fn written(alloc: Global, text: &str) -> Result<Query, QueryFault>
     ensures query { IfOk result (λ q. IsWritten text.now (query_tree q)) }
     ensures fault { IfErr result (λ e. (e ≡ QueryFault.Memory) ⊎ IsRefused text.now e) }
 {
-    if text.len() > 65536 {
+    if is_too_long(text) {
         return Err(QueryFault::TooLong);
     }
     let tokens = lex(alloc, text)?;

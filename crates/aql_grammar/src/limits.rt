@@ -158,6 +158,12 @@ fn is_mark(token: &TokenKind) -> bool
     }
 }
 
+/// The most brackets, ternaries and signs that are open at once.
+const NESTING: usize = 64;
+
+/// The most clause marks.
+const MARKS: usize = 256;
+
 /// Whether more than 64 brackets, ternaries and signs are open at once.
 pub fn nests_too_deep(alloc: Global, tokens: &[Token]) -> Result<bool, OutOfMemory>
     ensures { IfOk result (λ found. found ≡ nat_lt 64 (spec.nesting (kinds_of tokens.now))) }
@@ -165,13 +171,13 @@ pub fn nests_too_deep(alloc: Global, tokens: &[Token]) -> Result<bool, OutOfMemo
     let mut open = Open::new(alloc);
     let mut left = tokens;
     while let [first, rest @ ..] = left {
-        if open.count() > 64 {
+        if open.count() > NESTING {
             return Ok(true);
         }
         open.change(effect_of(&first.kind))?;
         left = rest;
     }
-    Ok(open.count() > 64)
+    Ok(open.count() > NESTING)
 }
 
 /// Whether there are more than 256 clause marks.
@@ -182,7 +188,7 @@ pub fn has_too_many_marks(tokens: &[Token]) -> bool
     let mut left = tokens;
     while let [first, rest @ ..] = left {
         if is_mark(&first.kind) {
-            if found == 256 {
+            if found == MARKS {
                 return true;
             }
             found += 1;
