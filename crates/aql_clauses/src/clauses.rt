@@ -426,31 +426,18 @@ impl<F: Fn(Global, &mut Cursor<'_>, usize, bool) -> Result<Expr, ParseFault>> Qu
         ensures { ReadsAs (map clause_tree) (reader.clause (reader.expr self.now.rules.depth)
             self.now.rules.inside (map clause_tree found) tokens.old) result tokens.new }
     {
-        let clause = match tokens.peek() {
-            Some(TokenKind::Keyword(Keyword::For)) => {
-                tokens.take();
-                self.for_clause(tokens)?
-            }
-            Some(TokenKind::Keyword(Keyword::Filter)) => {
-                tokens.take();
-                Clause::Filter(self.rules.expr(tokens)?)
-            }
-            Some(TokenKind::Keyword(Keyword::Let)) => {
-                tokens.take();
-                return self.let_clauses(tokens, found);
-            }
-            Some(TokenKind::Keyword(Keyword::Sort)) => {
-                tokens.take();
-                Clause::Sort(self.sort_keys(tokens)?)
-            }
-            Some(TokenKind::Keyword(Keyword::Limit)) => {
-                tokens.take();
-                tokens.limit()?
-            }
-            Some(TokenKind::Keyword(Keyword::Collect)) => {
-                tokens.take();
-                self.collect(tokens)?
-            }
+        let Some(TokenKind::Keyword(word)) = tokens.peek() else {
+            return Err(ParseFault::NotInGrammar);
+        };
+        let word = *word;
+        tokens.take();
+        let clause = match word {
+            Keyword::For => self.for_clause(tokens)?,
+            Keyword::Filter => Clause::Filter(self.rules.expr(tokens)?),
+            Keyword::Let => return self.let_clauses(tokens, found),
+            Keyword::Sort => Clause::Sort(self.sort_keys(tokens)?),
+            Keyword::Limit => tokens.limit()?,
+            Keyword::Collect => self.collect(tokens)?,
             _ => return Err(ParseFault::NotInGrammar),
         };
         Ok(pushed(found, clause)?)
