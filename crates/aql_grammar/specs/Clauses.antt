@@ -1,7 +1,7 @@
 -- How tokens spell a clause and a query (AQL manual, High-level operations, and Graphs, Traversals).
 -- `E` is the rule for expressions one bracket deeper, and `inside` says whether the query stands in
 -- an inline operator.
-use Rattle.std.specs.Prelude.{◌≡◌, ℕ, ℤ, pos, min, Bool, true, false, List, [], ◌∷◌, Option, Some, None}
+use Rattle.std.specs.Prelude.{◌≡◌, ℕ, pos, min, Bool, true, false, List, [], ◌∷◌, Option, Some, None}
 use Rattle.std.specs.Prelude.{◌++◌, codes}
 use Rattle.aql_lex.specs.declared.kinds.TokenKind.TheVariants as k
 use Rattle.aql_lex.specs.declared.vocabulary.Keyword.TheVariants as w

@@ -1,7 +1,7 @@
 -- How tokens spell a name that stands for a value, and an object literal (AQL fundamentals, Data
 -- types). `E` is the rule for expressions one bracket deeper; `inside` says whether the place is in
 -- the FILTER or RETURN of an inline operator, where the word CURRENT is the element at hand.
-use Rattle.std.specs.Prelude.{◌≡◌, ℕ, Bool, true, false, ◌&&◌, if◌then◌else◌, List, [], ◌∷◌, bytes_eq}
+use Rattle.std.specs.Prelude.{ℕ, Bool, ◌&&◌, if◌then◌else◌, List, ◌∷◌, bytes_eq}
 use Rattle.std.specs.Prelude.{codes}
 use Rattle.aql_lex.specs.declared.kinds.TokenKind.TheVariants as k
 use Rattle.aql_lex.specs.declared.vocabulary.Symbol.TheVariants as s

@@ -2,7 +2,7 @@
 -- chapter on operators has them. A level stands for the rule of that name, counted from the tightest:
 -- 1 for `* / %`, 2 for `+ -`, 4 for the relations, 5 for IN, 6 for equality and LIKE, 8 for AND and
 -- 9 for OR. Ranges (3) and the array comparisons (7) have rules of their own.
-use Rattle.std.specs.Prelude.{ℕ, List, ◌∷◌}
+use Rattle.std.specs.Prelude.{ℕ, ◌∷◌}
 use Rattle.aql_lex.specs.declared.kinds.TokenKind.TheVariants as k
 use Rattle.aql_lex.specs.declared.vocabulary.Keyword.TheVariants as w
 use Rattle.aql_lex.specs.declared.vocabulary.Symbol.TheVariants as s

@@ -2,10 +2,9 @@
 -- grammar says that the tokens `a` begin with a spelling of x, and that `b` is what stands behind
 -- it; no rule looks into what stands behind. Names and words are those of the AQL manual's chapter
 -- on syntax.
-use Rattle.std.specs.Prelude.{◌≡◌, ℕ, Bool, true, List, [], ◌∷◌, Option, Some, None}
+use Rattle.std.specs.Prelude.{◌≡◌, ℕ, true, List, [], ◌∷◌, Option, Some, None}
 use Rattle.std.specs.Str.{str_eq_ignore_ascii_case}
 use Rattle.aql_lex.specs.declared.kinds.TokenKind.TheVariants as k
-use Rattle.aql_lex.specs.declared.vocabulary.Symbol.{Symbol}
 use Rattle.aql_lex.specs.declared.vocabulary.Symbol.TheVariants as s
 use Rattle.aql_grammar.specs.Kinds.{Tokens}
 

@@ -1,10 +1,9 @@
 -- Objects, clauses and queries: what is spelt is read.
-use Rattle.std.proofs.Common.{◌≡◌, ℕ, zero, suc, ◌+◌, ◌<◌, ◌≤◌, Bool, true, false, cond, List, [], ◌∷◌}
-use Rattle.std.proofs.Common.{◌++◌, length, Option, Some, None, ◌⊎◌, inl, inr, ⊎_elim, refl, sym, ap, ◌∙◌}
-use Rattle.std.proofs.Common.{subst, rules, arith, append_assoc}
+use Rattle.std.proofs.Common.{◌≡◌, ℕ, zero, suc, ◌≤◌, Bool, true, false, cond, List, [], ◌∷◌}
+use Rattle.std.proofs.Common.{◌++◌, length, Option, Some, None, refl, sym, ap, ◌∙◌}
+use Rattle.std.proofs.Common.{arith, append_assoc}
 use Rattle.std.proofs.lemmas.List.{append-nil}
 use Rattle.std.specs.Prelude.{pos, codes}
-use Rattle.aql_lex.specs.declared.kinds.TokenKind.{TokenKind}
 use Rattle.aql_lex.specs.declared.kinds.TokenKind.TheVariants as k
 use Rattle.aql_lex.specs.declared.vocabulary.Symbol.{Symbol}
 use Rattle.aql_lex.specs.declared.vocabulary.Symbol.TheVariants as s
@@ -13,34 +12,32 @@ use Rattle.aql_lex.specs.declared.vocabulary.Keyword.TheVariants as w
 use Rattle.aql_tree.specs.Tree.{ExprTree, ClauseTree, QueryTree, keep_if}
 use Rattle.aql_tree.specs.Tree as tree
 use Rattle.aql_tree.specs.declared.syntax.Direction.{Direction}
-use Rattle.aql_tree.specs.View.{MemberPart, KeyPart, sort, LetPart, AggregatePart, IntoPart, grouped}
+use Rattle.aql_tree.specs.View.{MemberPart, LetPart, AggregatePart, IntoPart, grouped}
 use Rattle.aql_tree.specs.View.{walked}
-use Rattle.aql_tree.specs.View as part
 use Rattle.aql_tree.specs.Made as e
 use Rattle.aql_grammar.specs.Kinds.{Tokens}
-use Rattle.aql_grammar.specs.Spelling.{IsName, IsWord, IsOptional, AreSeparated, AreAny, AreItems}
-use Rattle.aql_grammar.specs.Objects.{unquoted, IsVariable, IsKey, IsMember, IsObject}
-use Rattle.aql_grammar.specs.Clauses.{AreWalkNames, capped, IsDepth, IsDirection, says, IsAssigned, IsLet}
+use Rattle.aql_grammar.specs.Spelling.{IsName, IsOptional, AreSeparated, AreAny, AreItems}
+use Rattle.aql_grammar.specs.Objects.{IsVariable, IsKey, IsMember, IsObject}
+use Rattle.aql_grammar.specs.Clauses.{AreWalkNames, IsDepth, IsDirection, says, IsAssigned, IsLet}
 use Rattle.aql_grammar.specs.Clauses.{IsSortKey, IsAggregate, IsInto, AreAggregates, IsTail, IsPrune}
 use Rattle.aql_grammar.specs.Clauses.{AreOptions, IsClause, AreClauses, IsDistinct, IsQuery}
 use Rattle.aql_grammar.specs.Input.{Parser, head, next, sees, sees_keyword, after_keyword, sees_word}
 use Rattle.aql_grammar.specs.Input.{is_name, is_number, same_symbol, same_keyword, name, natural, separated}
-use Rattle.aql_grammar.specs.Input.{separated_onto, items}
 use Rattle.aql_grammar.specs.Reader.{word, named_member, text_member, computed_member, member, members}
-use Rattle.aql_grammar.specs.Reader.{walk_names, depth, way, limit, count_name, assigned, let_clause}
+use Rattle.aql_grammar.specs.Reader.{walk_names, depth, limit, count_name, assigned, let_clause}
 use Rattle.aql_grammar.specs.Reader.{sort_key, optional_argument, aggregate, aggregates, into_part, into}
-use Rattle.aql_grammar.specs.Reader.{groups, collect, prune, settings, walk, single_by, for_clause}
+use Rattle.aql_grammar.specs.Reader.{groups, collect, prune, settings, walk, for_clause}
 use Rattle.aql_grammar.specs.Reader.{begins_walk, begins_clause, begins_query, clause, clauses_from}
 use Rattle.aql_grammar.specs.Reader.{clauses, query}
 use Rattle.aql_grammar.specs.laws.Steps.{Complete, Shrinks, Always, bind_here, if_true, if_false}
 use Rattle.aql_grammar.specs.laws.Steps.{expect_then, keyword_then, word_then, eat_then, eat_else}
 use Rattle.aql_grammar.specs.laws.Steps.{eat_keyword_then, eat_keyword_else, eat_word_then, eat_word_else}
 use Rattle.aql_grammar.specs.laws.Steps.{name_complete, name_shrinks, word_shrinks, not_first}
-use Rattle.aql_grammar.specs.laws.Steps.{sees_keyword_here, seen_keyword, decide}
+use Rattle.aql_grammar.specs.laws.Steps.{sees_keyword_here}
 use Rattle.aql_grammar.specs.laws.ListLaws.{separated_complete, separated_onto_complete, separated_shrinks}
 use Rattle.aql_grammar.specs.laws.ListLaws.{items_complete}
 use Rattle.aql_grammar.specs.laws.OperatorLaws.{Ends, way_read, way_shrinks}
-use Rattle.aql_grammar.specs.laws.Shrinking.{member_shrinks, object_shrinks, assigned_shrinks, let_shrinks}
+use Rattle.aql_grammar.specs.laws.Shrinking.{member_shrinks, assigned_shrinks, let_shrinks}
 use Rattle.aql_grammar.specs.laws.Shrinking.{sort_key_shrinks, aggregate_shrinks, aggregates_fall}
 use Rattle.aql_grammar.specs.laws.Shrinking.{prune_falls, walk_names_shrink, depth_falls, clause_shrinks}
 use Rattle.aql_grammar.specs.laws.Shrinking.{clauses_fall, distinct_falls}
@@ -48,7 +45,7 @@ use Rattle.aql_grammar.specs.laws.Ending.{comma_ends, paren_ends, bracket_ends, 
 use Rattle.aql_grammar.specs.laws.Ending.{desc_ends, with_ends, aggregate_ends, into_ends, name_ends}
 use Rattle.aql_grammar.specs.laws.Ending.{word_ends, Stop, stop_ends, stop_no_symbol, stop_no_keyword}
 use Rattle.aql_grammar.specs.laws.Ending.{stop_no_word, stop_no_name, clause_stops, word_no_symbol}
-use Rattle.aql_grammar.specs.laws.Ending.{name_no_symbol, options_no_prune, Starts, no_first_keyword}
+use Rattle.aql_grammar.specs.laws.Ending.{options_no_prune, Starts, no_first_keyword}
 use Rattle.aql_grammar.specs.laws.Ending.{no_comparison_first, no_walk_first, way_begins, walk_begins}
 
 keyword_no_symbol : (keyword : Keyword) (symbol : Symbol) (ts : Tokens)

@@ -16,13 +16,13 @@ use Rattle.aql_tree.specs.View.{walked}
 use Rattle.aql_tree.specs.View as part
 use Rattle.aql_tree.specs.Made as e
 use Rattle.aql_grammar.specs.Kinds.{Tokens}
-use Rattle.aql_grammar.specs.Spelling.{IsName, IsWord, IsOptional, AreSeparated, AreAny, AreItems}
+use Rattle.aql_grammar.specs.Spelling.{IsName, IsWord, IsOptional, AreSeparated, AreAny}
 use Rattle.aql_grammar.specs.Objects.{unquoted, IsVariable, IsKey, IsMember, IsObject}
-use Rattle.aql_grammar.specs.Clauses.{AreWalkNames, capped, IsDepth, IsDirection, says, IsAssigned, IsLet}
+use Rattle.aql_grammar.specs.Clauses.{AreWalkNames, capped, IsDepth, says, IsAssigned, IsLet}
 use Rattle.aql_grammar.specs.Clauses.{IsSortKey, IsAggregate, IsInto, AreAggregates, IsTail, IsPrune}
 use Rattle.aql_grammar.specs.Clauses.{AreOptions, IsClause, AreClauses, IsDistinct, IsQuery}
 use Rattle.aql_grammar.specs.Input.{Parser, head, next, sees_keyword, after_keyword, is_name, is_number}
-use Rattle.aql_grammar.specs.Input.{expect, expect_keyword, expect_word, name, natural, separated, items}
+use Rattle.aql_grammar.specs.Input.{expect, expect_keyword, expect_word, name, natural, separated}
 use Rattle.aql_grammar.specs.Reader.{word, named_member, text_member, computed_member, member, members}
 use Rattle.aql_grammar.specs.Reader.{walk_names, depth, way, limit, count_name, assigned, let_clause}
 use Rattle.aql_grammar.specs.Reader.{sort_key, optional_argument, aggregate, aggregates, into_part, into}

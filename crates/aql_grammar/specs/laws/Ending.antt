@@ -1,8 +1,8 @@
 -- What may stand behind a whole expression and behind a clause, and what no expression begins with.
-use Rattle.std.proofs.Common.{◌≡◌, ℕ, zero, suc, ◌+◌, ◌<◌, ◌≤◌, Bool, true, false, cond, List, [], ◌∷◌}
-use Rattle.std.proofs.Common.{length, Option, Some, None, ◌⊎◌, inl, inr, ⊎_elim, refl, sym, ap, ◌∙◌, subst}
-use Rattle.std.proofs.Common.{rules, arith}
-use Rattle.std.specs.Prelude.{codes, bytes_eq, pos, negsuc}
+use Rattle.std.proofs.Common.{◌≡◌, ℕ, Bool, true, false, cond, List, [], ◌∷◌}
+use Rattle.std.proofs.Common.{Option, Some, None, ⊎_elim, refl, ap, ◌∙◌}
+use Rattle.std.proofs.Common.{arith}
+use Rattle.std.specs.Prelude.{codes, bytes_eq}
 use Rattle.std.specs.Str.{str_eq_ignore_ascii_case, str_to_ascii_lowercase}
 use Rattle.std.proofs.lemmas.Slice.Eq.{bytes_eq-Decides}
 use Rattle.aql_lex.specs.declared.kinds.TokenKind.{TokenKind}
@@ -12,16 +12,15 @@ use Rattle.aql_lex.specs.declared.vocabulary.Symbol.TheVariants as s
 use Rattle.aql_lex.specs.declared.vocabulary.Keyword.{Keyword}
 use Rattle.aql_lex.specs.declared.vocabulary.Keyword.TheVariants as w
 use Rattle.aql_tree.specs.Tree.{ExprTree}
-use Rattle.aql_tree.specs.View.{MemberPart}
 use Rattle.aql_tree.specs.declared.syntax.Direction.{Direction}
 use Rattle.aql_grammar.specs.Kinds.{Tokens}
 use Rattle.aql_grammar.specs.Spelling.{IsName, IsWord}
 use Rattle.aql_grammar.specs.Clauses.{IsDirection, IsDepth}
 use Rattle.aql_grammar.specs.Input.{Parser, head, next, sees, sees_keyword, sees_word, is_name, is_number}
-use Rattle.aql_grammar.specs.Input.{is_word, is_symbol, is_keyword, same_symbol, same_keyword}
+use Rattle.aql_grammar.specs.Input.{same_symbol}
 use Rattle.aql_grammar.specs.Reader.{rank, operator_ahead, begins_query, begins_clause, begins_comparison}
 use Rattle.aql_grammar.specs.Reader.{begins_direction, begins_behind, begins_walk}
-use Rattle.aql_grammar.specs.laws.Steps.{decide, seen, seen_keyword, seen_word, not_seen, Refuses}
+use Rattle.aql_grammar.specs.laws.Steps.{decide, seen_keyword, seen_word, not_seen, Refuses}
 use Rattle.aql_grammar.specs.laws.OperatorLaws.{Ends}
 
 pub ends_by : (ts : Tokens) → rank ts ≡ 11 → Ends ts

@@ -1,7 +1,7 @@
 -- Expressions and whole queries: what is spelt is read.
-use Rattle.std.proofs.Common.{◌≡◌, ℕ, zero, suc, ◌+◌, ◌<◌, ◌≤◌, Bool, true, false, cond, List, [], ◌∷◌}
-use Rattle.std.proofs.Common.{◌++◌, length, Option, Some, None, ◌⊎◌, inl, inr, ⊎_elim, refl, sym, ap, ◌∙◌}
-use Rattle.std.proofs.Common.{subst, rules, arith}
+use Rattle.std.proofs.Common.{◌≡◌, ℕ, zero, suc, ◌<◌, ◌≤◌, Bool, true, false, cond, List, [], ◌∷◌}
+use Rattle.std.proofs.Common.{length, Option, Some, None, refl, sym, ap, ◌∙◌}
+use Rattle.std.proofs.Common.{subst, arith}
 use Rattle.std.specs.Prelude.{◌&&◌, not, ℤ}
 use Rattle.aql_lex.specs.declared.kinds.TokenKind.{TokenKind}
 use Rattle.aql_lex.specs.declared.kinds.TokenKind.TheVariants as k
@@ -9,39 +9,37 @@ use Rattle.aql_lex.specs.declared.vocabulary.Symbol.{Symbol}
 use Rattle.aql_lex.specs.declared.vocabulary.Symbol.TheVariants as s
 use Rattle.aql_lex.specs.declared.vocabulary.Keyword.{Keyword}
 use Rattle.aql_lex.specs.declared.vocabulary.Keyword.TheVariants as w
-use Rattle.aql_tree.specs.Tree.{ExprTree, QueryTree, unary_of, range_of}
-use Rattle.aql_tree.specs.Tree as tree
+use Rattle.aql_tree.specs.Tree.{ExprTree, QueryTree, range_of}
 use Rattle.aql_tree.specs.View.{StepPart, LinkPart}
 use Rattle.aql_tree.specs.Made as e
 use Rattle.aql_grammar.specs.Kinds.{Tokens}
-use Rattle.aql_grammar.specs.Spelling.{IsName, AreMany, AreSeparated, AreAny, AreItems}
-use Rattle.aql_grammar.specs.Objects.{unquoted, IsVariable, IsObject}
-use Rattle.aql_grammar.specs.Clauses.{IsQuery}
+use Rattle.aql_grammar.specs.Spelling.{IsName, AreMany, AreAny}
+use Rattle.aql_grammar.specs.Objects.{IsVariable, IsObject}
 use Rattle.aql_grammar.specs.Expressions.{IsArgument, IsPrimary, IsElementFilter, IsElementReturn, IsStep}
 use Rattle.aql_grammar.specs.Expressions.{IsPostfix, IsUnary, IsLink, IsChain, IsRange, IsQuantified}
 use Rattle.aql_grammar.specs.Expressions.{IsProduct, IsSum, IsSpan, IsRelation, IsMembership, IsEquality}
 use Rattle.aql_grammar.specs.Expressions.{IsArrayComparison, IsConjunction, IsDisjunction, IsConditional}
 use Rattle.aql_grammar.specs.Tree.{IsExpr, IsTop}
 use Rattle.aql_grammar.specs.Input.{Parser, head, next, sees, sees_keyword, same_symbol, same_keyword}
-use Rattle.aql_grammar.specs.Input.{at_front, name, is_number, many, items}
-use Rattle.aql_grammar.specs.Reader.{operator, operator_ahead, comparison, begins_comparison, quantifier}
-use Rattle.aql_grammar.specs.Reader.{unary_at, rank, at_level, begins_step, begins_query, begins_direction}
+use Rattle.aql_grammar.specs.Input.{at_front, is_number, many}
+use Rattle.aql_grammar.specs.Reader.{operator_ahead, comparison, begins_comparison, quantifier}
+use Rattle.aql_grammar.specs.Reader.{unary_at, rank, at_level, begins_step, begins_direction}
 use Rattle.aql_grammar.specs.Reader.{begins_behind, begins_walk, accessed, chained, argument, arguments}
-use Rattle.aql_grammar.specs.Reader.{named, bracketed, primary, element, bracket_step, step, postfix, apply}
+use Rattle.aql_grammar.specs.Reader.{named, bracketed, primary, element, bracket_step, step, postfix}
 use Rattle.aql_grammar.specs.Reader.{unary_from, unary, link, chain, range, array_comparison, level_at}
-use Rattle.aql_grammar.specs.Reader.{choice_of, conditional, expr, query, top}
+use Rattle.aql_grammar.specs.Reader.{choice_of, conditional, expr, top}
 use Rattle.aql_grammar.specs.laws.Steps.{Complete, Shrinks, Always, bind_here, if_true, if_false}
 use Rattle.aql_grammar.specs.laws.Steps.{expect_then, eat_then, eat_else, eat_keyword_then}
 use Rattle.aql_grammar.specs.laws.Steps.{eat_keyword_else, name_complete, name_shrinks, some_same, Refuses}
-use Rattle.aql_grammar.specs.laws.Steps.{not_first, seen, decide}
+use Rattle.aql_grammar.specs.laws.Steps.{not_first, seen}
 use Rattle.aql_grammar.specs.laws.ListLaws.{separated_complete, separated_shrinks, separated_first}
-use Rattle.aql_grammar.specs.laws.ListLaws.{items_complete, many_complete, many_follow, many_falls}
+use Rattle.aql_grammar.specs.laws.ListLaws.{items_complete, many_complete, many_follow}
 use Rattle.aql_grammar.specs.laws.OperatorLaws.{Follow, Ends, operator_read, operator_shrinks}
 use Rattle.aql_grammar.specs.laws.OperatorLaws.{comparison_read, comparison_shrinks, quantifier_read}
 use Rattle.aql_grammar.specs.laws.OperatorLaws.{quantifier_shrinks, unary_read, unary_shrinks, no_operator}
 use Rattle.aql_grammar.specs.laws.OperatorLaws.{is_at, at_rank, no_call, no_range, no_question, no_step}
 use Rattle.aql_grammar.specs.laws.Shrinking.{argument_shrinks, filter_falls, primary_shrinks, step_shrinks}
-use Rattle.aql_grammar.specs.laws.Shrinking.{postfix_shrinks, unary_rule_shrinks, link_shrinks}
+use Rattle.aql_grammar.specs.laws.Shrinking.{unary_rule_shrinks, link_shrinks}
 use Rattle.aql_grammar.specs.laws.Shrinking.{product_shrinks, sum_shrinks, span_shrinks, relation_shrinks}
 use Rattle.aql_grammar.specs.laws.Shrinking.{membership_shrinks, equality_shrinks, comparison_level_shrinks}
 use Rattle.aql_grammar.specs.laws.Shrinking.{conjunction_shrinks, disjunction_shrinks, expr_shrinks}

@@ -1,8 +1,7 @@
 -- Expressions and whole queries: what is read is spelt so.
-use Rattle.std.proofs.Common.{◌≡◌, ℕ, zero, suc, ◌+◌, ◌<◌, ◌≤◌, Bool, true, false, cond, List, [], ◌∷◌}
-use Rattle.std.proofs.Common.{◌++◌, length, Option, Some, None, ◌⊎◌, inl, inr, ⊎_elim, refl, sym, ap, ◌∙◌}
-use Rattle.std.proofs.Common.{subst, rules, arith}
-use Rattle.std.specs.Prelude.{◌==◌}
+use Rattle.std.proofs.Common.{◌≡◌, ℕ, zero, suc, Bool, true, false, List, [], ◌∷◌}
+use Rattle.std.proofs.Common.{length, Option, Some, None, ◌⊎◌, inl, inr, ⊎_elim, refl, sym}
+use Rattle.std.proofs.Common.{subst}
 use Rattle.aql_lex.specs.declared.kinds.TokenKind.TheVariants as k
 use Rattle.aql_lex.specs.declared.vocabulary.Symbol.{Symbol}
 use Rattle.aql_lex.specs.declared.vocabulary.Symbol.TheVariants as s
@@ -15,22 +14,21 @@ use Rattle.aql_tree.specs.View.{MemberPart, StepPart, LinkPart}
 use Rattle.aql_tree.specs.View as part
 use Rattle.aql_tree.specs.Made as e
 use Rattle.aql_grammar.specs.Kinds.{Tokens}
-use Rattle.aql_grammar.specs.Spelling.{IsName, AreMany, AreSeparated, AreAny, AreItems}
-use Rattle.aql_grammar.specs.Objects.{unquoted, IsVariable, IsObject}
-use Rattle.aql_grammar.specs.Clauses.{IsQuery}
+use Rattle.aql_grammar.specs.Spelling.{IsName, AreMany, AreAny}
+use Rattle.aql_grammar.specs.Objects.{unquoted, IsVariable}
 use Rattle.aql_grammar.specs.Expressions.{IsArgument, IsPrimary, IsElementFilter, IsElementReturn, IsStep}
 use Rattle.aql_grammar.specs.Expressions.{IsPostfix, IsUnary, IsLink, IsChain, IsRange, IsQuantified}
 use Rattle.aql_grammar.specs.Expressions.{IsProduct, IsSum, IsSpan, IsRelation, IsMembership, IsEquality}
 use Rattle.aql_grammar.specs.Expressions.{IsArrayComparison, IsConjunction, IsDisjunction, IsConditional}
 use Rattle.aql_grammar.specs.Tree.{IsExpr, IsTop}
 use Rattle.aql_grammar.specs.Input.{Parser, head, next, at_front, expect, name, separated, items, many}
-use Rattle.aql_grammar.specs.Reader.{operator, comparison, quantifier, unary_at, rank, begins_step}
+use Rattle.aql_grammar.specs.Reader.{operator, comparison, quantifier, unary_at, begins_step}
 use Rattle.aql_grammar.specs.Reader.{begins_query, accessed, chained, argument, arguments, named, bracketed}
 use Rattle.aql_grammar.specs.Reader.{primary, primary_by, members, element, bracket_step, step, step_by}
 use Rattle.aql_grammar.specs.Reader.{postfix, apply, unary_from, unary, link, at_level, chain, range}
-use Rattle.aql_grammar.specs.Reader.{array_comparison, level_by, level_at, choice_of, conditional, expr}
+use Rattle.aql_grammar.specs.Reader.{array_comparison, level_at, choice_of, conditional, expr}
 use Rattle.aql_grammar.specs.Reader.{query, top}
-use Rattle.aql_grammar.specs.laws.Steps.{Sound, bind_some, some_same, done, expect_some, eat_cases}
+use Rattle.aql_grammar.specs.laws.Steps.{Sound, bind_some, done, expect_some, eat_cases}
 use Rattle.aql_grammar.specs.laws.Steps.{keyword_cases, if_cases, name_sound}
 use Rattle.aql_grammar.specs.laws.ListLaws.{separated_sound, items_sound, many_sound, Closed}
 use Rattle.aql_grammar.specs.laws.OperatorLaws.{operator_sound, comparison_sound, quantifier_sound}

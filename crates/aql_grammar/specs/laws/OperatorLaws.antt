@@ -1,14 +1,11 @@
 -- Operators: what is read is spelt so, what is spelt is read, and what may stand behind an operand.
-use Rattle.std.proofs.Common.{◌≡◌, ℕ, zero, suc, ◌+◌, ◌<◌, ◌≤◌, Bool, true, false, cond, List, [], ◌∷◌}
-use Rattle.std.proofs.Common.{length, Option, Some, None, ◌⊎◌, inl, inr, ⊎_elim, refl, sym, ap, ◌∙◌, subst}
-use Rattle.std.proofs.Common.{rules, arith}
-use Rattle.std.specs.Prelude.{◌==◌}
+use Rattle.std.proofs.Common.{◌≡◌, ℕ, ◌<◌, true, false, [], ◌∷◌}
+use Rattle.std.proofs.Common.{Some, ⊎_elim, refl, ap, subst}
+use Rattle.std.proofs.Common.{arith}
 use Rattle.std.proofs.lemmas.Bool.Decides.{eqb_tells}
-use Rattle.aql_lex.specs.declared.kinds.TokenKind.{TokenKind}
 use Rattle.aql_lex.specs.declared.kinds.TokenKind.TheVariants as k
 use Rattle.aql_lex.specs.declared.vocabulary.Symbol.{Symbol}
 use Rattle.aql_lex.specs.declared.vocabulary.Symbol.TheVariants as s
-use Rattle.aql_lex.specs.declared.vocabulary.Keyword.{Keyword}
 use Rattle.aql_lex.specs.declared.vocabulary.Keyword.TheVariants as w
 use Rattle.aql_func.specs.declared.operators.BinOp.{BinOp}
 use Rattle.aql_func.specs.declared.operators.UnaryOp.{UnaryOp}
@@ -17,10 +14,10 @@ use Rattle.aql_tree.specs.declared.syntax.Direction.{Direction}
 use Rattle.aql_grammar.specs.Kinds.{Tokens}
 use Rattle.aql_grammar.specs.Operators.{IsOperator, IsComparison, IsQuantifier, IsUnaryOperator}
 use Rattle.aql_grammar.specs.Clauses.{IsDirection}
-use Rattle.aql_grammar.specs.Input.{head, next, sees, at_front}
+use Rattle.aql_grammar.specs.Input.{head, next, sees}
 use Rattle.aql_grammar.specs.Reader.{operator, operator_ahead, behind, comparison, begins_comparison}
 use Rattle.aql_grammar.specs.Reader.{quantifier, unary_at, way, rank, at_level, begins_step}
-use Rattle.aql_grammar.specs.laws.Steps.{Sound, Shrinks, done, if_cases, decide, not_seen}
+use Rattle.aql_grammar.specs.laws.Steps.{Sound, Shrinks, done, if_cases, not_seen}
 
 -- ---- back
 

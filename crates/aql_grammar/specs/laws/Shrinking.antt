@@ -1,15 +1,14 @@
 -- What is spelt takes tokens: less is left than there was.
-use Rattle.std.proofs.Common.{◌≡◌, ℕ, zero, suc, ◌+◌, ◌<◌, ◌≤◌, Bool, true, List, [], ◌∷◌, ◌++◌, length}
-use Rattle.std.proofs.Common.{Option, Some, None, rules, arith}
+use Rattle.std.proofs.Common.{ℕ, zero, suc, ◌<◌, ◌≤◌, Bool, true, List, [], ◌∷◌, length}
+use Rattle.std.proofs.Common.{Option, arith}
 use Rattle.std.specs.Prelude.{codes}
 use Rattle.aql_lex.specs.declared.kinds.TokenKind.TheVariants as k
 use Rattle.aql_lex.specs.declared.vocabulary.Symbol.TheVariants as s
 use Rattle.aql_lex.specs.declared.vocabulary.Keyword.TheVariants as w
-use Rattle.aql_tree.specs.Tree.{ExprTree, ClauseTree, QueryTree}
-use Rattle.aql_tree.specs.View.{MemberPart, StepPart, AggregatePart, IntoPart}
-use Rattle.aql_tree.specs.Made as e
+use Rattle.aql_tree.specs.Tree.{ExprTree}
+use Rattle.aql_tree.specs.View.{AggregatePart, IntoPart}
 use Rattle.aql_grammar.specs.Kinds.{Tokens}
-use Rattle.aql_grammar.specs.Spelling.{IsName, IsWord, IsOptional, AreMany, AreSeparated, AreAny, AreItems}
+use Rattle.aql_grammar.specs.Spelling.{IsName, IsOptional, AreAny}
 use Rattle.aql_grammar.specs.Objects.{IsVariable, IsKey, IsMember, IsObject}
 use Rattle.aql_grammar.specs.Clauses.{AreWalkNames, IsDepth, IsAssigned, IsLet, IsSortKey, IsAggregate}
 use Rattle.aql_grammar.specs.Clauses.{IsInto, AreAggregates, IsTail, IsPrune, AreOptions, IsClause}

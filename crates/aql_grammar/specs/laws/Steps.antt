@@ -1,22 +1,19 @@
 -- Steps of a parser, back from what was read and forth to what is read.
-use Rattle.std.proofs.Common.{◌≡◌, ℕ, zero, suc, ◌+◌, ◌<◌, ◌≤◌, Bool, true, false, cond, List, [], ◌∷◌}
-use Rattle.std.proofs.Common.{◌++◌, length, Option, Some, None, ◌⊎◌, inl, inr, ⊎_elim, refl, sym, ap, ◌∙◌}
-use Rattle.std.proofs.Common.{subst, rules, arith, append_assoc}
-use Rattle.std.proofs.lemmas.List.{append-nil}
+use Rattle.std.proofs.Common.{◌≡◌, ℕ, ◌<◌, ◌≤◌, Bool, true, false, cond, List, [], ◌∷◌}
+use Rattle.std.proofs.Common.{length, Some, None, ◌⊎◌, inl, inr, ⊎_elim, refl, ap, ◌∙◌}
+use Rattle.std.proofs.Common.{subst, rules, arith}
 use Rattle.std.specs.Prelude.{pos, negsuc}
-use Rattle.std.specs.Str.{str_eq_ignore_ascii_case}
 use denote.Enum.Bare.{same_true, true_same}
 use Rattle.aql_lex.specs.contracts.vocabulary.Symbol as symbol_type
 use Rattle.aql_lex.specs.contracts.vocabulary.Keyword as keyword_type
 use Rattle.aql_lex.specs.declared.kinds.TokenKind.{TokenKind}
 use Rattle.aql_lex.specs.declared.kinds.TokenKind.TheVariants as k
 use Rattle.aql_lex.specs.declared.vocabulary.Symbol.{Symbol}
-use Rattle.aql_lex.specs.declared.vocabulary.Symbol.TheVariants as s
 use Rattle.aql_lex.specs.declared.vocabulary.Keyword.{Keyword}
 use Rattle.aql_grammar.specs.Kinds.{Tokens}
 use Rattle.aql_grammar.specs.Spelling.{IsName, IsWord}
 use Rattle.aql_grammar.specs.Input.{Outcome, Parser, and_then, head, next, same_symbol, same_keyword}
-use Rattle.aql_grammar.specs.Input.{is_symbol, is_keyword, is_word, is_name, sees, sees_keyword, sees_word}
+use Rattle.aql_grammar.specs.Input.{is_symbol, is_keyword, is_word, sees, sees_keyword, sees_word}
 use Rattle.aql_grammar.specs.Input.{after, after_keyword, after_word, expect, expect_keyword, expect_word}
 use Rattle.aql_grammar.specs.Input.{name, natural}
 

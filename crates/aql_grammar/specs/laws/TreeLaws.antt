@@ -1,12 +1,12 @@
 -- Whole lists of tokens: what is read is a tree, a tree is read, and there is at most one.
-use Rattle.std.proofs.Common.{◌≡◌, ℕ, zero, suc, Bool, true, false, cond, List, [], ◌∷◌, length, Option}
-use Rattle.std.proofs.Common.{Some, None, refl, sym, ap, ◌∙◌, subst, rules, arith, eqb-true}
+use Rattle.std.proofs.Common.{◌≡◌, Bool, true, false, cond, [], length, Option}
+use Rattle.std.proofs.Common.{Some, None, refl, ap, arith, eqb-true}
 use Rattle.std.specs.Prelude.{◌==◌}
 use Rattle.std.proofs.lemmas.List.{nil_from_length}
 use Rattle.aql_tree.specs.Tree.{QueryTree}
 use Rattle.aql_grammar.specs.Kinds.{Tokens}
-use Rattle.aql_grammar.specs.Tree.{IsExpr, IsTop, Tree}
-use Rattle.aql_grammar.specs.Reader.{expr, top, ended, whole}
+use Rattle.aql_grammar.specs.Tree.{Tree}
+use Rattle.aql_grammar.specs.Reader.{ended, whole}
 use Rattle.aql_grammar.specs.laws.ExprSound.{top_sound}
 use Rattle.aql_grammar.specs.laws.ExprComplete.{top_complete}
 

@@ -1,4 +1,4 @@
-use Rattle.std.proofs.Common.{length, ◌≡◌, ◌≤◌, ◌<◌, nat_lt}
+use Rattle.std.proofs.Common.{length, ◌≡◌, ◌≤◌, nat_lt}
 use Rattle.aql_grammar.specs.Kinds.{kinds_of}
 use Rattle.aql_grammar.specs.Limits.{nesting, nesting_from, open_now}
 use Rattle.aql_grammar.proofs.limits.nests_too_deep.Given as goal

@@ -1,4 +1,4 @@
-use Rattle.std.proofs.Common.{[], ◌≡◌, ◌-◌}
+use Rattle.std.proofs.Common.{◌≡◌, ◌-◌}
 use Rattle.aql_grammar.specs.Input.{name, separated, separated_from}
 use Rattle.aql_grammar.proofs.cursor.Cursor.names.Given as goal
 
