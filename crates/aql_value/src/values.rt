@@ -92,7 +92,7 @@ impl Model for Members {
 impl Value {
     ghost use Rattle.aql_value.specs.Parts.{items_of, members_of};
 
-    /// The elements of an array; `None` exactly where the value is none.
+    /// The elements of an array; `None` exactly where the value is no array.
     #[tactic(auto, using(crate::proofs::Listed::items_listed))]
     pub fn into_items(self) -> Option<Items>
         ensures { result ≡ items_of (tree_of self) }
@@ -104,7 +104,7 @@ impl Value {
         }
     }
 
-    /// The attributes of an object; `None` exactly where the value is none.
+    /// The attributes of an object; `None` exactly where the value is no object.
     #[tactic(auto, using(crate::proofs::Listed::members_listed))]
     pub fn into_members(self) -> Option<Members>
         ensures { result ≡ members_of (tree_of self) }

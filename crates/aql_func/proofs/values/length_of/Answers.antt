@@ -1,4 +1,4 @@
-use Rattle.std.proofs.Common.{length, ap, sym, ◌∙◌}
+use Rattle.std.proofs.Common.{length, ap, sym, ◌∙◌, rules}
 use Rattle.std.specs.Prelude.{pos}
 use Rattle.aql_value.specs.View.{tree_of}
 use Rattle.aql_value.specs.Convert.{whole}
@@ -13,3 +13,6 @@ returns-in-List c =
 pub returns-in-Object : goal.returns-in-Object
 returns-in-Object c =
     c.count-in-Object.ensures ∙ ap (λ n. whole (pos n)) (c.len-in-Object.ensures ∙ ap length (sym (fields_listed c.in-Object.members))) ∙ ap (λ v. length_of (tree_of v)) (sym c.in-Object.is)
+
+pub returns-in-Bool-true : goal.returns-in-Bool-true
+returns-in-Bool-true c = search rules

@@ -1,4 +1,4 @@
-use Rattle.std.proofs.Common.{◌<◌, arith, sym, length}
+use Rattle.std.proofs.Common.{◌<◌, arith, sym, length, rules}
 use Rattle.std.specs.Prelude.{⊤}
 use Rattle.aql_io.proofs.Moved.{more_handed_out, past_limit}
 use Rattle.aql_io.proofs.whole.read_all.Goals as goal
@@ -21,3 +21,9 @@ pub returns-then-is_err-clause-front : goal.returns-then-is_err-clause-front
 returns-then-is_err-clause-front g c =
     more_handed_out _ (g.S.Source.left c.chunks.source) _ c.chunks.bytes.items _ (λ _. ⊤)
     c.chunks.invariant.consumed c.in-Ok.ensures.bytes.bytes tt
+
+pub returns-then-count-limit-clause-failed : goal.returns-then-count-limit-clause-failed
+returns-then-count-limit-clause-failed g c = search rules
+
+pub returns-then-count-limit-clause-failed_within : goal.returns-then-count-limit-clause-failed_within
+returns-then-count-limit-clause-failed_within g c = search rules

@@ -1,4 +1,4 @@
-use Rattle.std.proofs.Common.{◌≡◌, length, arith}
+use Rattle.std.proofs.Common.{◌≡◌, length, arith, rules}
 use Rattle.aql_value.proofs.Rests.{items_ended, members_ended}
 use Rattle.aql_value.proofs.order.+ordering.Goals as goal
 
@@ -15,3 +15,9 @@ order_members-returns t c =
     let done =
     members_ended c.a.inside.entries.items c.b.inside.entries.items c.loop-i.i end c.loop-i.invariant.1 in
     rw (← c.a.view_is, ← c.b.view_is) (grind (arith, done))
+
+pub order_entry-returns-in-Equal : goal.order_entry-returns-in-Equal
+order_entry-returns-in-Equal t c = search rules
+
+pub order_entry-returns-in_default : goal.order_entry-returns-in_default
+order_entry-returns-in_default t c = search rules

@@ -7,6 +7,11 @@ use Rattle.aql_value.specs.Json.{json_text}
 use Rattle.aql_value.proofs.Written.{longer, finish, items_end, members_end}
 use Rattle.aql_value.proofs.writing.+writing.Goals as goal
 
+pub write_items-returns-in_err-write_item : goal.write_items-returns-in_err-write_item
+write_items-returns-in_err-write_item t c =
+    let p = err_from_is_err_and c.from_residual-in_err-write_item.result c.from_residual-in_err-write_item.ensures.1 in
+    rw p.1 (tt, longer _ _ _ c.loop-i.invariant.1 c.in_err-write_item.ensures.1)
+
 pub write_items-returns : goal.write_items-returns
 write_items-returns t c =
     let seen = ap trees_in c.deref-item-items.ensures.value ∙ c.list.view_is in
