@@ -7,9 +7,9 @@ use Rattle.std.proofs.lemmas.Bool.Decides.{nat_tests, eqb_tells}
 use Rattle.aql_lex.specs.declared.kinds.TokenKind.{TokenKind}
 use Rattle.aql_lex.specs.declared.kinds.TokenKind.TheVariants as k
 use Rattle.aql_lex.specs.declared.faults.LexKind.{LexKind}
-use Rattle.aql_lex.specs.Signs.{begins, is_blank, is_letter, is_quote, slash}
-use Rattle.aql_lex.specs.Signs.{backtick}
-use Rattle.aql_lex.specs.Vocabulary.{is_word}
+use Rattle.aql_lex.specs.Characters.{begins, is_blank, is_letter, is_quote, slash}
+use Rattle.aql_lex.specs.Characters.{backtick}
+use Rattle.aql_lex.specs.Vocabulary.{is_word, spelling_of}
 use Rattle.aql_lex.specs.Numbers.{are_digits}
 use Rattle.aql_lex.specs.Tokens.{Separates, IsToken}
 use Rattle.aql_lex.specs.Faults.{Breaks}
@@ -79,7 +79,7 @@ class-other b h =
     let not_tick : (b == backtick) ≡ false = grind (arith, nat_tests) in
     rw (not_blank, not_letter, not_digit, not_quote, not_tick) refl
 
--- a text that begins with a sign of a class
+-- a text that begins with a character of a class
 pub front_begins : (p : ℕ → Bool) (c : Class) → ((b : ℕ) → p b ≡ true → class b ≡ c) → (text : List ℕ)
     → begins p text ≡ true → front text ≡ c
 front_begins p c says [] h = absurd (cc)
@@ -115,7 +115,7 @@ token_front (k.Quoted name) text rest t = ap front t.2 ∙ class-tick
 token_front (k.Number number) text rest t = ap front t.1.3 ∙ digits_front t.0 rest t.1.0
 token_front (k.Text value) text rest t = ap front t.1.1.2 ∙ class-quote t.0 t.1.1.0
 token_front (k.Symbol symbol) text rest t =
-    ap front t.1.1 ∙ other_front t.0 rest (symbol_begins t.0 symbol t.1.0)
+    ap front t ∙ other_front (spelling_of symbol) rest (symbol_begins symbol)
 
 -- ---- separators
 
@@ -138,7 +138,7 @@ comment_front (a ∷ b ∷ text) h =
     by_test (inl t) e = t.1
     by_test (inr t) e = absurd (cc)
 
--- no separator begins with a sign of another class
+-- no separator begins with a character of another class
 pub no_separator : (text : List ℕ) → (front text ≡ blank → ⊥) → (front text ≡ other → ⊥) → (rest : List ℕ)
     → Separates text rest → ⊥
 no_separator text first second rest s = by_front (separates_front text rest s)

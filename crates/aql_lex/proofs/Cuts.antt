@@ -12,14 +12,9 @@ use Rattle.std.proofs.lemmas.Bool.Decides.{nat_tests, leb_tells}
 use Rattle.std.proofs.lemmas.List.Sums.{prefix_len_passes, prefix_len-le-length}
 use Rattle.std.proofs.lemmas.Str.{IsCharBoundary-start, IsCharBoundary-after_ascii}
 use Rattle.std.proofs.lemmas.Str.{char_from_byte, length-encode, len_utf8_bounds}
-use denote.Ref.{Bor}
-use Rattle.aql_lex.specs.declared.vocabulary.Keyword.{Keyword}
-use Rattle.aql_lex.specs.declared.vocabulary.Symbol.{Symbol}
-use Rattle.aql_lex.specs.Signs.{begins, is_blank, is_letter, is_word_part, is_quote, star, slash, backtick}
+use Rattle.aql_lex.specs.Characters.{begins, is_blank, is_letter, is_word_part, is_quote, star, slash, backtick}
 use Rattle.aql_lex.specs.Tokens.{ClosesFirst, Separates}
-use Rattle.aql_lex.specs.Steps.{BeginsWithLongest, BeginsWithNone, IsReservedBy, Line, is_other, lines_of}
-use Rattle.aql_lex.specs.Steps.{longer_first}
-use Rattle.aql_lex.proofs.Tables.{line_read, line_is, later_shorter}
+use Rattle.aql_lex.specs.Steps.{is_other}
 use Rattle.aql_lex.proofs.Quotes.{ascii_front}
 
 -- a text may be cut behind a run of ASCII
@@ -53,51 +48,6 @@ first_close text words rest i e long lacks = record {
       omega arith;
 }
 
--- ---- tables
-
-pub keyword_none : (lines : List (Bor (List ℕ) × Keyword)) (word : List ℕ) (n : ℕ) → length lines ≤ n
-    → ((i : ℕ) (d : Bor (List ℕ) × Keyword) → i < n
-    → map to_ascii_lowercase (get_or lines i d).0.now ≢ map to_ascii_lowercase word)
-    → (keyword : Keyword) → IsReservedBy (lines_of lines) word keyword → ⊥
-keyword_none lines word n all none keyword h =
-    let v : Line Keyword = (record { now = h.0 }, keyword) in
-    let read = line_read lines h.1.0.0 v h.1.0.1.0 h.1.0.1.1 in
-    let within = read.1.0 in
-    none h.1.0.0 read.0 (omega arith) (ap (λ q. map to_ascii_lowercase q.0.now) (sym read.1.1)
-    ∙ ap (map to_ascii_lowercase) (sym read.1.2) ∙ h.1.1)
-
-module _ (lines : List (Bor (List ℕ) × Symbol)) (text : List ℕ) where
-  pub symbol_none : (n : ℕ) → length lines ≤ n
-      → ((i : ℕ) (d : Bor (List ℕ) × Symbol) (rest : List ℕ) → i < n
-      → text ≢ (get_or lines i d).0.now ++ rest) → BeginsWithNone (lines_of lines) text
-  symbol_none n all none spelling rest symbol among e =
-      let v : Line Symbol = (record { now = spelling }, symbol) in
-      let read = line_read lines among.0 v among.1.0 among.1.1 in
-      let within = read.1.0 in
-      none among.0 read.0 rest (omega arith) (e ∙ ap (λ q. q ++ rest) (read.1.2 ∙ ap (λ q. q.0.now) read.1.1))
-
-  pub symbol_found : (i : ℕ) (d : Bor (List ℕ) × Symbol) (n : ℕ) (rest : List ℕ)
-      → longer_first (lines_of lines) ≡ true → i < length lines
-      → ((j : ℕ) (d : Bor (List ℕ) × Symbol) (rest : List ℕ) → j < i → text ≢ (get_or lines j d).0.now ++ rest)
-      → text ≡ (get_or lines i d).0.now ++ drop n text → rest ≡ drop n text
-      → BeginsWithLongest (lines_of lines) text (get_or lines i d).1 rest
-  symbol_found i d n rest longer within none e cut =
-      let v : Line Symbol = (record { now = (get_or lines i d).0.now }, (get_or lines i d).1) in
-      let is = line_is lines i d within in (
-        (get_or lines i d).0.now,
-        (
-          (i, (is.0, is.1)),
-          e ∙ ap (λ q. (get_or lines i d).0.now ++ q) (sym cut),
-          λ word behind other among g.
-              let w : Line Symbol = (record { now = word }, other) in
-              let read = line_read lines among.0 w among.1.0 among.1.1 in
-              let later : among.0 < i → ⊥ =
-              λ before. none among.0 read.0 behind before
-              (g ∙ ap (λ q. q ++ behind) (read.1.2 ∙ ap (λ q. q.0.now) read.1.1)) in
-              later_shorter (lines_of lines) longer i among.0 v w (omega arith) among.1.0 is.1 among.1.1,
-        ),
-      )
-
 -- ---- the first character
 
 pub blank_takes : (c : ℕ) (text rest : List ℕ) → is_blank c ≡ true → text ≡ encode_utf8 c ++ rest
@@ -110,14 +60,14 @@ pub begins_ascii : (p : ℕ → Bool) (c : ℕ) (text rest : List ℕ) → c < 1
     → text ≡ encode_utf8 c ++ rest → begins p text ≡ true
 begins_ascii p c text rest small h e = ap (begins p) (ascii_front c text rest small e) ∙ h
 
-pub other_sign : (b : ℕ) → is_blank b ≡ false → is_letter b ≡ false → is_ascii_digit b ≡ false
+pub other_character : (b : ℕ) → is_blank b ≡ false → is_letter b ≡ false → is_ascii_digit b ≡ false
     → is_quote b ≡ false → b ≢ backtick → is_other b ≡ true
-other_sign b not_blank not_letter not_digit not_quote not_tick =
+other_character b not_blank not_letter not_digit not_quote not_tick =
     let tick : (b == backtick) ≡ false = grind (arith, nat_tests) in
     rw (not_blank, not_letter, not_digit, not_quote, tick) refl
 
-high_sign : (b : ℕ) → 128 ≤ b → is_other b ≡ true
-high_sign b high = grind (arith, nat_tests)
+high_byte : (b : ℕ) → 128 ≤ b → is_other b ≡ true
+high_byte b high = grind (arith, nat_tests)
 
 some_bytes : (c : ℕ) (text rest : List ℕ) → text ≡ encode_utf8 c ++ rest → 0 < length text
 some_bytes c text rest e =
@@ -137,4 +87,4 @@ begins_other c (b ∷ text) rest e h = by_size (split b) (char_from_byte (b ∷ 
 
     by_size : (b < 128) ⊎ (128 ≤ b) → (b < 128 → 0 < length (b ∷ text) → c ≡ b) → is_other b ≡ true
     by_size (inl small) same = subst (λ q. is_other q ≡ true) (same small (omega arith)) h
-    by_size (inr high) same = high_sign b high
+    by_size (inr high) same = high_byte b high

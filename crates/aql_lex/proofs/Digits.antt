@@ -10,7 +10,7 @@ use Rattle.aql_lex.specs.declared.kinds.TokenKind.{TokenKind}
 use Rattle.aql_lex.specs.declared.kinds.TokenKind.TheVariants as k
 use Rattle.aql_lex.specs.declared.faults.LexKind.{LexKind}
 use Rattle.aql_lex.specs.declared.faults.LexKind.TheVariants as f
-use Rattle.aql_lex.specs.Signs.{begins}
+use Rattle.aql_lex.specs.Characters.{begins}
 use Rattle.aql_lex.specs.Numbers.{largest, are_digits, value_of, begins_digit, begins_signed, is_exponent}
 use Rattle.aql_lex.specs.Numbers.{is_fraction}
 use Rattle.aql_lex.specs.Tokens.{IsToken}
@@ -41,11 +41,11 @@ digit_token (k.Symbol symbol) text rest t h =
 -- what behind digits makes them a fraction is no digit
 fraction_stops : (rest : List ℕ) → is_fraction rest ≡ true → begins_digit rest ≡ false
 fraction_stops [] h = refl
-fraction_stops (b ∷ rest) h = by_sign b (begins_digit rest) (begins_signed rest) h
+fraction_stops (b ∷ rest) h = by_byte b (begins_digit rest) (begins_signed rest) h
   where
-    by_sign : (b : ℕ) (t u : Bool) → (if b == 46 then t else (is_exponent b && u)) ≡ true
+    by_byte : (b : ℕ) (t u : Bool) → (if b == 46 then t else (is_exponent b && u)) ≡ true
         → is_ascii_digit b ≡ false
-    by_sign b t u h = grind (arith, nat_tests)
+    by_byte b t u h = grind (arith, nat_tests)
 
 -- the listed fault of these digits, which the rest is behind
 abbrev pub DigitFault : LexKind → List ℕ → List ℕ → Type 0

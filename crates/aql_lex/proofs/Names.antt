@@ -9,12 +9,12 @@ use Rattle.aql_lex.specs.declared.kinds.TokenKind.TheVariants as k
 use Rattle.aql_lex.specs.declared.vocabulary.Symbol.{Symbol}
 use Rattle.aql_lex.specs.declared.faults.LexKind.{LexKind}
 use Rattle.aql_lex.specs.declared.faults.LexKind.TheVariants as f
-use Rattle.aql_lex.specs.Signs.{begins, line_feed, star, slash, backtick, is_letter, is_word_part}
-use Rattle.aql_lex.specs.Vocabulary.{is_word, IsSpelling}
+use Rattle.aql_lex.specs.Characters.{begins, line_feed, star, slash, backtick, is_letter, is_word_part}
+use Rattle.aql_lex.specs.Vocabulary.{is_word, spelling_of}
 use Rattle.aql_lex.specs.Tokens.{ClosesFirst, Separates, IsToken}
 use Rattle.aql_lex.specs.Faults.{Breaks, Faults}
 use Rattle.aql_lex.specs.Reading.{NoSeparator, NoFault, IsLongest}
-use Rattle.aql_lex.specs.Steps.{begins_comment, is_other}
+use Rattle.aql_lex.specs.Steps.{begins_comment, is_other, NoSymbol, IsLongestSymbol}
 use Rattle.aql_lex.proofs.Runs.{IsRun, run_longest, and_left, and_right, and_both, one_split, no_split}
 use Rattle.aql_lex.proofs.Classes.{letter, tick, other, front, front_begins, digits_front}
 use Rattle.aql_lex.proofs.Classes.{separates_front, class-letter, class-tick, class-quote, class-slash}
@@ -191,9 +191,7 @@ open_comment_takes text inner e none = (
 )
 
 pub other_token : (kind : TokenKind) (text rest : List ℕ) → IsToken kind text rest → front text ≡ other
-    → (symbol : Symbol)
-    × ((spelling : List ℕ)
-    × ((kind ≡ k.Symbol symbol) × IsSpelling spelling symbol × (text ≡ spelling ++ rest)))
+    → (symbol : Symbol) × ((kind ≡ k.Symbol symbol) × (text ≡ spelling_of symbol ++ rest))
 other_token (k.Word word) text rest t h = let here = token_front (k.Word word) text rest t in absurd (cc)
 other_token (k.Keyword keyword) text rest t h =
     let here = token_front (k.Keyword keyword) text rest t in absurd (cc)
@@ -201,7 +199,7 @@ other_token (k.Quoted name) text rest t h = let here = token_front (k.Quoted nam
 other_token (k.Number number) text rest t h =
     let here = token_front (k.Number number) text rest t in absurd (cc)
 other_token (k.Text value) text rest t h = let here = token_front (k.Text value) text rest t in absurd (cc)
-other_token (k.Symbol symbol) text rest t h = (symbol, (t.0, (refl, t.1.0, t.1.1)))
+other_token (k.Symbol symbol) text rest t h = (symbol, (refl, t))
 
 module _ (text : List ℕ) (h : begins is_other text ≡ true) (plain : begins_comment text ≡ false) where
   other_first : front text ≡ other
@@ -217,36 +215,26 @@ module _ (text : List ℕ) (h : begins is_other text ≡ true) (plain : begins_c
       let first = other_first in no_breaks text (λ e. absurd (cc)) (λ e. absurd (cc)) (λ e. absurd (cc))
       (λ e. absurd (cc))
 
-  pub symbol_takes : (symbol : Symbol) (spelling rest : List ℕ) → IsSpelling spelling symbol
-      → text ≡ spelling ++ rest
-      → ((other : Symbol) (word behind : List ℕ) → IsSpelling word other → text ≡ word ++ behind
-      → length word ≤ length spelling)
+  pub symbol_takes : (symbol : Symbol) (rest : List ℕ) → IsLongestSymbol text symbol rest
       → NoSeparator text × NoFault text × IsLongest (k.Symbol symbol) text rest
-  symbol_takes symbol spelling rest is splits longest =
-      let t : IsToken (k.Symbol symbol) text rest = (spelling, (is, splits)) in (
+  symbol_takes symbol rest found =
+      let t : IsToken (k.Symbol symbol) text rest = found.stands in (
         other_no_separator,
         no_fault (k.Symbol symbol) text rest t other_no_breaks,
         record {
           stands = t;
-          longest = λ kind behind t.
-              let u = other_token kind text behind t other_first in
-              let short = longest u.0 u.1.0 behind u.1.1.1 u.1.1.2 in
-              let long = ap length (sym splits ∙ u.1.1.2) in
-              let sum = length-append spelling rest in
-              let total = length-append u.1.0 behind in
-              omega arith;
+          longest = λ kind after t.
+              let u = other_token kind text after t other_first in
+              found.longest u.0 after u.1.1;
         },
       )
 
-  pub no_symbol_takes : ((symbol : Symbol) (spelling rest : List ℕ) → IsSpelling spelling symbol
-      → text ≡ spelling ++ rest → ⊥) → NoSeparator text × Faults f.BadChar text text
+  pub no_symbol_takes : NoSymbol text → NoSeparator text × Faults f.BadChar text text
   no_symbol_takes none = (other_no_separator, bad text h other_first none other_no_breaks)
     where
-      bad : (text : List ℕ) → begins is_other text ≡ true → front text ≡ other
-          → ((symbol : Symbol) (spelling rest : List ℕ) → IsSpelling spelling symbol
-          → text ≡ spelling ++ rest → ⊥) → ((kind : LexKind) (at : List ℕ) → Breaks kind text at → ⊥)
-          → Faults f.BadChar text text
+      bad : (text : List ℕ) → begins is_other text ≡ true → front text ≡ other → NoSymbol text
+          → ((kind : LexKind) (at : List ℕ) → Breaks kind text at → ⊥) → Faults f.BadChar text text
       bad [] h first none fine = absurd (cc)
       bad (b ∷ text) h first none fine =
           Faults.bad_char (λ kind rest t. let u = other_token kind (b ∷ text) rest t first in
-          none u.0 u.1.0 rest u.1.1.1 u.1.1.2) fine
+          none u.0 rest u.1.1) fine

@@ -12,8 +12,8 @@ use Rattle.aql_lex.specs.declared.kinds.TokenKind.{TokenKind}
 use Rattle.aql_lex.specs.declared.kinds.TokenKind.TheVariants as k
 use Rattle.aql_lex.specs.declared.faults.LexKind.{LexKind}
 use Rattle.aql_lex.specs.declared.faults.LexKind.TheVariants as f
-use Rattle.aql_lex.specs.Signs.{is_quote, backslash}
-use Rattle.aql_lex.specs.Texts.{Writes, escape, code_unit, second_half, unit_escape}
+use Rattle.aql_lex.specs.Characters.{is_quote, backslash}
+use Rattle.aql_lex.specs.Texts.{Writes, escape, code_unit, second_half, unicode_escape}
 use Rattle.aql_lex.specs.Tokens.{IsToken}
 use Rattle.aql_lex.specs.Faults.{Breaks, Faults}
 use Rattle.aql_lex.specs.Reading.{NoSeparator, NoFault, IsLongest}
@@ -27,10 +27,10 @@ use Rattle.aql_lex.proofs.Separators.{no_fault}
 pub pair_gives : (text rest : List ℕ) (unit character : ℕ) → code_unit text ≡ Some (unit, drop 4 text)
     → is_high_surrogate unit ≡ true → rest ≡ drop 4 text
     → second_half unit rest ≡ Some (character, drop 6 rest)
-    → unit_escape (code_unit text) ≡ Some (character, drop 10 text)
+    → unicode_escape (code_unit text) ≡ Some (character, drop 10 text)
 pair_gives text rest unit character e high cut half =
-    let first : unit_escape (code_unit text) ≡ second_half unit (drop 4 text) =
-    ap unit_escape e ∙ rw high refl in
+    let first : unicode_escape (code_unit text) ≡ second_half unit (drop 4 text) =
+    ap unicode_escape e ∙ rw high refl in
     let second : second_half unit (drop 4 text) ≡ Some (character, drop 6 (drop 4 text)) =
     subst (λ q. second_half unit q ≡ Some (character, drop 6 q)) cut half in
     first ∙ second ∙ ap (λ q. Some (character, q)) (drop-drop 6 4 text)

@@ -13,8 +13,8 @@ use Rattle.aql_lex.specs.declared.faults.LexKind.{LexKind}
 use Rattle.aql_lex.specs.declared.faults.LexKind.TheVariants as f
 use Rattle.aql_lex.specs.declared.faults.LexFault.{LexFault}
 use Rattle.aql_lex.specs.declared.faults.LexFault.TheVariants as answer
-use Rattle.aql_lex.specs.Signs.{backtick, begins}
-use Rattle.aql_lex.specs.Vocabulary.{IsReserved, IsSpelling}
+use Rattle.aql_lex.specs.Characters.{backtick, begins}
+use Rattle.aql_lex.specs.Vocabulary.{IsReserved, spelling_of}
 use Rattle.aql_lex.specs.Numbers.{is_fraction, value_of}
 use Rattle.aql_lex.specs.Texts.{Writes}
 use Rattle.aql_lex.specs.Tokens.{Separates, IsToken, IsUnsigned}
@@ -57,17 +57,17 @@ one_kind (k.Number x) (k.Number y) text rest more t u long =
     (ap k.Number (t.1.2 ∙ ap (λ digits. pos (value_of digits)) both.0 ∙ sym u.1.2), both.1)
 one_kind (k.Text v) (k.Text w) text rest more t u long =
     let both : t.0 ∷ t.1.0 ≡ u.0 ∷ u.1.0 = sym t.1.1.2 ∙ u.1.1.2 in
-    let sign : u.0 ≡ t.0 = cc in
+    let opening : u.0 ≡ t.0 = cc in
     let inner : u.1.0 ≡ t.1.0 = cc in
     let again : Writes t.0 t.1.0 w (t.0 ∷ more) =
     subst (λ x. Writes t.0 x w (t.0 ∷ more)) inner
-    (subst (λ q. Writes q u.1.0 w (q ∷ more)) sign u.1.1.1) in
+    (subst (λ q. Writes q u.1.0 w (q ∷ more)) opening u.1.1.1) in
     let one = one_writing t.0 t.1.1.0 t.1.0 t.1.0 v w (t.0 ∷ rest) (t.0 ∷ more) refl t.1.1.1 again
     (inl refl) (inl refl) in
     (ap k.Text one.0, let ends = one.1 in cc)
 one_kind (k.Symbol x) (k.Symbol y) text rest more t u long =
-    let both = one_end t.0 u.0 rest more (sym t.1.1 ∙ u.1.1) long in
-    (ap k.Symbol (one_symbol t.0 x y t.1.0 (subst (λ q. IsSpelling q y) (sym both.0) u.1.0)), both.1)
+    let both = one_end (spelling_of x) (spelling_of y) rest more (sym t ∙ u) long in
+    (ap k.Symbol (one_symbol x y both.0), both.1)
 one_kind a b text rest more t u long =
     let x = token_front a text rest t in let y = token_front b text more u in absurd (cc)
 
@@ -120,11 +120,11 @@ one_break a b text x y s t = by_front (breaks_front a text x s)
         let u = quote_breaks a text x s e in
         let v = quote_breaks b text y t e in
         let both : v.1.0 ∷ v.1.1.0 ≡ u.1.0 ∷ u.1.1.0 = sym v.1.1.1.1.2 ∙ u.1.1.1.1.2 in
-        let sign : v.1.0 ≡ u.1.0 = cc in
+        let opening : v.1.0 ≡ u.1.0 = cc in
         let inner : v.1.1.0 ≡ u.1.1.0 = cc in
         let again : Writes u.1.0 u.1.1.0 v.0 v.1.1.1.0 =
         subst (λ i. Writes u.1.0 i v.0 v.1.1.1.0) inner
-        (subst (λ q. Writes q v.1.1.0 v.0 v.1.1.1.0) sign v.1.1.1.1.1) in
+        (subst (λ q. Writes q v.1.1.0 v.0 v.1.1.1.0) opening v.1.1.1.1.1) in
         let one = one_writing u.1.0 u.1.1.1.1.0 u.1.1.0 u.1.1.0 u.0 v.0 u.1.1.1.0 v.1.1.1.0 refl u.1.1.1.1.1
         again (fault_halts a u.1.0 text u.1.1.1.0 x u.1.1.1.1.3)
         (fault_halts b u.1.0 text v.1.1.1.0 y v.1.1.1.1.3) in
@@ -162,7 +162,7 @@ end_separator text rest e (Separates.last_line words none) = absurd (cc)
 end_separator text rest e (Separates.block closes) = absurd (cc)
 
 end_token : (kind : TokenKind) (text rest : List ℕ) → text ≡ [] → IsToken kind text rest → ⊥
-end_token (k.Symbol symbol) text rest e t = nothing t.0 (sym t.1.1 ∙ e) (symbol_begins t.0 symbol t.1.0)
+end_token (k.Symbol symbol) text rest e t = nothing (spelling_of symbol) (sym t ∙ e) (symbol_begins symbol)
   where
     nothing : (spelling : List ℕ) → spelling ++ rest ≡ [] → begins is_other spelling ≡ true → ⊥
     nothing [] g h = absurd (cc)

@@ -5,7 +5,7 @@ use Rattle.std.specs.Prelude.{◌&&◌, All}
 use Rattle.std.specs.List.{prefix_len, list_all}
 use Rattle.std.proofs.lemmas.List.{take-append-drop}
 use Rattle.std.proofs.lemmas.List.Elements.{All-head, All-tail}
-use Rattle.aql_lex.specs.Signs.{begins}
+use Rattle.aql_lex.specs.Characters.{begins}
 
 pub and_left : (a b : Bool) → (a && b) ≡ true → a ≡ true
 and_left true b h = refl

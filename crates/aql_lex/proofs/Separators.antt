@@ -3,7 +3,7 @@ use Rattle.std.proofs.Common.{◌≡◌, ℕ, true, List, ◌∷◌, ◌++◌, l
 use Rattle.std.proofs.Common.{refl, sym, ap, ◌∙◌, arith, length-append}
 use Rattle.aql_lex.specs.declared.kinds.TokenKind.{TokenKind}
 use Rattle.aql_lex.specs.declared.faults.LexKind.{LexKind}
-use Rattle.aql_lex.specs.Signs.{line_feed, star, slash, is_blank}
+use Rattle.aql_lex.specs.Characters.{line_feed, star, slash, is_blank}
 use Rattle.aql_lex.specs.Tokens.{ClosesFirst, Separates, IsToken}
 use Rattle.aql_lex.specs.Faults.{Breaks, Faults}
 use Rattle.aql_lex.specs.Reading.{NoFault}

@@ -1,108 +1,107 @@
--- The lines of a table.
-use Rattle.std.proofs.Common.{◌≡◌, ℕ, zero, suc, ◌<◌, ◌≤◌, Bool, true, false, List, [], ◌∷◌}
-use Rattle.std.proofs.Common.{length, get_or, refl, sym, ap, ◌∙◌, subst, arith}
-use Rattle.std.specs.Prelude.{◌&&◌, ◌||◌, ◌==◌, not, nat_le}
-use Rattle.std.specs.List.{IsAmong, list_any, list_all}
+-- The tables of keywords and symbols in memory.
+use Rattle.std.proofs.Common.{◌≡◌, ◌≢◌, ℕ, zero, suc, ◌<◌, ◌≤◌, true, List, [], ◌∷◌, ◌++◌}
+use Rattle.std.proofs.Common.{length, get_or, drop, map, refl, sym, ap, ◌∙◌, subst, arith, length-append}
+use Rattle.std.specs.Prelude.{nat_le}
+use Rattle.std.specs.Char.{to_ascii_lowercase}
 use Rattle.std.proofs.lemmas.Bool.Decides.{nat_tests}
+use Rattle.std.proofs.lemmas.List.{get_or-map, length-map}
+use Rattle.std.proofs.lemmas.List.Sums.{AllPass-from_list_all}
 use denote.Ref.{Bor}
-use Rattle.aql_lex.specs.Steps.{Line, lines_of, longer_first}
+use Rattle.aql_lex.specs.declared.vocabulary.Keyword.{Keyword}
+use Rattle.aql_lex.specs.declared.vocabulary.Symbol.{Symbol}
+use Rattle.aql_lex.specs.Vocabulary.{name_of, IsReserved, spelling_of}
+use Rattle.aql_lex.specs.Steps.{lines_of, IsTable, longer_first, NoSymbol, IsLongestSymbol}
 use Rattle.aql_lex.proofs.Runs.{and_left, and_right}
 
-abbrev pub same : List ℕ → List ℕ → Bool
-same [] [] = true
-same (x ∷ xs) (y ∷ ys) = x == y && same xs ys
-same _ _ = false
-
-same_itself : (xs : List ℕ) → same xs xs ≡ true
-same_itself [] = refl
-same_itself (x ∷ xs) = let more = same_itself xs in grind (arith, nat_tests)
-
-module _ {Line : Type 0} (key : Line → List ℕ) where
-  -- no key stands in two lines
-  abbrev pub distinct : List Line → Bool
-  distinct [] = true
-  distinct (line ∷ lines) = not (list_any (λ other. same (key other) (key line)) lines) && distinct lines
-
-  held : (k : List ℕ) (lines : List Line) (j : ℕ) (line : Line) → j < length lines
-      → line ≡ get_or lines j line → key line ≡ k → list_any (λ other. same (key other) k) lines ≡ true
-  held k [] j line within at e = absurd (omega arith)
-  held k (other ∷ lines) zero line within at e =
-      let here : same (key other) k ≡ true =
-      subst (λ q. same (key q) k ≡ true) at
-      (subst (λ q. same (key line) q ≡ true) e (same_itself (key line))) in rw here refl
-  held k (other ∷ lines) (suc j) line within at e =
-      by_test (same (key other) k) (held k lines j line (omega arith) at e)
-    where
-      by_test : (t : Bool) {u : Bool} → u ≡ true → (t || u) ≡ true
-      by_test true h = refl
-      by_test false h = h
-
-  apart : (t : Bool) (u : Bool) → (not t && u) ≡ true → t ≡ true → ⊥
-  apart true u h e = absurd (cc)
-  apart false u h e = absurd (cc)
-
-  same_line : (lines : List Line) → distinct lines ≡ true → (i j : ℕ) (a b : Line) → i < length lines
-      → j < length lines → a ≡ get_or lines i a → b ≡ get_or lines j b → key a ≡ key b → a ≡ b
-  same_line [] d i j a b in_i in_j at_i at_j e = absurd (omega arith)
-  same_line (line ∷ lines) d zero zero a b in_i in_j at_i at_j e = at_i ∙ sym at_j
-  same_line (line ∷ lines) d zero (suc j) a b in_i in_j at_i at_j e =
-      absurd (apart _ _ d (held (key line) lines j b (omega arith) at_j (sym e ∙ ap key at_i)))
-  same_line (line ∷ lines) d (suc i) zero a b in_i in_j at_i at_j e =
-      absurd (apart _ _ d (held (key line) lines i a (omega arith) at_i (e ∙ ap key at_j)))
-  same_line (line ∷ lines) d (suc i) (suc j) a b in_i in_j at_i at_j e =
-      same_line lines (and_right (not (list_any (λ other. same (key other) (key line)) lines)) _ d) i j a b
-      (omega arith) (omega arith) at_i at_j e
-
-  -- a table of distinct keys has one line of a key
-  pub one_line : (lines : List Line) → distinct lines ≡ true → (a b : Line) → IsAmong lines a
-      → IsAmong lines b → key a ≡ key b → a ≡ b
-  one_line lines d a b among amid e =
-      same_line lines d among.0 amid.0 a b among.1.0 amid.1.0 among.1.1 amid.1.1 e
-
-  -- what a test says of each line
-  pub each_line : (p : Line → Bool) (lines : List Line) → list_all p lines ≡ true → (j : ℕ) (line : Line)
-      → j < length lines → line ≡ get_or lines j line → p line ≡ true
-  each_line p [] all j line within at = absurd (omega arith)
-  each_line p (other ∷ lines) all zero line within at =
-      subst (λ q. p q ≡ true) (sym at) (and_left (p other) _ all)
-  each_line p (other ∷ lines) all (suc j) line within at =
-      each_line p lines (and_right (p other) _ all) j line (omega arith) at
-
 -- in a table with the longer spellings first, a later line is no longer
-pub later_shorter : {Meant : Type 0} (lines : List (Line Meant)) → longer_first lines ≡ true
-    → (i j : ℕ) (a b : Line Meant) → i ≤ j → j < length lines → a ≡ get_or lines i a → b ≡ get_or lines j b
-    → length b.0.now ≤ length a.0.now
-later_shorter [] d i j a b order within at_i at_j = absurd (omega arith)
-later_shorter (line ∷ lines) d zero zero a b order within at_i at_j =
-    let same_one = ap (λ q. length q.0.now) (at_i ∙ sym at_j) in omega arith
-later_shorter {Meant} (line ∷ lines) d zero (suc j) a b order within at_i at_j =
-    let shorter =
-    each_line {Line = Line Meant} (λ other. other.0.now)
-    (λ other. nat_le (length other.0.now) (length line.0.now)) lines (and_left _ _ d) j b (omega arith)
-    at_j in
-    let here = ap (λ q. length q.0.now) at_i in
+later_shorter : {Meant : Type 0} (lines : List (List ℕ × Meant)) → longer_first lines ≡ true → (i j : ℕ)
+    (d : List ℕ × Meant) → i ≤ j → j < length lines → length (get_or lines j d).0 ≤ length (get_or lines i d).0
+later_shorter [] h i j d order within = absurd (omega arith)
+later_shorter (line ∷ lines) h zero zero d order within = omega arith
+later_shorter {Meant} (line ∷ lines) h zero (suc j) d order within =
+    let shorter : nat_le (length (get_or lines j d).0) (length line.0) ≡ true =
+    AllPass-from_list_all {X = List ℕ × Meant} (λ other. nat_le (length other.0) (length line.0)) lines
+    (and_left _ _ h) j d (omega arith) in
     grind (arith, nat_tests)
-later_shorter (line ∷ lines) d (suc i) zero a b order within at_i at_j = absurd (omega arith)
-later_shorter (line ∷ lines) d (suc i) (suc j) a b order within at_i at_j =
-    later_shorter lines (and_right _ _ d) i j a b (omega arith) (omega arith) at_i at_j
+later_shorter (line ∷ lines) h (suc i) zero d order within = absurd (omega arith)
+later_shorter (line ∷ lines) h (suc i) (suc j) d order within =
+    later_shorter lines (and_right _ _ h) i j d (omega arith) (omega arith)
 
--- the lines of a table in memory, one by one
-pub line_read : {Meant : Type 0} (lines : List (Bor (List ℕ) × Meant)) (i : ℕ) (v : Line Meant)
-    → i < length (lines_of lines) → v ≡ get_or (lines_of lines) i v
-    → (line : Bor (List ℕ) × Meant)
-    × ((i < length lines) × (line ≡ get_or lines i line) × (v.0.now ≡ line.0.now))
-line_read [] i v within at = absurd (omega arith)
-line_read (line ∷ lines) zero v within at = (line, (omega arith, refl, ap (λ q. q.0.now) at))
-line_read (line ∷ lines) (suc i) v within at =
-    let more = line_read lines i v (omega arith) at in
-    (more.0, (let here = more.1.0 in omega arith, more.1.1, more.1.2))
+module _ {Meant : Type 0} (spelling : Meant → List ℕ) (lines : List (Bor (List ℕ) × Meant))
+    (table : IsTable spelling (lines_of lines)) where
+  line_at : (i : ℕ) (d : Bor (List ℕ) × Meant) (e : List ℕ × Meant) → i < length lines
+      → get_or (lines_of lines) i e ≡ ((get_or lines i d).0.now, (get_or lines i d).1)
+  line_at i d e within =
+      get_or-map {X = Bor (List ℕ) × Meant} {Y = List ℕ × Meant} (λ line. (line.0.now, line.1)) lines i d e
+      within
 
-pub line_is : {Meant : Type 0} (lines : List (Bor (List ℕ) × Meant)) (i : ℕ) (d : Bor (List ℕ) × Meant)
-    → i < length lines
-    → (i < length (lines_of lines))
-    × (let v : Line Meant = (record { now = (get_or lines i d).0.now }, (get_or lines i d).1) in
-    v ≡ get_or (lines_of lines) i v)
-line_is [] i d within = absurd (omega arith)
-line_is (line ∷ lines) zero d within = (omega arith, refl)
-line_is (line ∷ lines) (suc i) d within =
-    let more = line_is lines i d (omega arith) in (let here = more.0 in omega arith, more.1)
+  same_length : length (lines_of lines) ≡ length lines
+  same_length = length-map lines (λ line. (line.0.now, line.1))
+
+  -- how a line is spelled
+  pub spelled_at : (i : ℕ) (d : Bor (List ℕ) × Meant) → i < length lines
+      → (get_or lines i d).0.now ≡ spelling (get_or lines i d).1
+  spelled_at i d within =
+      let long = same_length in
+      subst (λ line. line.0 ≡ spelling line.1) (line_at i d (d.0.now, d.1) within)
+      (table.spelled i (d.0.now, d.1) (omega arith))
+
+  -- the line of what it stands for
+  pub line_of : (meant : Meant) (d : Bor (List ℕ) × Meant)
+      → (i : ℕ) × ((i < length lines) × ((get_or lines i d).0.now ≡ spelling meant))
+  line_of meant d =
+      let found = table.whole meant in
+      let long = same_length in
+      let within : found.0 < length lines = omega (arith, found.1) in
+      (found.0, (within, ap (λ line. line.0) (sym (line_at found.0 d (spelling meant, meant) within) ∙ found.2)))
+
+pub keyword_none : (lines : List (Bor (List ℕ) × Keyword)) → IsTable name_of (lines_of lines) → (word : List ℕ)
+    (n : ℕ) → length lines ≤ n
+    → ((i : ℕ) (d : Bor (List ℕ) × Keyword) → i < n
+    → map to_ascii_lowercase (get_or lines i d).0.now ≢ map to_ascii_lowercase word)
+    → (keyword : Keyword) → IsReserved word keyword → ⊥
+keyword_none [] table word n all none keyword h = let within = (table.whole keyword).1 in absurd (omega arith)
+keyword_none (line ∷ lines) table word n all none keyword h =
+    let found = line_of name_of (line ∷ lines) table keyword line in
+    let within = found.1.0 in
+    none found.0 line (omega arith) (ap (map to_ascii_lowercase) found.1.1 ∙ h)
+
+pub symbol_none : (lines : List (Bor (List ℕ) × Symbol)) → IsTable spelling_of (lines_of lines)
+    → (text : List ℕ) (n : ℕ) → length lines ≤ n
+    → ((i : ℕ) (d : Bor (List ℕ) × Symbol) (rest : List ℕ) → i < n → text ≢ (get_or lines i d).0.now ++ rest)
+    → NoSymbol text
+symbol_none [] table text n all none symbol rest e = let within = (table.whole symbol).1 in absurd (omega arith)
+symbol_none (line ∷ lines) table text n all none symbol rest e =
+    let found = line_of spelling_of (line ∷ lines) table symbol line in
+    let within = found.1.0 in
+    none found.0 line rest (omega arith) (e ∙ ap (λ q. q ++ rest) (sym found.1.1))
+
+module _ (lines : List (Bor (List ℕ) × Symbol)) (table : IsTable spelling_of (lines_of lines)) where
+  pub symbol_found : (text : List ℕ) → longer_first (lines_of lines) ≡ true
+      → (i : ℕ) (d : Bor (List ℕ) × Symbol) (n : ℕ) (rest : List ℕ) → i < length lines
+      → ((j : ℕ) (d : Bor (List ℕ) × Symbol) (rest : List ℕ) → j < i → text ≢ (get_or lines j d).0.now ++ rest)
+      → text ≡ (get_or lines i d).0.now ++ drop n text → rest ≡ drop n text
+      → IsLongestSymbol text (get_or lines i d).1 rest
+  symbol_found text order i d n rest within none splits cut =
+      let stands : text ≡ spelling_of (get_or lines i d).1 ++ rest =
+      splits ∙ (λ x. spelled_at spelling_of lines table i d within x ++ sym cut x) in
+      record {
+        stands = stands;
+        longest = λ other after e.
+            let found = line_of spelling_of lines table other d in
+            let earlier : found.0 < i → ⊥ =
+            λ before. none found.0 d after before (e ∙ ap (λ q. q ++ after) (sym found.1.1)) in
+            let size = same_length spelling_of lines table in
+            let found_within = found.1.0 in
+            let shorter = later_shorter (lines_of lines) order i found.0 (d.0.now, d.1) (omega arith)
+            (omega arith) in
+            let here = ap (λ line. length line.0) (line_at spelling_of lines table i d (d.0.now, d.1) within) in
+            let there =
+            ap (λ line. length line.0) (line_at spelling_of lines table found.0 d (d.0.now, d.1) found.1.0) in
+            let long = ap length (spelled_at spelling_of lines table i d within) in
+            let short = ap length found.1.1 in
+            let same = ap length (sym stands ∙ e) in
+            let sum = length-append (spelling_of (get_or lines i d).1) rest in
+            let total = length-append (spelling_of other) after in
+            omega arith;
+      }

@@ -1,4 +1,4 @@
-pub mod Signs
+pub mod Characters
 pub mod Vocabulary
 pub mod Numbers
 pub mod Texts

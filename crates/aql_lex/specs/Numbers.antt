@@ -4,7 +4,7 @@ use Rattle.std.specs.Prelude.{ℕ, Bool, false, ◌||◌, ◌&&◌, ◌==◌, if
 use Rattle.std.specs.Char.{is_ascii_digit}
 use Rattle.std.specs.List.{list_all}
 use Rattle.std.specs.Str.Parse.{digits_value}
-use Rattle.aql_lex.specs.Signs.{begins}
+use Rattle.aql_lex.specs.Characters.{begins}
 
 -- the largest number
 abbrev pub largest : ℕ
@@ -25,15 +25,16 @@ begins_digit text = begins is_ascii_digit text
 abbrev pub is_exponent : ℕ → Bool
 is_exponent b = b == 101 || b == 69
 
-abbrev pub is_sign : ℕ → Bool
-is_sign b = b == 43 || b == 45
+abbrev pub is_plus_or_minus : ℕ → Bool
+is_plus_or_minus b = b == 43 || b == 45
 
 -- `+` or `-`, or neither, and a digit
 abbrev pub begins_signed : List ℕ → Bool
 begins_signed [] = false
-begins_signed (b ∷ more) = if is_sign b then begins_digit more else is_ascii_digit b
+begins_signed (b ∷ more) = if is_plus_or_minus b then begins_digit more else is_ascii_digit b
 
--- what stands behind digits makes them a fraction: `.` and a digit, or `e` or `E`, perhaps a sign, and a digit
+-- what stands after digits makes them a fraction: `.` and a digit, or `e` or `E`, perhaps `+` or `-`, and a
+-- digit
 abbrev pub is_fraction : List ℕ → Bool
 is_fraction [] = false
 is_fraction (b ∷ more) = if b == 46 then begins_digit more else (is_exponent b && begins_signed more)

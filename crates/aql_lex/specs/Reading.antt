@@ -14,10 +14,10 @@ NoSeparator text = (rest : List ℕ) → Separates text rest → ⊥
 abbrev pub NoFault : List ℕ → Type 0
 NoFault text = (kind : LexKind) (at : List ℕ) → Faults kind text at → ⊥
 
--- a token of this kind stands before the rest, and none leaves less behind it
+-- a token of this kind stands before the rest, and none leaves less after it
 pub record IsLongest (kind : TokenKind) (text rest : List ℕ) : Type 0 where
   pub stands : IsToken kind text rest
-  pub longest : (other : TokenKind) (behind : List ℕ) → IsToken other text behind → length rest ≤ length behind
+  pub longest : (other : TokenKind) (after : List ℕ) → IsToken other text after → length rest ≤ length after
 
 -- in a query of `size` bytes, what is left of it reads as these tokens, up to its end or to this fault at
 -- this place

@@ -1,14 +1,14 @@
 -- What the parts of the lexer promise each other. The contract of `lex` needs none of this.
 use Rattle.std.specs.Prelude.{◌≡◌, ◌≢◌, ◌<◌, ◌≤◌, ◌-◌, ℕ, Bool, true, false, not, ◌||◌, ◌&&◌, ◌==◌}
-use Rattle.std.specs.Prelude.{List, [], ◌∷◌, ◌++◌, length, map, nat_le, slice_index, IsUtf8}
-use Rattle.std.specs.Char.{is_ascii_digit, to_ascii_lowercase}
-use Rattle.std.specs.List.{IsAmong, list_all}
+use Rattle.std.specs.Prelude.{List, [], ◌∷◌, ◌++◌, length, map, All, Contains, nat_le, slice_index, IsUtf8}
+use Rattle.std.specs.Char.{is_ascii_digit}
+use Rattle.std.specs.List.{list_all}
 use denote.Ref.{Bor}
-use Rattle.aql_lex.specs.declared.vocabulary.Keyword.{Keyword}
 use Rattle.aql_lex.specs.declared.vocabulary.Symbol.{Symbol}
 use Rattle.aql_lex.specs.declared.steps.Step.{Step}
 use Rattle.aql_lex.specs.declared.steps.Step.TheVariants.{Separator, Fault, Token}
-use Rattle.aql_lex.specs.Signs.{slash, star, backtick, is_blank, is_letter, is_quote}
+use Rattle.aql_lex.specs.Characters.{slash, star, backtick, is_blank, is_letter, is_quote}
+use Rattle.aql_lex.specs.Vocabulary.{spelling_of}
 use Rattle.aql_lex.specs.Tokens.{Separates}
 use Rattle.aql_lex.specs.Faults.{Faults}
 use Rattle.aql_lex.specs.Reading.{NoSeparator, NoFault, IsLongest}
@@ -23,7 +23,7 @@ Takes text (Token kind rest) = NoSeparator text × NoFault text × IsLongest kin
 abbrev pub EndsInAscii : List ℕ → ℕ → Type 0
 EndsInAscii text n = (0 < n) × (n ≤ length text) × (slice_index text (n - 1) < 128)
 
--- what is left is in UTF-8; behind a separator or a token it is less than before
+-- what is left is in UTF-8; after a separator or a token it is less than before
 abbrev pub Leaves : List ℕ → Step → Type 0
 Leaves text (Separator rest) = IsUtf8 rest.now × (length rest.now < length text)
 Leaves text (Fault kind at) = length at.now ≤ length text
@@ -31,7 +31,7 @@ Leaves text (Token kind rest) = IsUtf8 rest.now × (length rest.now < length tex
 
 -- ---- what a text begins with
 
--- a sign that begins neither a blank, a word, a number, a text nor a quoted name
+-- a character that begins neither a blank, a word, a number, a text nor a quoted name
 abbrev pub is_other : ℕ → Bool
 is_other b = not (is_blank b || is_letter b || is_ascii_digit b || is_quote b || b == backtick)
 
@@ -42,39 +42,28 @@ begins_comment _ = false
 
 -- ---- tables
 
--- a line of a table: how it is spelled, and what that stands for
-abbrev pub Line : Type 0 → Type 0
-Line Meant = (record { now : List ℕ }) × Meant
-
--- the lines of a table in memory
-abbrev pub lines_of : {Meant : Type 0} → List (Bor (List ℕ) × Meant) → List (Line Meant)
+-- the lines of a table in memory: how each is spelled, and what that stands for
+abbrev pub lines_of : {Meant : Type 0} → List (Bor (List ℕ) × Meant) → List (List ℕ × Meant)
 lines_of {Meant} lines =
-    map {A = Bor (List ℕ) × Meant} {B = Line Meant} (λ line. (record { now = line.0.now }, line.1)) lines
+    map {A = Bor (List ℕ) × Meant} {B = List ℕ × Meant} (λ line. (line.0.now, line.1)) lines
 
--- a table has a line with this word, but for the case of letters, and this keyword
-abbrev pub IsReservedBy : List (Line Keyword) → List ℕ → Keyword → Type 0
-IsReservedBy table word keyword =
-    (name : List ℕ)
-    × (IsAmong table (record { now = name }, keyword)
-    × (map to_ascii_lowercase name ≡ map to_ascii_lowercase word))
+-- each line of the table has the spelling of what it stands for, and nothing is without a line
+pub record IsTable {Meant : Type 0} (spelling : Meant → List ℕ) (lines : List (List ℕ × Meant)) : Type 0 where
+  pub spelled : All (λ line. line.0 ≡ spelling line.1) lines
+  pub whole : (meant : Meant) → Contains lines (spelling meant, meant)
 
 -- no spelling of the table is longer than one before it
-abbrev pub longer_first : {Meant : Type 0} → List (Line Meant) → Bool
+abbrev pub longer_first : {Meant : Type 0} → List (List ℕ × Meant) → Bool
 longer_first [] = true
 longer_first (line ∷ lines) =
-    list_all (λ other. nat_le (length other.0.now) (length line.0.now)) lines && longer_first lines
+    list_all (λ other. nat_le (length other.0) (length line.0)) lines && longer_first lines
 
--- no spelling of the table stands at the front of the text
-abbrev pub BeginsWithNone : List (Line Symbol) → List ℕ → Type 0
-BeginsWithNone table text =
-    (spelling rest : List ℕ) (symbol : Symbol)
-    → IsAmong table (record { now = spelling }, symbol) → text ≢ spelling ++ rest
+-- no symbol stands at the front of the text
+abbrev pub NoSymbol : List ℕ → Type 0
+NoSymbol text = (symbol : Symbol) (rest : List ℕ) → text ≢ spelling_of symbol ++ rest
 
--- a spelling of this symbol stands before the rest, and no longer one of the table stands there
-abbrev pub BeginsWithLongest : List (Line Symbol) → List ℕ → Symbol → List ℕ → Type 0
-BeginsWithLongest table text symbol rest =
-    (spelling : List ℕ)
-    × (IsAmong table (record { now = spelling }, symbol)
-    × (text ≡ spelling ++ rest)
-    × ((word behind : List ℕ) (other : Symbol) → IsAmong table (record { now = word }, other)
-    → text ≡ word ++ behind → length word ≤ length spelling))
+-- this symbol stands before the rest, and none leaves less after it
+pub record IsLongestSymbol (text : List ℕ) (symbol : Symbol) (rest : List ℕ) : Type 0 where
+  pub stands : text ≡ spelling_of symbol ++ rest
+  pub longest : (other : Symbol) (after : List ℕ) → text ≡ spelling_of other ++ after
+      → length rest ≤ length after

@@ -3,12 +3,12 @@ use Rattle.std.specs.Prelude.{◌≡◌, ◌≢◌, ℕ, ◌≤◌, ◌<◌, tru
 use Rattle.aql_lex.specs.declared.kinds.TokenKind.{TokenKind}
 use Rattle.aql_lex.specs.declared.kinds.TokenKind.TheVariants as k
 use Rattle.aql_lex.specs.declared.vocabulary.Keyword.{Keyword}
-use Rattle.aql_lex.specs.Signs.{line_feed, star, slash, backtick, is_blank, is_quote}
-use Rattle.aql_lex.specs.Vocabulary.{IsSpelling, IsReserved, is_word}
+use Rattle.aql_lex.specs.Characters.{line_feed, star, slash, backtick, is_blank, is_quote}
+use Rattle.aql_lex.specs.Vocabulary.{is_word, IsReserved, spelling_of}
 use Rattle.aql_lex.specs.Numbers.{largest, are_digits, value_of}
 use Rattle.aql_lex.specs.Texts.{Writes}
 
--- the first `*/` of the text stands behind these words, and before the rest
+-- the first `*/` of the text stands between these words and the rest
 pub record ClosesFirst (text words rest : List ℕ) : Type 0 where
   pub closes : text ≡ words ++ star ∷ slash ∷ rest
   pub first : (others more : List ℕ) → text ≡ others ++ star ∷ slash ∷ more → length words ≤ length others
@@ -40,8 +40,7 @@ IsToken (k.Text value) text rest =
     (quote : ℕ)
     × ((inner : List ℕ)
     × ((is_quote quote ≡ true) × Writes quote inner value (quote ∷ rest) × (text ≡ quote ∷ inner)))
-IsToken (k.Symbol symbol) text rest =
-    (spelling : List ℕ) × (IsSpelling spelling symbol × (text ≡ spelling ++ rest))
+IsToken (k.Symbol symbol) text rest = text ≡ spelling_of symbol ++ rest
 
 -- the token is no number below 0
 abbrev pub IsUnsigned : TokenKind → Type 0

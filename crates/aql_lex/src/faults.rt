@@ -1,35 +1,45 @@
 use aql_value::OutOfMemory;
-use thiserror::Error;
+use std::fmt;
 
 /// What stands in a text where no token can be taken.
-#[derive(Debug, Clone, Copy, PartialEq, Eq, Drop, Error)]
+#[derive(Debug, Clone, Copy, PartialEq, Eq, Drop)]
 pub enum LexKind {
     /// A character that begins no token, or the first backtick of an empty name.
-    #[error("bad character")]
     BadChar,
     /// A text or a quoted name without its end.
-    #[error("open string")]
     OpenString,
     /// A comment without its `*/`.
-    #[error("open comment")]
     OpenComment,
     /// A backslash that begins no escape, or one half of a pair of surrogates alone.
-    #[error("bad escape")]
     BadEscape,
     /// A number with a fraction or an exponent.
-    #[error("fraction")]
     Fraction,
     /// A whole number above 9223372036854775807.
-    #[error("number too large")]
     NumberTooLarge,
 }
 
+impl fmt::Display for LexKind {
+    ghost use Rattle.std.specs.Prelude.{Some};
+    ghost use Rattle.aql_lex.specs.Faults.{lex_text};
+
+    ghost output = { λ kind. Some (lex_text kind) };
+
+    fn fmt<W: fmt::Write>(&self, f: &mut fmt::Formatter<W>) -> fmt::Result {
+        f.write_str(match self {
+            LexKind::BadChar => "bad character",
+            LexKind::OpenString => "open string",
+            LexKind::OpenComment => "open comment",
+            LexKind::BadEscape => "bad escape",
+            LexKind::Fraction => "fraction",
+            LexKind::NumberTooLarge => "number too large",
+        })
+    }
+}
+
 /// Why a text gives no tokens: a fault at a place, counted in bytes from 0, or no memory.
-#[derive(Debug, Clone, Copy, PartialEq, Eq, Drop, Error)]
+#[derive(Debug, Clone, Copy, PartialEq, Eq, Drop)]
 pub enum LexFault {
-    #[error("byte {place}: {kind}")]
     At { place: u32, kind: LexKind },
-    #[error("out of memory")]
     Memory,
 }
 

@@ -5,7 +5,7 @@ ghost use Rattle.aql_lex.specs.declared.faults.LexFault.{LexFault};
 ghost use Rattle.aql_lex.specs.Tokens.{IsUnsigned};
 ghost use Rattle.aql_lex.specs.Reading.{Lexes, Stops, HasOneReading};
 
-use crate::signs::first;
+use crate::characters::first_character;
 use crate::steps::{Step, take};
 use crate::{LexFault, Token, Tokens};
 use aql_value::OutOfMemory;
@@ -31,9 +31,9 @@ pub fn lex(alloc: Global, text: &str) -> Result<Tokens, LexFault>
 {
     let mut tokens = Tokens::new(alloc);
     let mut left = text;
-    while let Some((sign, inner)) = first(left) {
+    while let Some((character, inner)) = first_character(left) {
         let start = (text.len() - left.len()) as u32;
-        match take(alloc, left, sign, inner) {
+        match take(alloc, left, character, inner) {
             Ok(Step::Separator(rest)) => left = rest,
             Ok(Step::Token(kind, rest)) => {
                 let end = (text.len() - rest.len()) as u32;

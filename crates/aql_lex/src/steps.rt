@@ -1,20 +1,20 @@
 ghost use Rattle.std.specs.Prelude.{◌≡◌, ◌<◌, ◌∷◌, ◌++◌, true, false, length, IfOk, IfSome, IfNone};
 ghost use Rattle.std.specs.Prelude.{MatchOption, encode_utf8, IsUtf8};
 ghost use Rattle.aql_lex.specs.declared.vocabulary.Keyword.{Keyword};
-ghost use Rattle.aql_lex.specs.Signs.{begins, backtick, is_letter};
+ghost use Rattle.aql_lex.specs.Characters.{begins, backtick, is_letter};
 ghost use Rattle.aql_lex.specs.Numbers.{begins_digit};
-ghost use Rattle.aql_lex.specs.Vocabulary.{IsReserved};
-ghost use Rattle.aql_lex.specs.Steps.{Takes, Leaves, BeginsWithLongest, BeginsWithNone};
-ghost use Rattle.aql_lex.specs.Steps.{IsReservedBy, begins_comment, is_other, lines_of};
-ghost use Rattle.aql_lex.specs.Steps.{longer_first};
+ghost use Rattle.aql_lex.specs.Vocabulary.{name_of, IsReserved, spelling_of};
+ghost use Rattle.aql_lex.specs.Steps.{Takes, Leaves, begins_comment, is_other, lines_of};
+ghost use Rattle.aql_lex.specs.Steps.{IsTable, longer_first, NoSymbol, IsLongestSymbol};
 
-use crate::signs::{digits_len, is_blank, is_fraction, is_letter, is_quote, word_len};
+use crate::characters::{digits_len, is_blank, is_fraction, is_letter, is_quote, word_len};
 use crate::texts::text_step;
-use crate::{KEYWORDS, Keyword, LexKind, SYMBOLS, Symbol, TokenKind};
+use crate::vocabulary::{KEYWORDS, SYMBOLS};
+use crate::{Keyword, LexKind, Symbol, TokenKind};
 use aql_value::{OutOfMemory, Text};
 use std::alloc::Global;
 
-// What stands at the front of a text, and what is left behind it; of a fault, what is left from
+// What stands at the front of a text, and what is left after it; of a fault, what is left from
 // its place on.
 #[derive(Drop)]
 pub(crate) enum Step<'a> {
@@ -23,11 +23,11 @@ pub(crate) enum Step<'a> {
     Token(TokenKind, &'a str),
 }
 
-// The keyword that a word is by the lines of a table, in any letter case.
+// The keyword that a word is by the table of them, in any letter case.
 fn keyword_in(lines: &[(&str, Keyword)], word: &str) -> Option<Keyword>
-    ensures { MatchOption result
-        ((keyword : Keyword) → IsReservedBy (lines_of lines.now) word.now keyword → ⊥)
-        (IsReservedBy (lines_of lines.now) word.now) }
+    requires { IsTable name_of (lines_of lines.now) }
+    ensures { MatchOption result ((keyword : Keyword) → IsReserved word.now keyword → ⊥)
+        (IsReserved word.now) }
 {
     for (name, keyword) in lines {
         if name.eq_ignore_ascii_case(word) {
@@ -74,8 +74,8 @@ fn number<'a>(text: &'a str) -> Step<'a>
     }
 }
 
-// The quoted name behind a backtick.
-fn quoted<'a>(alloc: Global, text: &'a str, inner: &'a str) -> Result<Step<'a>, OutOfMemory>
+// The quoted name after a backtick.
+fn quoted_name<'a>(alloc: Global, text: &'a str, inner: &'a str) -> Result<Step<'a>, OutOfMemory>
     requires { text.now ≡ backtick ∷ inner.now }
     ensures takes { IfOk result (λ step. Takes text.now step) }
     ensures leaves { IfOk result (λ step. Leaves text.now step) }
@@ -109,11 +109,12 @@ fn comment<'a>(text: &'a str) -> Option<Step<'a>>
     }
 }
 
-// The longest spelling of a table at the front of a text, and what is left behind it.
+// The longest symbol at the front of a text by the table of them, and what is left after it.
 fn symbol_in<'a>(lines: &[(&str, Symbol)], text: &'a str) -> Option<(Symbol, &'a str)>
-    requires { longer_first (lines_of lines.now) ≡ true }
-    ensures longest { MatchOption result (BeginsWithNone (lines_of lines.now) text.now)
-        (λ p. BeginsWithLongest (lines_of lines.now) text.now p.0 p.1.now) }
+    requires table { IsTable spelling_of (lines_of lines.now) }
+    requires order { longer_first (lines_of lines.now) ≡ true }
+    ensures longest { MatchOption result (NoSymbol text.now)
+        (λ p. IsLongestSymbol text.now p.0 p.1.now) }
     ensures utf8 { IfSome result (λ p. IsUtf8 p.1.now) }
 {
     for (spelling, symbol) in lines {
@@ -157,7 +158,7 @@ pub(crate) fn take<'a>(
     } else if is_quote(first) {
         text_step(alloc, text, first, inner)
     } else if first == '`' {
-        quoted(alloc, text, inner)
+        quoted_name(alloc, text, inner)
     } else if let Some(step) = comment(text) {
         Ok(step)
     } else {

@@ -2,22 +2,22 @@ ghost use Rattle.std.specs.Prelude.{◌≡◌, ◌≤◌, ◌<◌, ◌∷◌, �
 ghost use Rattle.std.specs.Prelude.{IsUtf8, option_map, slice_index};
 ghost use Rattle.std.specs.Char.{digit_value};
 ghost use Rattle.std.specs.Char.Utf16.{is_high_surrogate};
-ghost use Rattle.aql_lex.specs.Signs.{is_quote};
-ghost use Rattle.aql_lex.specs.Texts.{sign_escape, code_unit, second_half, escape, unit_escape};
+ghost use Rattle.aql_lex.specs.Characters.{is_quote};
+ghost use Rattle.aql_lex.specs.Texts.{simple_escape, code_unit, second_half, escape, unicode_escape};
 ghost use Rattle.aql_lex.specs.Steps.{Takes, EndsInAscii, Leaves};
 ghost use Rattle.std.specs.Option.{SomeIff};
 
-use crate::signs::first;
+use crate::characters::first_character;
 use crate::steps::Step;
 use crate::{LexKind, TokenKind};
 use aql_value::{OutOfMemory, Text};
 use std::alloc::Global;
 
-fn sign_escape(sign: u8) -> Option<char>
-    ensures { result ≡ sign_escape sign }
+fn simple_escape(byte: u8) -> Option<char>
+    ensures { result ≡ simple_escape byte }
 {
-    match sign {
-        b'"' | b'\'' | b'/' | b'\\' => Some(char::from(sign)),
+    match byte {
+        b'"' | b'\'' | b'/' | b'\\' => Some(char::from(byte)),
         b'b' => Some('\u{8}'),
         b'f' => Some('\u{c}'),
         b'n' => Some('\n'),
@@ -27,11 +27,11 @@ fn sign_escape(sign: u8) -> Option<char>
     }
 }
 
-fn hexadecimal(sign: u8) -> Option<u32>
-    ensures value { SomeIff result (digit_value sign < 16) (digit_value sign) }
-    ensures ascii { IfSome result (λ n. (n < 16) × (sign < 128)) }
+fn hex_digit(byte: u8) -> Option<u32>
+    ensures value { SomeIff result (digit_value byte < 16) (digit_value byte) }
+    ensures ascii { IfSome result (λ n. (n < 16) × (byte < 128)) }
 {
-    char::from(sign).to_digit(16)
+    char::from(byte).to_digit(16)
 }
 
 // The number that four hexadecimal digits write.
@@ -42,15 +42,15 @@ fn code_unit(text: &[u8]) -> Option<u32>
 {
     match text {
         [a, b, c, d, ..] => {
-            let (a, b) = (hexadecimal(*a)?, hexadecimal(*b)?);
-            let (c, d) = (hexadecimal(*c)?, hexadecimal(*d)?);
+            let (a, b) = (hex_digit(*a)?, hex_digit(*b)?);
+            let (c, d) = (hex_digit(*c)?, hex_digit(*d)?);
             Some(((a * 16 + b) * 16 + c) * 16 + d)
         }
         _ => None,
     }
 }
 
-// Behind the first half of a pair of surrogates: the character of both halves, if the second half
+// After the first half of a pair of surrogates: the character of both halves, if the second half
 // stands here, in six bytes.
 fn second_half(first: u32, text: &[u8]) -> Option<char>
     requires { is_high_surrogate first ≡ true }
@@ -69,9 +69,9 @@ fn second_half(first: u32, text: &[u8]) -> Option<char>
     }
 }
 
-// Behind `\u`: the character, and in how many bytes it is written.
-fn unit_escape(text: &[u8]) -> Option<(char, usize)>
-    ensures value { unit_escape (code_unit text.now)
+// After `\u`: the character, and in how many bytes it is written.
+fn unicode_escape(text: &[u8]) -> Option<(char, usize)>
+    ensures value { unicode_escape (code_unit text.now)
         ≡ option_map (λ p. (p.0, drop p.1 text.now)) result }
     ensures ascii { IfSome result (λ p. EndsInAscii text.now p.1) }
 {
@@ -86,22 +86,22 @@ fn unit_escape(text: &[u8]) -> Option<(char, usize)>
     Some((second_half(unit, rest)?, 10))
 }
 
-// Behind a backslash: the character, and in how many bytes it is written.
+// After a backslash: the character, and in how many bytes it is written.
 fn escape_len(text: &[u8]) -> Option<(char, usize)>
     ensures value { escape text.now ≡ option_map (λ p. (p.0, drop p.1 text.now)) result }
     ensures ascii { IfSome result (λ p. EndsInAscii text.now p.1) }
 {
     match text {
         [b'u', unit @ ..] => {
-            let (character, len) = unit_escape(unit)?;
+            let (character, len) = unicode_escape(unit)?;
             Some((character, len + 1))
         }
-        [sign, ..] => Some((sign_escape(*sign)?, 1)),
+        [byte, ..] => Some((simple_escape(*byte)?, 1)),
         [] => None,
     }
 }
 
-// The character that is written behind a backslash, and what is left behind it.
+// The character that is written after a backslash, and what is left after it.
 fn escape(text: &str) -> Option<(char, &str)>
     ensures value { escape text.now ≡ option_map (λ p. (p.0, p.1.now)) result }
     ensures utf8 { IfSome result (λ p. IsUtf8 p.1.now) }
@@ -112,7 +112,7 @@ fn escape(text: &str) -> Option<(char, &str)>
     Some((character, rest))
 }
 
-// The text token or the fault behind an opening quote, which `text` begins with.
+// The text token or the fault after an opening quote, which `text` begins with.
 pub(crate) fn text_step<'a>(
     alloc: Global,
     text: &'a str,
@@ -126,7 +126,7 @@ pub(crate) fn text_step<'a>(
 {
     let mut value = String::new(alloc);
     let mut left = inner;
-    while let Some((character, after)) = first(left) {
+    while let Some((character, after)) = first_character(left) {
         if character == quote {
             let value = Text::new(alloc, value.as_str())?;
             return Ok(Step::Token(TokenKind::Text(value), after));

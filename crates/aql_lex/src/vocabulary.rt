@@ -40,7 +40,7 @@ pub enum Keyword {
     With,
 }
 
-/// A token of one or two signs (AQL fundamentals, Operators).
+/// A token of one or two characters (AQL fundamentals, Operators).
 #[derive(Debug, Clone, Copy, PartialEq, Eq)]
 pub enum Symbol {
     Equal,
@@ -72,8 +72,8 @@ pub enum Symbol {
     CloseBrace,
 }
 
-/// The keywords by their names, which a text may write in any letter case.
-pub const KEYWORDS: [(&str, Keyword); 37] = [
+// The keywords by their names, which a text may write in any letter case.
+pub(crate) const KEYWORDS: [(&str, Keyword); 37] = [
     ("AGGREGATE", Keyword::Aggregate),
     ("ALL", Keyword::All),
     ("ALL_SHORTEST_PATHS", Keyword::AllShortestPaths),
@@ -113,8 +113,8 @@ pub const KEYWORDS: [(&str, Keyword); 37] = [
     ("WITH", Keyword::With),
 ];
 
-/// The symbols by their spellings, the longer ones first.
-pub const SYMBOLS: [(&str, Symbol); 27] = [
+// The symbols by their spellings, the longer ones first.
+pub(crate) const SYMBOLS: [(&str, Symbol); 27] = [
     ("==", Symbol::Equal),
     ("!=", Symbol::NotEqual),
     ("<=", Symbol::LessOrEqual),

@@ -6,8 +6,8 @@ use denote.Shadow.{shadow}
 use Rattle.aql_lex.proofs.Readings.{Continues}
 use Rattle.aql_lex.proofs.reading.lex.Given as goal
 
-abbrev pub invariant-loop-sign : goal.invariant-loop-sign
-invariant-loop-sign l = record {
+abbrev pub invariant-loop-character : goal.invariant-loop-character
+invariant-loop-character l = record {
   utf8 : shadow (Utf8 l.left);
   within : length l.left ≤ length l.text;
   few : length l.tokens + length l.left ≤ length l.text;
@@ -15,5 +15,5 @@ invariant-loop-sign l = record {
   so_far : Continues l.text l.tokens l.left;
 }
 
-abbrev pub decreases-loop-sign : goal.decreases-loop-sign
-decreases-loop-sign l = length l.left
+abbrev pub decreases-loop-character : goal.decreases-loop-character
+decreases-loop-character l = length l.left

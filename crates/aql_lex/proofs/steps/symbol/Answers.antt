@@ -1,18 +1,18 @@
-use Rattle.aql_lex.proofs.Words.{symbol_shortens}
+use Rattle.aql_lex.proofs.Words.{symbol_table, symbol_shortens}
 use Rattle.aql_lex.proofs.Names.{symbol_takes, no_symbol_takes}
 use Rattle.aql_lex.proofs.steps.symbol.Goals as goal
 
+pub symbol_in-requires-clause-table : goal.symbol_in-requires-clause-table
+symbol_in-requires-clause-table c = symbol_table
+
 pub returns-in-Some-clause-takes : goal.returns-in-Some-clause-takes
 returns-in-Some-clause-takes c =
-    let l = c.in-Some.ensures.longest in
-    symbol_takes c.args.text.now c.requires.other c.requires.no_comment _ l.0 _ l.1.0 l.1.1
-    (λ other word behind is e. l.1.2 word behind other is e)
+    symbol_takes c.args.text.now c.requires.other c.requires.no_comment _ _ c.in-Some.ensures.longest
 
 pub returns-in-Some-clause-leaves : goal.returns-in-Some-clause-leaves
 returns-in-Some-clause-leaves c =
-    let l = c.in-Some.ensures.longest in (c.in-Some.ensures.utf8, symbol_shortens _ l.0 _ _ l.1.0 l.1.1)
+    (c.in-Some.ensures.utf8, symbol_shortens _ _ _ c.in-Some.ensures.longest.stands)
 
 pub returns-in-None-clause-takes : goal.returns-in-None-clause-takes
 returns-in-None-clause-takes c =
-    no_symbol_takes c.args.text.now c.requires.other c.requires.no_comment
-    (λ symbol spelling rest is e. c.in-None.ensures.longest spelling rest symbol is e)
+    no_symbol_takes c.args.text.now c.requires.other c.requires.no_comment c.in-None.ensures.longest

@@ -1,7 +1,7 @@
 use Rattle.std.proofs.Common.{sym, ap, ◌∙◌, subst}
 use Rattle.std.specs.List.{prefix_len}
 use Rattle.aql_lex.specs.declared.kinds.TokenKind.TheVariants as k
-use Rattle.aql_lex.specs.Signs.{is_word_part}
+use Rattle.aql_lex.specs.Characters.{is_word_part}
 use Rattle.aql_lex.specs.Tokens.{IsToken}
 use Rattle.aql_lex.proofs.Runs.{cut_is_run}
 use Rattle.aql_lex.proofs.Cuts.{word_boundary}

@@ -1,7 +1,7 @@
 use Rattle.std.proofs.Common.{◌≡◌, ◌<◌, ◌∷◌, ◌++◌, ℕ, List, true, ap, ◌∙◌, subst, arith}
 use Rattle.std.specs.Prelude.{string_bytes, encode_utf8}
 use Rattle.std.proofs.lemmas.Bool.Decides.{nat_tests}
-use Rattle.aql_lex.specs.Signs.{backslash, is_quote}
+use Rattle.aql_lex.specs.Characters.{backslash, is_quote}
 use Rattle.aql_lex.specs.Texts.{Writes}
 use Rattle.aql_lex.proofs.Quotes.{Continues, continues_here, goes_plain, goes_escaped, ascii_front}
 use Rattle.aql_lex.proofs.Quotes.{text_takes, open_text_takes, bad_escape_takes}

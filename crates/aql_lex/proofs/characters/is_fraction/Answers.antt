@@ -1,5 +1,5 @@
 use Rattle.std.proofs.Common.{rules}
-use Rattle.aql_lex.proofs.signs.is_fraction.Goals as goal
+use Rattle.aql_lex.proofs.characters.is_fraction.Goals as goal
 
 pub returns-in_default-3 : goal.returns-in_default-3
 returns-in_default-3 c = search rules

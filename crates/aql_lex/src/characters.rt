@@ -2,31 +2,31 @@ ghost use Rattle.std.specs.Prelude.{◌≡◌, ◌<◌, ◌++◌, [], MatchOptio
 ghost use Rattle.std.specs.Prelude.{length, encode_utf8, ◌≤◌};
 ghost use Rattle.std.specs.List.{prefix_len};
 ghost use Rattle.std.specs.Char.{is_ascii_digit};
-ghost use Rattle.aql_lex.specs.Signs.{is_blank, is_letter, is_word_part, is_quote};
+ghost use Rattle.aql_lex.specs.Characters.{is_blank, is_letter, is_word_part, is_quote};
 ghost use Rattle.aql_lex.specs.Numbers.{is_fraction, begins_digit};
 
-pub(crate) fn is_blank(sign: char) -> bool
-    ensures { result ≡ is_blank sign }
+pub(crate) fn is_blank(character: char) -> bool
+    ensures { result ≡ is_blank character }
 {
-    matches!(sign, ' ' | '\t' | '\r' | '\n')
+    matches!(character, ' ' | '\t' | '\r' | '\n')
 }
 
-pub(crate) fn is_letter(sign: char) -> bool
-    ensures { result ≡ is_letter sign }
+pub(crate) fn is_letter(character: char) -> bool
+    ensures { result ≡ is_letter character }
 {
-    sign.is_ascii_alphabetic() || sign == '_'
+    character.is_ascii_alphabetic() || character == '_'
 }
 
-pub(crate) fn is_quote(sign: char) -> bool
-    ensures { result ≡ is_quote sign }
+pub(crate) fn is_quote(character: char) -> bool
+    ensures { result ≡ is_quote character }
 {
-    sign == '"' || sign == '\''
+    character == '"' || character == '\''
 }
 
-fn is_word_part(sign: u8) -> bool
-    ensures { result ≡ is_word_part sign }
+fn is_word_part(byte: u8) -> bool
+    ensures { result ≡ is_word_part byte }
 {
-    sign.is_ascii_alphabetic() || sign == b'_' || sign.is_ascii_digit()
+    byte.is_ascii_alphanumeric() || byte == b'_'
 }
 
 // How many bytes at the front belong to a word.
@@ -34,7 +34,7 @@ pub(crate) fn word_len(text: &[u8]) -> usize
     ensures value { result ≡ prefix_len is_word_part text.now }
     ensures within { result ≤ length text.now }
 {
-    text.iter().take_while(|sign| is_word_part(**sign)).count()
+    text.iter().take_while(|byte| is_word_part(**byte)).count()
 }
 
 // How many digits stand at the front.
@@ -42,7 +42,7 @@ pub(crate) fn digits_len(text: &[u8]) -> usize
     ensures value { result ≡ prefix_len is_ascii_digit text.now }
     ensures within { result ≤ length text.now }
 {
-    text.iter().take_while(|sign| sign.is_ascii_digit()).count()
+    text.iter().take_while(|byte| byte.is_ascii_digit()).count()
 }
 
 fn begins_digit(text: &[u8]) -> bool
@@ -54,11 +54,11 @@ fn begins_digit(text: &[u8]) -> bool
     }
 }
 
-// Whether what stands behind digits makes them a number with a fraction or an exponent.
-pub(crate) fn is_fraction(behind: &[u8]) -> bool
-    ensures { result ≡ is_fraction behind.now }
+// Whether what stands after digits makes them a number with a fraction or an exponent.
+pub(crate) fn is_fraction(after: &[u8]) -> bool
+    ensures { result ≡ is_fraction after.now }
 {
-    match behind {
+    match after {
         [b'.', digits @ ..] => begins_digit(digits),
         [b'e' | b'E', b'+' | b'-', digits @ ..] => begins_digit(digits),
         [b'e' | b'E', digits @ ..] => begins_digit(digits),
@@ -66,8 +66,8 @@ pub(crate) fn is_fraction(behind: &[u8]) -> bool
     }
 }
 
-// The first character, and what stands behind it.
-pub(crate) fn first(text: &str) -> Option<(char, &str)>
+// The first character, and what stands after it.
+pub(crate) fn first_character(text: &str) -> Option<(char, &str)>
     ensures split { MatchOption result (text.now ≡ [])
         (λ p. text.now ≡ encode_utf8 p.0 ++ p.1.now) }
     ensures utf8 { IfSome result (λ p. IsUtf8 p.1.now) }

@@ -2,7 +2,7 @@ use Rattle.std.proofs.Common.{◌≡◌, ◌<◌, ◌≤◌, ℕ, true, arith}
 use Rattle.std.specs.Char.Utf16.{is_high_surrogate}
 use Rattle.std.proofs.lemmas.Bool.Decides.{nat_tests}
 use Rattle.aql_lex.proofs.Quotes.{pair_gives}
-use Rattle.aql_lex.proofs.texts.unit_escape.Goals as goal
+use Rattle.aql_lex.proofs.texts.unicode_escape.Goals as goal
 
 is_high : (unit : ℕ) → 55296 ≤ unit → unit < 56320 → is_high_surrogate unit ≡ true
 is_high unit low high = grind (arith, nat_tests)
