@@ -15,7 +15,7 @@ use Rattle.aql_lex.specs.Tokens.{Separates, IsToken}
 use Rattle.aql_lex.specs.Faults.{Breaks}
 use Rattle.aql_lex.specs.Steps.{begins_comment, is_other}
 use Rattle.aql_lex.proofs.Runs.{and_left}
-use Rattle.aql_lex.proofs.Words.{symbol_begins}
+use Rattle.aql_lex.proofs.Spellings.{symbol_begins}
 
 pub data Class : Type 0 where
   blank : Class
@@ -103,7 +103,8 @@ pub digits_front : (digits rest : List ℕ) → are_digits digits ≡ true → f
 digits_front [] rest h = absurd (cc)
 digits_front (b ∷ more) rest h = class-digit b (and_left (is_ascii_digit b) _ h)
 
-pub other_front : (spelling rest : List ℕ) → begins is_other spelling ≡ true → front (spelling ++ rest) ≡ other
+pub other_front : (spelling rest : List ℕ) → begins is_other spelling ≡ true
+    → front (spelling ++ rest) ≡ other
 other_front [] rest h = absurd (cc)
 other_front (b ∷ more) rest h = class-other b h
 

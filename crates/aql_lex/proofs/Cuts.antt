@@ -1,11 +1,11 @@
 -- What the code cuts off a text.
 use Rattle.std.proofs.Common.{◌≡◌, ◌≢◌, ℕ, zero, suc, ◌+◌, ◌<◌, ◌≤◌, Bool, true, false, List, [], ◌∷◌, ◌++◌}
-use Rattle.std.proofs.Common.{length, get_or, drop, map, refl, sym, ap, ◌∙◌, subst, arith}
+use Rattle.std.proofs.Common.{length, get_or, drop, refl, sym, ap, ◌∙◌, subst, arith}
 use Rattle.std.proofs.Common.{length-append, ⊎_elim, ◌⊎◌, inl, inr}
 use Rattle.std.specs.Prelude.{◌==◌, encode_utf8, IsUtf8}
 use Rattle.std.specs.Str.{IsCharBoundary}
 use Rattle.std.specs.Str.Pattern.{LacksTextAt}
-use Rattle.std.specs.Char.{is_ascii_digit, to_ascii_lowercase}
+use Rattle.std.specs.Char.{is_ascii_digit}
 use Rattle.std.specs.List.{prefix_len}
 use Rattle.std.proofs.Math.Seq.{drop-append_seam}
 use Rattle.std.proofs.lemmas.Bool.Decides.{nat_tests, leb_tells}
@@ -17,7 +17,7 @@ use Rattle.aql_lex.specs.Tokens.{ClosesFirst, Separates}
 use Rattle.aql_lex.specs.Steps.{is_other}
 use Rattle.aql_lex.proofs.Quotes.{ascii_front}
 
--- a text may be cut behind a run of ASCII
+-- a text may be cut after a run of ASCII
 run_boundary : (p : ℕ → Bool) → ((b : ℕ) → p b ≡ true → b < 128) → (text : List ℕ) (n : ℕ) → IsUtf8 text
     → n ≡ prefix_len p text → IsCharBoundary text n
 run_boundary p ascii text zero u e = IsCharBoundary-start text u

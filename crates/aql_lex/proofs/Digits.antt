@@ -29,16 +29,10 @@ pub digit_token : (kind : TokenKind) (text rest : List ℕ) → IsToken kind tex
     → (digits : List ℕ)
     × ((are_digits digits ≡ true) × (value_of digits ≤ largest) × (kind ≡ k.Number (pos (value_of digits)))
     × (text ≡ digits ++ rest))
-digit_token (k.Word word) text rest t h = let here = token_front (k.Word word) text rest t in absurd (cc)
-digit_token (k.Keyword keyword) text rest t h =
-    let here = token_front (k.Keyword keyword) text rest t in absurd (cc)
-digit_token (k.Quoted name) text rest t h = let here = token_front (k.Quoted name) text rest t in absurd (cc)
 digit_token (k.Number number) text rest t h = (t.0, (t.1.0, t.1.1, ap k.Number t.1.2, t.1.3))
-digit_token (k.Text value) text rest t h = let here = token_front (k.Text value) text rest t in absurd (cc)
-digit_token (k.Symbol symbol) text rest t h =
-    let here = token_front (k.Symbol symbol) text rest t in absurd (cc)
+digit_token kind text rest t h = let here = token_front kind text rest t in absurd (cc)
 
--- what behind digits makes them a fraction is no digit
+-- what after digits makes them a fraction is no digit
 fraction_stops : (rest : List ℕ) → is_fraction rest ≡ true → begins_digit rest ≡ false
 fraction_stops [] h = refl
 fraction_stops (b ∷ rest) h = by_byte b (begins_digit rest) (begins_signed rest) h
@@ -47,7 +41,7 @@ fraction_stops (b ∷ rest) h = by_byte b (begins_digit rest) (begins_signed res
         → is_ascii_digit b ≡ false
     by_byte b t u h = grind (arith, nat_tests)
 
--- the listed fault of these digits, which the rest is behind
+-- the listed fault of these digits, which the rest is after
 abbrev pub DigitFault : LexKind → List ℕ → List ℕ → Type 0
 DigitFault kind digits rest =
     ((kind ≡ f.Fraction) × (is_fraction rest ≡ true))
@@ -61,7 +55,8 @@ pub digit_breaks : (kind : LexKind) (text at : List ℕ) → Breaks kind text at
 digit_breaks kind text at (Breaks.open_text {quote = q} h w) e = let here = class-quote q h in absurd (cc)
 digit_breaks kind text at (Breaks.open_name name none) e = let here = class-tick in absurd (cc)
 digit_breaks kind text at (Breaks.open_comment unclosed) e = let here = class-slash in absurd (cc)
-digit_breaks kind text at (Breaks.bad_escape {quote = q} h w bad) e = let here = class-quote q h in absurd (cc)
+digit_breaks kind text at (Breaks.bad_escape {quote = q} h w bad) e =
+    let here = class-quote q h in absurd (cc)
 digit_breaks kind text at (Breaks.fraction digits rest h tail) e =
     (digits, (rest, (h, fraction_stops rest tail, refl, refl, inl (refl, tail))))
 digit_breaks kind text at (Breaks.too_large digits rest h stop whole large) e =
@@ -115,9 +110,9 @@ module _ (text run rest : List ℕ) (h : begins_digit text ≡ true) (cut : IsRu
               u.1.1.4),
           record {
             stands = t;
-            longest = λ other behind t.
-                let u = digit_token other text behind t digit_first in
-                run_longest is_ascii_digit run u.0 rest behind (sym cut.splits ∙ u.1.3) (all_digits u.0 u.1.0)
+            longest = λ other after t.
+                let u = digit_token other text after t digit_first in
+                run_longest is_ascii_digit run u.0 rest after (sym cut.splits ∙ u.1.3) (all_digits u.0 u.1.0)
                 cut.stops;
           },
         )

@@ -1,6 +1,7 @@
 pub mod Runs
 pub mod Tables
-pub mod Words
+pub mod Spellings
+pub mod CodeTables
 pub mod Classes
 pub mod Separators
 pub mod Names

@@ -1,6 +1,6 @@
 -- Words, quoted names and symbols.
-use Rattle.std.proofs.Common.{◌≡◌, ◌≢◌, ℕ, ◌<◌, ◌≤◌, true, false, List, [], ◌∷◌, ◌++◌}
-use Rattle.std.proofs.Common.{length, refl, sym, ap, ◌∙◌, subst, arith, length-append, ⊎_elim}
+use Rattle.std.proofs.Common.{◌≡◌, ◌≢◌, ℕ, ◌<◌, true, false, List, [], ◌∷◌, ◌++◌}
+use Rattle.std.proofs.Common.{length, refl, sym, ap, ◌∙◌, subst, arith, ⊎_elim}
 use Rattle.std.specs.Prelude.{All}
 use Rattle.std.specs.List.{list_all}
 use Rattle.std.proofs.lemmas.List.Elements.{All-nil}
@@ -33,12 +33,7 @@ pub letter_token : (kind : TokenKind) (text rest : List ℕ) → IsToken kind te
     → (word : List ℕ) × ((is_word word ≡ true) × (text ≡ word ++ rest))
 letter_token (k.Word word) text rest t h = (word, (t.0, t.2))
 letter_token (k.Keyword keyword) text rest t h = (t.0, (t.1.0, t.1.2))
-letter_token (k.Quoted name) text rest t h = let here = token_front (k.Quoted name) text rest t in absurd (cc)
-letter_token (k.Number number) text rest t h =
-    let here = token_front (k.Number number) text rest t in absurd (cc)
-letter_token (k.Text value) text rest t h = let here = token_front (k.Text value) text rest t in absurd (cc)
-letter_token (k.Symbol symbol) text rest t h =
-    let here = token_front (k.Symbol symbol) text rest t in absurd (cc)
+letter_token kind text rest t h = let here = token_front kind text rest t in absurd (cc)
 
 pub run_is_word : (text run rest : List ℕ) → begins is_letter text ≡ true → IsRun is_word_part text run rest
     → is_word run ≡ true
@@ -66,9 +61,9 @@ word_takes kind text run rest h cut t =
           (λ e. let at = comment_front text e in absurd (cc))),
       record {
         stands = t;
-        longest = λ other behind u.
-            let w = letter_token other text behind u first in
-            run_longest is_word_part run w.0 rest behind (sym cut.splits ∙ w.1.1) (word_parts w.0 w.1.0)
+        longest = λ other after u.
+            let w = letter_token other text after u first in
+            run_longest is_word_part run w.0 rest after (sym cut.splits ∙ w.1.1) (word_parts w.0 w.1.0)
             cut.stops;
       },
     )
@@ -79,13 +74,8 @@ pub tick_token : (kind : TokenKind) (text rest : List ℕ) → IsToken kind text
     → (name : List ℕ)
     × ((kind ≡ k.Quoted name) × (0 < length name) × All (λ b. b ≢ backtick) name
     × (text ≡ backtick ∷ name ++ backtick ∷ rest))
-tick_token (k.Word word) text rest t h = let here = token_front (k.Word word) text rest t in absurd (cc)
-tick_token (k.Keyword keyword) text rest t h =
-    let here = token_front (k.Keyword keyword) text rest t in absurd (cc)
 tick_token (k.Quoted name) text rest t h = (name, (refl, t.0, t.1, t.2))
-tick_token (k.Number number) text rest t h = let here = token_front (k.Number number) text rest t in absurd (cc)
-tick_token (k.Text value) text rest t h = let here = token_front (k.Text value) text rest t in absurd (cc)
-tick_token (k.Symbol symbol) text rest t h = let here = token_front (k.Symbol symbol) text rest t in absurd (cc)
+tick_token kind text rest t h = let here = token_front kind text rest t in absurd (cc)
 
 pub tick_breaks : (kind : LexKind) (text at : List ℕ) → Breaks kind text at → front text ≡ tick
     → (name : List ℕ)
@@ -120,11 +110,11 @@ quoted_takes text inner name rest e splits none some =
           no_split backtick u.0 name rest (same ∙ splits) u.1.1),
       record {
         stands = t;
-        longest = λ other behind t.
-            let u = tick_token other text behind t first in
-            let same : u.0 ++ backtick ∷ behind ≡ inner =
-            let both : backtick ∷ u.0 ++ backtick ∷ behind ≡ backtick ∷ inner = sym u.1.3 ∙ e in cc in
-            let ends = (one_split backtick name u.0 rest behind (sym splits ∙ sym same) none u.1.2).1 in
+        longest = λ other after t.
+            let u = tick_token other text after t first in
+            let same : u.0 ++ backtick ∷ after ≡ inner =
+            let both : backtick ∷ u.0 ++ backtick ∷ after ≡ backtick ∷ inner = sym u.1.3 ∙ e in cc in
+            let ends = (one_split backtick name u.0 rest after (sym splits ∙ sym same) none u.1.2).1 in
             let long = ap length ends in omega arith;
       },
     )
@@ -136,12 +126,12 @@ empty_name_takes text inner rest e splits =
       tick_no_separator text inner e,
       subst (λ q. Faults f.BadChar q q) (sym e)
           (Faults.bad_char
-          (λ other behind t.
-          let u = tick_token other (backtick ∷ inner) behind t class-tick in
-          let same : u.0 ++ backtick ∷ behind ≡ inner =
-          let both : backtick ∷ u.0 ++ backtick ∷ behind ≡ backtick ∷ inner = sym u.1.3 in cc in
+          (λ other after t.
+          let u = tick_token other (backtick ∷ inner) after t class-tick in
+          let same : u.0 ++ backtick ∷ after ≡ inner =
+          let both : backtick ∷ u.0 ++ backtick ∷ after ≡ backtick ∷ inner = sym u.1.3 in cc in
           let none =
-          (one_split backtick [] u.0 rest behind (sym splits ∙ sym same) (All-nil (λ b. b ≢ backtick))
+          (one_split backtick [] u.0 rest after (sym splits ∙ sym same) (All-nil (λ b. b ≢ backtick))
           u.1.2).0 in
           let long = ap length none in let some = u.1.1 in absurd (omega arith))
           (λ fault at b.
@@ -192,14 +182,8 @@ open_comment_takes text inner e none = (
 
 pub other_token : (kind : TokenKind) (text rest : List ℕ) → IsToken kind text rest → front text ≡ other
     → (symbol : Symbol) × ((kind ≡ k.Symbol symbol) × (text ≡ spelling_of symbol ++ rest))
-other_token (k.Word word) text rest t h = let here = token_front (k.Word word) text rest t in absurd (cc)
-other_token (k.Keyword keyword) text rest t h =
-    let here = token_front (k.Keyword keyword) text rest t in absurd (cc)
-other_token (k.Quoted name) text rest t h = let here = token_front (k.Quoted name) text rest t in absurd (cc)
-other_token (k.Number number) text rest t h =
-    let here = token_front (k.Number number) text rest t in absurd (cc)
-other_token (k.Text value) text rest t h = let here = token_front (k.Text value) text rest t in absurd (cc)
 other_token (k.Symbol symbol) text rest t h = (symbol, (refl, t))
+other_token kind text rest t h = let here = token_front kind text rest t in absurd (cc)
 
 module _ (text : List ℕ) (h : begins is_other text ≡ true) (plain : begins_comment text ≡ false) where
   other_first : front text ≡ other

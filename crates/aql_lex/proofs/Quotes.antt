@@ -44,7 +44,7 @@ ascii_boundary text n u ends =
 
 -- ---- what texts write
 
--- behind an opening quote nothing more is written: the end, the closing quote, or a backslash that begins no
+-- after an opening quote nothing more is written: the end, the closing quote, or a backslash that begins no
 -- escape
 abbrev pub Halts : ℕ → List ℕ → Type 0
 Halts q [] = Unit {0}
@@ -82,8 +82,8 @@ one_writing q h text same v w r s e (Writes.plain {b = b} {text = t} g i more) W
 one_writing q h text same v w r s e (Writes.plain {b = b} {text = t} {value = x} g i more)
     (Writes.plain {b = c} {text = u} {value = y} j l again) stop end =
     let first : b ≡ c = cc in
-    let behind : t ≡ u = cc in
-    let rest = one_writing q h t u x y r s behind more again stop end in
+    let after : t ≡ u = cc in
+    let rest = one_writing q h t u x y r s after more again stop end in
     (λ k. first k ∷ rest.0 k, rest.1)
 one_writing q h text same v w r s e (Writes.plain {b = b} g i more) (Writes.escaped j again) stop end =
     let first : b ≡ backslash = cc in absurd (eq_test b backslash first i)
@@ -94,8 +94,8 @@ one_writing q h text same v w r s e (Writes.escaped j again) (Writes.plain {b = 
 one_writing q h text same v w r s e
     (Writes.escaped {character = c} {text = t} {after = a} {value = x} g more)
     (Writes.escaped {character = d} {text = u} {after = b} {value = y} i again) stop end =
-    let behind : t ≡ u = cc in
-    let pair = same_pair (c, a) (d, b) (sym g ∙ ap escape behind ∙ i) in
+    let after : t ≡ u = cc in
+    let pair = same_pair (c, a) (d, b) (sym g ∙ ap escape after ∙ i) in
     let rest = one_writing q h a b x y r s pair.1 more again stop end in
     (λ k. encode_utf8 (pair.0 k) ++ rest.0 k, rest.1)
 
@@ -107,15 +107,8 @@ pub quote_token : (kind : TokenKind) (text rest : List ℕ) → IsToken kind tex
     × ((inner : List ℕ)
     × ((kind ≡ k.Text value) × (is_quote q ≡ true) × Writes q inner value (q ∷ rest)
     × (text ≡ q ∷ inner))))
-quote_token (k.Word word) text rest t h = let here = token_front (k.Word word) text rest t in absurd (cc)
-quote_token (k.Keyword keyword) text rest t h =
-    let here = token_front (k.Keyword keyword) text rest t in absurd (cc)
-quote_token (k.Quoted name) text rest t h = let here = token_front (k.Quoted name) text rest t in absurd (cc)
-quote_token (k.Number number) text rest t h =
-    let here = token_front (k.Number number) text rest t in absurd (cc)
 quote_token (k.Text value) text rest t h = (value, (t.0, (t.1.0, (refl, t.1.1.0, t.1.1.1, t.1.1.2))))
-quote_token (k.Symbol symbol) text rest t h =
-    let here = token_front (k.Symbol symbol) text rest t in absurd (cc)
+quote_token kind text rest t h = let here = token_front kind text rest t in absurd (cc)
 
 -- the listed fault of a text that is written up to here
 abbrev pub QuoteFault : LexKind → List ℕ → List ℕ → List ℕ → Type 0
@@ -142,7 +135,8 @@ quote_breaks kind text at (Breaks.fraction digits rest h tail) e =
 quote_breaks kind text at (Breaks.too_large digits rest h stop whole large) e =
     let here = digits_front digits rest h in absurd (cc)
 
-pub fault_halts : (kind : LexKind) (q : ℕ) (text stop at : List ℕ) → QuoteFault kind text stop at → Halts q stop
+pub fault_halts : (kind : LexKind) (q : ℕ) (text stop at : List ℕ) → QuoteFault kind text stop at
+    → Halts q stop
 fault_halts kind q text stop at (inl u) = subst (Halts q) (sym u.1) tt
 fault_halts kind q text stop at (inr u) = subst (Halts q) (sym u.1.1) (inr (refl, u.1.2))
 
@@ -174,14 +168,14 @@ module _ (q : ℕ) (text inner : List ℕ) (h : is_quote q ≡ true) (e : text �
             no_closing fault text u.1.1.1.0 at rest (sym stops) u.1.1.1.1.3),
         record {
           stands = t;
-          longest = λ other behind t.
-              let u = quote_token other text behind t quote_first in
+          longest = λ other after t.
+              let u = quote_token other text after t quote_first in
               let same = same_text u.1.0 u.1.1.0 u.1.1.1.3 in
-              let again : Writes q inner u.0 (q ∷ behind) =
-              subst (λ x. Writes q x u.0 (q ∷ behind)) same.1
-              (subst (λ p. Writes p u.1.1.0 u.0 (p ∷ behind)) same.0 u.1.1.1.2) in
+              let again : Writes q inner u.0 (q ∷ after) =
+              subst (λ x. Writes q x u.0 (q ∷ after)) same.1
+              (subst (λ p. Writes p u.1.1.0 u.0 (p ∷ after)) same.0 u.1.1.1.2) in
               let stops =
-              (one_writing q h inner inner value u.0 (q ∷ rest) (q ∷ behind) refl w again (inl refl)
+              (one_writing q h inner inner value u.0 (q ∷ rest) (q ∷ after) refl w again (inl refl)
               (inl refl)).1 in
               let long = ap length stops in omega arith;
         },
@@ -212,12 +206,13 @@ module _ (q : ℕ) (text inner : List ℕ) (h : is_quote q ≡ true) (e : text �
 
 -- ---- the loop over a text's characters
 
--- what is written from here on is written behind this value
+-- what is written from here on is written after this value
 abbrev pub Continues : ℕ → List ℕ → List ℕ → List ℕ → Type 0
 Continues q text value left = (more rest : List ℕ) → Writes q left more rest
     → Writes q text (value ++ more) rest
 
-pub continues_here : (q : ℕ) (text value left : List ℕ) → Continues q text value left → Writes q text value left
+pub continues_here : (q : ℕ) (text value left : List ℕ) → Continues q text value left
+    → Writes q text value left
 continues_here q text value left so_far =
     subst (λ v. Writes q text v left) (append-nil value) (so_far [] left Writes.nothing)
 
@@ -257,10 +252,10 @@ goes_plain q c text value new left after h other plain so_far e is more rest w =
     (so_far (encode_utf8 c ++ more) rest
     (subst (λ l. Writes q l (encode_utf8 c ++ more) rest) (sym e) run))
 
-pub goes_escaped : (q c : ℕ) (text value new left after behind : List ℕ) → Continues q text value left
-    → left ≡ backslash ∷ after → escape after ≡ Some (c, behind) → new ≡ value ++ encode_utf8 c
-    → Continues q text new behind
-goes_escaped q c text value new left after behind so_far e h is more rest w =
+pub goes_escaped : (q c : ℕ) (text value new left after next : List ℕ) → Continues q text value left
+    → left ≡ backslash ∷ after → escape after ≡ Some (c, next) → new ≡ value ++ encode_utf8 c
+    → Continues q text new next
+goes_escaped q c text value new left after next so_far e h is more rest w =
     subst (λ v. Writes q text v rest)
     (sym (ap (λ v. v ++ more) is ∙ append_assoc value (encode_utf8 c) more))
     (so_far (encode_utf8 c ++ more) rest

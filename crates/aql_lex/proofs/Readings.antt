@@ -22,7 +22,7 @@ use Rattle.aql_lex.specs.Faults.{Breaks, Faults}
 use Rattle.aql_lex.specs.Reading.{NoSeparator, NoFault, IsLongest, Reads, Lexes, Stops}
 use Rattle.aql_lex.specs.Steps.{begins_comment, is_other}
 use Rattle.aql_lex.proofs.Runs.{one_split, one_end, one_run}
-use Rattle.aql_lex.proofs.Words.{one_keyword, one_symbol, symbol_begins}
+use Rattle.aql_lex.proofs.Spellings.{one_keyword, one_symbol, symbol_begins}
 use Rattle.aql_lex.proofs.Classes.{Class, front, digits_front, class-quote, class-tick, comment_front}
 use Rattle.aql_lex.proofs.Classes.{token_front, breaks_front}
 use Rattle.aql_lex.proofs.Separators.{one_separator}
@@ -32,7 +32,7 @@ use Rattle.aql_lex.proofs.Quotes.{one_writing, quote_breaks, QuoteFault, fault_h
 
 -- ---- one token
 
--- tokens that leave as much behind them are one
+-- tokens that leave as much after them are one
 one_kind : (a b : TokenKind) (text rest more : List ℕ) → IsToken a text rest → IsToken b text more
     → length rest ≡ length more → (a ≡ b) × (rest ≡ more)
 one_kind (k.Word w) (k.Word v) text rest more t u long =
@@ -167,7 +167,8 @@ end_token (k.Symbol symbol) text rest e t = nothing (spelling_of symbol) (sym t 
     nothing : (spelling : List ℕ) → spelling ++ rest ≡ [] → begins is_other spelling ≡ true → ⊥
     nothing [] g h = absurd (cc)
     nothing (b ∷ more) g h = absurd (cc)
-end_token kind text rest e t = let here = token_front kind text rest t in let there = ap front e in absurd (cc)
+end_token kind text rest e t =
+    let here = token_front kind text rest t in let there = ap front e in absurd (cc)
 
 end_fault : (kind : LexKind) (text at : List ℕ) → text ≡ [] → Faults kind text at → ⊥
 end_fault kind text at e (Faults.breaks s) = by_front (breaks_front kind text at s)
@@ -225,7 +226,7 @@ one_reading size text same ts us a b e (Reads.token {rest = r} {kind = p} {token
 
 -- ---- the loop
 
--- the readings from here on are readings of the whole, behind these tokens
+-- the readings from here on are readings of the whole, after these tokens
 abbrev pub Continues : List ℕ → List Token → List ℕ → Type 0
 Continues text tokens left = (ts : List Token) (end : Option (ℕ × LexKind))
     → Reads (length text) left ts end → Reads (length text) text (tokens ++ ts) end

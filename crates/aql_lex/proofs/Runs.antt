@@ -44,18 +44,18 @@ longest_run_stops p (b ∷ text) = by_test (p b) refl (longest_run_stops p text)
     by_test false e more = rw e e
 
 -- no run at the front leaves less than the longest
-pub run_longest : (p : ℕ → Bool) (run other rest behind : List ℕ) → run ++ rest ≡ other ++ behind
-    → list_all p other ≡ true → begins p rest ≡ false → length rest ≤ length behind
-run_longest p [] [] rest behind e all stop = let long = ap length e in omega arith
-run_longest p [] (y ∷ other) rest behind e all stop =
+pub run_longest : (p : ℕ → Bool) (run other rest after : List ℕ) → run ++ rest ≡ other ++ after
+    → list_all p other ≡ true → begins p rest ≡ false → length rest ≤ length after
+run_longest p [] [] rest after e all stop = let long = ap length e in omega arith
+run_longest p [] (y ∷ other) rest after e all stop =
     let here = and_left (p y) _ all in let first = ap (begins p) e in absurd (cc)
-run_longest p (x ∷ run) [] rest behind e all stop =
+run_longest p (x ∷ run) [] rest after e all stop =
     let long = ap length e in let sum = length-append run rest in omega arith
-run_longest p (x ∷ run) (y ∷ other) rest behind e all stop =
-    let more : run ++ rest ≡ other ++ behind = cc in
-    run_longest p run other rest behind more (and_right (p y) _ all) stop
+run_longest p (x ∷ run) (y ∷ other) rest after e all stop =
+    let more : run ++ rest ≡ other ++ after = cc in
+    run_longest p run other rest after more (and_right (p y) _ all) stop
 
--- the run is the longest at the front of the text, and the rest is behind it
+-- the run is the longest at the front of the text, and the rest is after it
 pub record IsRun (p : ℕ → Bool) (text run rest : List ℕ) : Type 0 where
   pub splits : text ≡ run ++ rest
   pub passes : list_all p run ≡ true
@@ -71,8 +71,8 @@ one_run p (x ∷ xs) [] us vs e all every stop end =
     let here = and_left (p x) _ all in let same = ap (begins p) e in absurd (cc)
 one_run p (x ∷ xs) (y ∷ ys) us vs e all every stop end =
     let front : x ≡ y = cc in
-    let behind : xs ++ us ≡ ys ++ vs = cc in
-    let more = one_run p xs ys us vs behind (and_right (p x) _ all) (and_right (p y) _ every) stop end in
+    let after : xs ++ us ≡ ys ++ vs = cc in
+    let more = one_run p xs ys us vs after (and_right (p x) _ all) (and_right (p y) _ every) stop end in
     (λ i. front i ∷ more.0 i, more.1)
 
 -- the first occurrence of a byte splits a list in one way
@@ -85,9 +85,9 @@ one_split c (x ∷ xs) [] us vs e none free =
     let same : x ≡ c = cc in absurd (All-head (λ b. b ≢ c) x xs none same)
 one_split c (x ∷ xs) (y ∷ ys) us vs e none free =
     let front : x ≡ y = cc in
-    let behind : xs ++ c ∷ us ≡ ys ++ c ∷ vs = cc in
+    let after : xs ++ c ∷ us ≡ ys ++ c ∷ vs = cc in
     let more =
-    one_split c xs ys us vs behind (All-tail (λ b. b ≢ c) x xs none)
+    one_split c xs ys us vs after (All-tail (λ b. b ≢ c) x xs none)
     (All-tail (λ b. b ≢ c) y ys free) in
     (λ i. front i ∷ more.0 i, more.1)
 
@@ -97,7 +97,7 @@ no_split c [] [] vs e none = absurd (cc)
 no_split c [] (y ∷ ys) vs e none = absurd (cc)
 no_split c (x ∷ xs) [] vs e none = let same : x ≡ c = cc in All-head (λ b. b ≢ c) x xs none same
 no_split c (x ∷ xs) (y ∷ ys) vs e none =
-    let behind : xs ≡ ys ++ c ∷ vs = cc in no_split c xs ys vs behind (All-tail (λ b. b ≢ c) x xs none)
+    let after : xs ≡ ys ++ c ∷ vs = cc in no_split c xs ys vs after (All-tail (λ b. b ≢ c) x xs none)
 
 -- two ends of a list of one length are one
 pub one_end : (xs ys us vs : List ℕ) → xs ++ us ≡ ys ++ vs → length us ≡ length vs → (xs ≡ ys) × (us ≡ vs)
@@ -108,8 +108,8 @@ one_end (x ∷ xs) [] us vs e same =
     let long = ap length e in let sum = length-append xs us in absurd (omega arith)
 one_end (x ∷ xs) (y ∷ ys) us vs e same =
     let front : x ≡ y = cc in
-    let behind : xs ++ us ≡ ys ++ vs = cc in
-    let more = one_end xs ys us vs behind same in
+    let after : xs ++ us ≡ ys ++ vs = cc in
+    let more = one_end xs ys us vs after same in
     (λ i. front i ∷ more.0 i, more.1)
 
 pub cut_is_run : (p : ℕ → Bool) (text run rest : List ℕ) (n : ℕ) → n ≡ prefix_len p text → run ≡ take n text

@@ -42,16 +42,16 @@ one_separator text same rest more e (Separates.line words none) (Separates.blank
     let at : b ≡ slash = cc in absurd (blank_apart b h at)
 one_separator text same rest more e (Separates.line words {rest = r} none)
     (Separates.line others {rest = s} free) =
-    let behind : words ++ line_feed ∷ r ≡ others ++ line_feed ∷ s = cc in
-    (one_split line_feed words others r s behind none free).1
+    let after : words ++ line_feed ∷ r ≡ others ++ line_feed ∷ s = cc in
+    (one_split line_feed words others r s after none free).1
 one_separator text same rest more e (Separates.line words {rest = r} none) (Separates.last_line others free) =
-    let behind : others ≡ words ++ line_feed ∷ r = cc in absurd (no_split line_feed others words r behind free)
+    let after : others ≡ words ++ line_feed ∷ r = cc in absurd (no_split line_feed others words r after free)
 one_separator text same rest more e (Separates.line words none) (Separates.block closes) =
     let at : slash ≡ star = cc in absurd (not_star at)
 one_separator text same rest more e (Separates.last_line words none) (Separates.blank {b = b} h) =
     let at : b ≡ slash = cc in absurd (blank_apart b h at)
 one_separator text same rest more e (Separates.last_line words none) (Separates.line others {rest = s} free) =
-    let behind : words ≡ others ++ line_feed ∷ s = cc in absurd (no_split line_feed words others s behind none)
+    let after : words ≡ others ++ line_feed ∷ s = cc in absurd (no_split line_feed words others s after none)
 one_separator text same rest more e (Separates.last_line words none) (Separates.last_line others free) = refl
 one_separator text same rest more e (Separates.last_line words none) (Separates.block closes) =
     let at : slash ≡ star = cc in absurd (not_star at)
@@ -63,7 +63,7 @@ one_separator text same rest more e (Separates.block closes) (Separates.last_lin
     let at : slash ≡ star = cc in absurd (not_star at)
 one_separator text same rest more e (Separates.block {text = t} {words = w} {rest = r} closes)
     (Separates.block {text = u} {words = v} {rest = s} ends) =
-    let behind : t ≡ u = cc in one_close t u w v r s behind closes ends
+    let after : t ≡ u = cc in one_close t u w v r s after closes ends
 
 -- where a token stands and none of the listed faults, there is no fault
 pub no_fault : (kind : TokenKind) (text rest : List ℕ) → IsToken kind text rest

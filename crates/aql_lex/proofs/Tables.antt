@@ -1,6 +1,6 @@
 -- The tables of keywords and symbols in memory.
 use Rattle.std.proofs.Common.{◌≡◌, ◌≢◌, ℕ, zero, suc, ◌<◌, ◌≤◌, true, List, [], ◌∷◌, ◌++◌}
-use Rattle.std.proofs.Common.{length, get_or, drop, map, refl, sym, ap, ◌∙◌, subst, arith, length-append}
+use Rattle.std.proofs.Common.{length, get_or, drop, map, sym, ap, ◌∙◌, subst, arith, length-append}
 use Rattle.std.specs.Prelude.{nat_le}
 use Rattle.std.specs.Char.{to_ascii_lowercase}
 use Rattle.std.proofs.lemmas.Bool.Decides.{nat_tests}
@@ -15,7 +15,8 @@ use Rattle.aql_lex.proofs.Runs.{and_left, and_right}
 
 -- in a table with the longer spellings first, a later line is no longer
 later_shorter : {Meant : Type 0} (lines : List (List ℕ × Meant)) → longer_first lines ≡ true → (i j : ℕ)
-    (d : List ℕ × Meant) → i ≤ j → j < length lines → length (get_or lines j d).0 ≤ length (get_or lines i d).0
+    (d : List ℕ × Meant) → i ≤ j → j < length lines
+    → length (get_or lines j d).0 ≤ length (get_or lines i d).0
 later_shorter [] h i j d order within = absurd (omega arith)
 later_shorter (line ∷ lines) h zero zero d order within = omega arith
 later_shorter {Meant} (line ∷ lines) h zero (suc j) d order within =
@@ -53,14 +54,16 @@ module _ {Meant : Type 0} (spelling : Meant → List ℕ) (lines : List (Bor (Li
       let found = table.whole meant in
       let long = same_length in
       let within : found.0 < length lines = omega (arith, found.1) in
-      (found.0, (within, ap (λ line. line.0) (sym (line_at found.0 d (spelling meant, meant) within) ∙ found.2)))
+      let same = sym (line_at found.0 d (spelling meant, meant) within) ∙ found.2 in
+      (found.0, (within, ap (λ line. line.0) same))
 
-pub keyword_none : (lines : List (Bor (List ℕ) × Keyword)) → IsTable name_of (lines_of lines) → (word : List ℕ)
-    (n : ℕ) → length lines ≤ n
+pub keyword_none : (lines : List (Bor (List ℕ) × Keyword)) → IsTable name_of (lines_of lines)
+    → (word : List ℕ) (n : ℕ) → length lines ≤ n
     → ((i : ℕ) (d : Bor (List ℕ) × Keyword) → i < n
     → map to_ascii_lowercase (get_or lines i d).0.now ≢ map to_ascii_lowercase word)
     → (keyword : Keyword) → IsReserved word keyword → ⊥
-keyword_none [] table word n all none keyword h = let within = (table.whole keyword).1 in absurd (omega arith)
+keyword_none [] table word n all none keyword h =
+    let within = (table.whole keyword).1 in absurd (omega arith)
 keyword_none (line ∷ lines) table word n all none keyword h =
     let found = line_of name_of (line ∷ lines) table keyword line in
     let within = found.1.0 in
@@ -70,7 +73,8 @@ pub symbol_none : (lines : List (Bor (List ℕ) × Symbol)) → IsTable spelling
     → (text : List ℕ) (n : ℕ) → length lines ≤ n
     → ((i : ℕ) (d : Bor (List ℕ) × Symbol) (rest : List ℕ) → i < n → text ≢ (get_or lines i d).0.now ++ rest)
     → NoSymbol text
-symbol_none [] table text n all none symbol rest e = let within = (table.whole symbol).1 in absurd (omega arith)
+symbol_none [] table text n all none symbol rest e =
+    let within = (table.whole symbol).1 in absurd (omega arith)
 symbol_none (line ∷ lines) table text n all none symbol rest e =
     let found = line_of spelling_of (line ∷ lines) table symbol line in
     let within = found.1.0 in
@@ -79,7 +83,8 @@ symbol_none (line ∷ lines) table text n all none symbol rest e =
 module _ (lines : List (Bor (List ℕ) × Symbol)) (table : IsTable spelling_of (lines_of lines)) where
   pub symbol_found : (text : List ℕ) → longer_first (lines_of lines) ≡ true
       → (i : ℕ) (d : Bor (List ℕ) × Symbol) (n : ℕ) (rest : List ℕ) → i < length lines
-      → ((j : ℕ) (d : Bor (List ℕ) × Symbol) (rest : List ℕ) → j < i → text ≢ (get_or lines j d).0.now ++ rest)
+      → ((j : ℕ) (d : Bor (List ℕ) × Symbol) (rest : List ℕ) → j < i
+      → text ≢ (get_or lines j d).0.now ++ rest)
       → text ≡ (get_or lines i d).0.now ++ drop n text → rest ≡ drop n text
       → IsLongestSymbol text (get_or lines i d).1 rest
   symbol_found text order i d n rest within none splits cut =
@@ -95,7 +100,8 @@ module _ (lines : List (Bor (List ℕ) × Symbol)) (table : IsTable spelling_of 
             let found_within = found.1.0 in
             let shorter = later_shorter (lines_of lines) order i found.0 (d.0.now, d.1) (omega arith)
             (omega arith) in
-            let here = ap (λ line. length line.0) (line_at spelling_of lines table i d (d.0.now, d.1) within) in
+            let here =
+            ap (λ line. length line.0) (line_at spelling_of lines table i d (d.0.now, d.1) within) in
             let there =
             ap (λ line. length line.0) (line_at spelling_of lines table found.0 d (d.0.now, d.1) found.1.0) in
             let long = ap length (spelled_at spelling_of lines table i d within) in

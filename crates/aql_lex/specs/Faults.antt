@@ -9,8 +9,8 @@ use Rattle.aql_lex.specs.Numbers.{largest, are_digits, value_of, begins_digit, i
 use Rattle.aql_lex.specs.Texts.{Writes, escape}
 use Rattle.aql_lex.specs.Tokens.{IsToken}
 
--- a text or a name without its end, a comment without its `*/`, a fraction or a number that is too large begins
--- here, or a text with a backslash that begins no escape
+-- a text or a name without its end, a comment without its `*/`, a fraction, a number that is too large, or a
+-- text with a backslash that begins no escape begins here
 pub data Breaks : LexKind → List ℕ → List ℕ → Type 0 where
   open_text : {quote : ℕ} {inner value : List ℕ} → is_quote quote ≡ true → Writes quote inner value []
       → Breaks f.OpenString (quote ∷ inner) (quote ∷ inner)

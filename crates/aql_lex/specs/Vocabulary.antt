@@ -1,4 +1,5 @@
--- The words and symbols that AQL reserves, each with its spelling (AQL fundamentals, Syntax: Keywords; Operators).
+-- The keywords of AQL with their names, and its symbols with their spellings (AQL fundamentals, Syntax:
+-- Keywords; Operators).
 use Rattle.std.specs.Prelude.{◌≡◌, ℕ, Bool, false, ◌&&◌, List, [], ◌∷◌, map, codes}
 use Rattle.std.specs.List.{list_all}
 use Rattle.std.specs.Char.{to_ascii_lowercase}

@@ -1,4 +1,4 @@
-use Rattle.aql_lex.proofs.Words.{keyword_table}
+use Rattle.aql_lex.proofs.CodeTables.{keyword_table}
 use Rattle.aql_lex.proofs.steps.keyword.Goals as goal
 
 pub keyword_in-requires : goal.keyword_in-requires

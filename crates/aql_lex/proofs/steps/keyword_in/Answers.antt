@@ -1,4 +1,4 @@
-use Rattle.std.proofs.Common.{◌≡◌, rules, sym, ap, ◌∙◌, get_or, map}
+use Rattle.std.proofs.Common.{rules, sym, ap, ◌∙◌, map}
 use Rattle.std.specs.Char.{to_ascii_lowercase}
 use Rattle.aql_lex.specs.Vocabulary.{name_of}
 use Rattle.aql_lex.proofs.Tables.{spelled_at, keyword_none}
@@ -10,4 +10,6 @@ returns-then-eq_ignore_ascii_case c =
     ap (map to_ascii_lowercase) (sym spelled) ∙ search rules
 
 pub returns : goal.returns
-returns c = keyword_none c.args.lines.now c.requires c.args.word.now _ c.loop-name-test.false c.loop-name.invariant
+returns c =
+    keyword_none c.args.lines.now c.requires c.args.word.now _ c.loop-name-test.false
+    c.loop-name.invariant

@@ -1,4 +1,5 @@
-use Rattle.aql_lex.proofs.Words.{symbol_table, symbol_shortens}
+use Rattle.aql_lex.proofs.Spellings.{symbol_shortens}
+use Rattle.aql_lex.proofs.CodeTables.{symbol_table}
 use Rattle.aql_lex.proofs.Names.{symbol_takes, no_symbol_takes}
 use Rattle.aql_lex.proofs.steps.symbol.Goals as goal
 

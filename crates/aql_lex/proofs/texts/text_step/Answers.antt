@@ -11,16 +11,17 @@ small_quote : (q : ℕ) → is_quote q ≡ true → q < 128
 small_quote q h = grind (arith, nat_tests)
 
 -- what the text is written as up to a character of ASCII
-written : (q c d : ℕ) (inner value left after : List ℕ) → Continues q inner value left → d < 128 → c ≡ d
+writes_up_to : (q c d : ℕ) (inner value left after : List ℕ) → Continues q inner value left → d < 128 → c ≡ d
     → left ≡ encode_utf8 c ++ after → Writes q inner value (d ∷ after)
-written q c d inner value left after so_far small e split =
+writes_up_to q c d inner value left after so_far small e split =
     subst (Writes q inner value)
     (ascii_front d left after small (split ∙ ap (λ x. encode_utf8 x ++ after) e))
     (continues_here q inner value left so_far)
 
 pub returns-then-character-quote-clause-takes : goal.returns-then-character-quote-clause-takes
 returns-then-character-quote-clause-takes c =
-    let w = written c.args.quote c.in-Some.character c.args.quote _ _ _ _ c.loop-character.invariant.so_far
+    let w =
+    writes_up_to c.args.quote c.in-Some.character c.args.quote _ _ _ _ c.loop-character.invariant.so_far
     (small_quote _ c.requires.quote) c.if-character-quote.true c.in-Some.ensures.split in
     let takes = text_takes c.args.quote _ _ c.requires.quote c.requires.split _ _ w in
     let value = c.in_ok-value.ensures ∙ c.as_str.ensures.value in
@@ -41,7 +42,7 @@ loop-character-preserved-in-Some-escape c =
 
 pub returns-in-None-clause-takes : goal.returns-in-None-clause-takes
 returns-in-None-clause-takes c =
-    let w = written c.args.quote c.in-Some.character backslash _ _ _ _ c.loop-character.invariant.so_far
+    let w = writes_up_to c.args.quote c.in-Some.character backslash _ _ _ _ c.loop-character.invariant.so_far
     (omega arith) c.if-character-eq92.true c.in-Some.ensures.split in
     let slash : c.loop-character.left.now ≡ backslash ∷ c.in-Some.after.now =
     ascii_front backslash _ _ (omega arith)
