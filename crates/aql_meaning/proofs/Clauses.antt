@@ -13,7 +13,7 @@ use Rattle.aql_meaning.specs.laws.SomeAnswer.{some_answer}
 use Rattle.aql_meaning.specs.laws.Shuffles.{skip, flip, permutes}
 use Rattle.aql_meaning.specs.worked.Words.{num, str, attr, document, int, var, dot, for, set, returning}
 use Rattle.aql_meaning.specs.worked.Expressions.{items}
-use Rattle.aql_meaning.specs.worked.Clauses.{WorkedClauses, a_and_b, with_ties, one_of_a}
+use Rattle.aql_meaning.specs.worked.Clauses.{WorkedClauses, a_and_b, two, with_ties, keys_of_c, one_of_a}
 use Rattle.aql_meaning.proofs.Computed.{computed}
 use Rattle.aql_meaning.proofs.Orders.{answer_behind, in_any_order}
 
@@ -83,6 +83,11 @@ worked_clauses = record {
         (document "c/d" "d" (attr "n" (num 3) ∷ [])) (document "c/b" "b" (attr "n" (num 3) ∷ [])))
         (permutes (skip _ (skip _ (flip _ _ []))))).1;
   };
+  each_document = record {
+    answer =
+        λ out h. in_any_order two [] (clauses (for "x" (var "c") ∷ [])) (dot (var "x") "_key") empty_row _ out refl
+        (some_answer two keys_of_c empty_row).1 h;
+  };
   true_like_kept = computed _ _ _ refl;
   second_key = computed _ _ _ refl;
   none_taken = computed _ _ _ refl;
@@ -94,6 +99,8 @@ worked_clauses = record {
   into_all_variables = computed _ _ _ refl;
   into_kept_variables = computed _ _ _ refl;
   counted_by_class = computed _ _ _ refl;
+  two_criteria = computed _ _ _ refl;
+  null_counts_as_distinct = computed _ _ _ refl;
   over_nothing = computed _ _ _ refl;
   sum_out_of_range = computed _ _ _ refl;
 }

@@ -60,7 +60,7 @@ over_array db x e rows out m s h =
     ((vs : List Tree) × AllZip (Ev db e null) rows vs × (out ≡ with_elements x rows vs))
     (λ name. IsPermutation (with_documents x (documents_named db name) rows) out)) s h
 
-fixed_through : (db : Database) (cs : ClauseTrees) (start : Row) (vars : List Ident) → IsFixed cs start vars
+pub fixed_through : (db : Database) (cs : ClauseTrees) (start : Row) (vars : List Ident) → IsFixed cs start vars
     → (rows out : List Row) → Through db cs start vars rows out → out ≡ fixed_rows cs rows
 fixed_through db no_clauses start vars f rows out h = h
 fixed_through db (clause_then (for_each x e) cs) start vars f rows out h =
@@ -114,6 +114,16 @@ in_filter f x (y ∷ ys) t (inr i) = by (f y) (in_filter f x ys t i)
     by : (b : Bool) → IsIn x (filter f ys) → IsIn x (cond b (y ∷ filter f ys) (filter f ys))
     by true j = inr j
     by false j = j
+
+pub from_filter : {X : Type 0} (f : X → Bool) (x : X) (xs : List X) → IsIn x (filter f xs) → IsIn x xs
+from_filter f x [] i = i
+from_filter f x (y ∷ ys) i = by (f y) (from_filter f x ys) i
+  where
+    by : (b : Bool) → (IsIn x (filter f ys) → IsIn x ys) → IsIn x (cond b (y ∷ filter f ys) (filter f ys))
+        → IsIn x (y ∷ ys)
+    by true g (inl e) = inl e
+    by true g (inr j) = inr (g j)
+    by false g j = inr (g j)
 
 pub from_map : {X Y : Type 0} (f : X → Y) (y : Y) (xs : List X) → IsIn y (map f xs)
     → (x : X) × IsIn x xs × (y ≡ f x)

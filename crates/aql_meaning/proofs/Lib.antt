@@ -5,5 +5,8 @@ pub mod Clauses
 pub mod ChosenSets
 pub mod Walks
 pub mod Fixed
+pub mod Absent
+pub mod RefutedClauses
+pub mod RefutedWalks
 pub mod Refuted
 pub mod RowByRow

@@ -5,7 +5,7 @@ use Rattle.std.proofs.lemmas.List.Sorted.{IsPermutation-refl, IsPermutation-tran
 use Rattle.aql_value.specs.Tree.{Tree, null, boolean}
 use Rattle.aql_value.specs.Database.{Database}
 use Rattle.aql_value.specs.Truth.{truth}
-use Rattle.aql_tree.specs.declared.syntax.Direction.TheVariants.{Outbound, Any}
+use Rattle.aql_tree.specs.declared.syntax.Direction.TheVariants.{Outbound, Inbound, Any}
 use Rattle.aql_tree.specs.Tree.{ExprTree, ClauseTree, WalkShape, no_clauses, clause_then}
 use Rattle.aql_tree.specs.View.{clauses, maybe, members}
 use Rattle.aql_tree.specs.Made as made
@@ -17,7 +17,7 @@ use Rattle.aql_meaning.specs.Visible.{edges_named}
 use Rattle.aql_meaning.specs.Meaning.{Answer}
 use Rattle.aql_meaning.specs.laws.SomeAnswer.{some_answer}
 use Rattle.aql_meaning.specs.worked.Words.{str, edge, returning, AnswersInAnyOrder}
-use Rattle.aql_meaning.specs.worked.Walks.{WorkedWalks, walk, all_three, vertex_alone, global, key, at_key, keys_of_path, ring, diamond, chosen_paths, path_ab, path_ac, path_abd, path_acd}
+use Rattle.aql_meaning.specs.worked.Walks.{WorkedWalks, walk, all_three, vertex_alone, global, each_vertex_once, edges_of_path, key, at_key, keys_of_path, ring, diamond, gap, chosen_paths, path_ab, path_ac, path_abd, path_acd}
 use Rattle.aql_meaning.proofs.Computed.{computed}
 use Rattle.aql_meaning.proofs.Orders.{EndsFree, answer_behind, in_any_order}
 use Rattle.aql_meaning.proofs.ChosenSets.{Made, only_start, one_more, chosen}
@@ -36,31 +36,31 @@ raw_shape = (made.traversal all_three 1 2 Outbound (made.text []) [] None global
 abbrev pub shape : WalkShape
 shape = with_settings (members global) raw_shape
 
-abbrev edges : List Tree
+abbrev pub edges : List Tree
 edges = edges_named diamond (codes "e" ∷ [])
 
-abbrev holds : Option ExprTree → Row → Bool
+abbrev pub holds : Option ExprTree → Row → Bool
 holds prune row = truth (value_or (maybe prune) null row (boolean false))
 
-abbrev pruned : Option ExprTree → Path → Bool
+abbrev pub pruned : Option ExprTree → Path → Bool
 pruned prune t = holds prune (path_row diamond shape empty_row t)
 
-abbrev from_a : Path
+abbrev pub from_a : Path
 from_a = empty_path (codes "n/a")
 
-abbrev by : Path → Tree → Path
+abbrev pub by : Path → Tree → Path
 by t e = extended t (along e)
 
-abbrev ab : Tree
+abbrev pub ab : Tree
 ab = edge "e/1" "n/a" "n/b"
 
-abbrev ac : Tree
+abbrev pub ac : Tree
 ac = edge "e/2" "n/a" "n/c"
 
-abbrev bd : Tree
+abbrev pub bd : Tree
 bd = edge "e/3" "n/b" "n/d"
 
-abbrev cd : Tree
+abbrev pub cd : Tree
 cd = edge "e/4" "n/c" "n/d"
 
 -- the last path first
@@ -119,11 +119,23 @@ worked_walks = record {
   pruned = in_all_orders ring (walk vertex_alone 1 4 Outbound "n/a" (at_key "c") []) key _ refl
       (some_answer ring
       (returning (walk vertex_alone 1 4 Outbound "n/a" (at_key "c") [] ∷ []) key) empty_row).1;
+  pruned_at_once = computed _ _ _ refl;
+  vertices_once = in_all_orders ring (walk vertex_alone 1 4 Outbound "n/a" None each_vertex_once) key _ refl
+      (some_answer ring
+      (returning (walk vertex_alone 1 4 Outbound "n/a" None each_vertex_once ∷ []) key) empty_row).1;
+  from_an_object = computed _ _ _ refl;
+  edges_counted = in_all_orders ring (walk all_three 0 1 Outbound "n/a" None []) edges_of_path _ refl
+      (some_answer ring (returning (walk all_three 0 1 Outbound "n/a" None [] ∷ []) edges_of_path) empty_row).1;
+  against_edges = in_all_orders diamond (walk vertex_alone 1 1 Inbound "n/d" None []) key _ refl
+      (some_answer diamond (returning (walk vertex_alone 1 1 Inbound "n/d" None [] ∷ []) key) empty_row).1;
   both_ways = in_all_orders ring (walk vertex_alone 0 1 Any "n/a" None []) key _ refl
       (some_answer ring (returning (walk vertex_alone 0 1 Any "n/a" None [] ∷ []) key) empty_row).1;
   no_document = computed _ _ _ refl;
   no_id = computed _ _ _ refl;
   self_loop = computed _ _ _ refl;
+  loop_again = computed _ _ _ refl;
+  over_a_gap = in_all_orders gap (walk vertex_alone 1 2 Outbound "n/a" None []) key _ refl
+      (some_answer gap (returning (walk vertex_alone 1 2 Outbound "n/a" None [] ∷ []) key) empty_row).1;
   d_by_b = in_order None _ (path_abd ∷ path_ac ∷ path_ab ∷ []) (IsPermutation-reverse _)
       (answer_of None set_by_b (chosen _ _ _ _ _ set_by_b (d_from_b None refl refl) refl)).1;
   d_by_c = in_order None _ (path_acd ∷ path_ac ∷ path_ab ∷ []) (IsPermutation-reverse _)

@@ -22,6 +22,10 @@ sum_into s e = grouped ([], agg s "SUM" (Some e) ∷ [], None)
 abbrev pub place : String → ℕ → ExprTree
 place x n = made.stepped (var x) (at (int n)) []
 
+-- `[m, n]`
+abbrev pub pair : ℕ → ℕ → ExprTree
+pair m n = items (int m ∷ int n ∷ [])
+
 -- ---- databases
 
 abbrev pub empty_c : Database
@@ -65,6 +69,10 @@ abbrev pub one_of_a : QueryTree
 one_of_a = returning (for "a" (var "A") ∷ limit 0 1 ∷ for "b" (var "B") ∷ [])
     (items (dot (var "a") "_key" ∷ dot (var "b") "_key" ∷ []))
 
+-- FOR x IN c RETURN x._key
+abbrev pub keys_of_c : QueryTree
+keys_of_c = returning (for "x" (var "c") ∷ []) (dot (var "x") "_key")
+
 -- FOR x IN c SORT x.n DESC LIMIT 1, 2 RETURN x._key
 abbrev pub second_and_third : QueryTree
 second_and_third = returning (for "x" (var "c") ∷ sort ((dot (var "x") "n", true) ∷ []) ∷ limit 1 2 ∷ [])
@@ -90,13 +98,15 @@ pub record WorkedClauses : Type 0 where
   -- rows with equal keys come in either order
   pub ties : Answers with_ties second_and_third (str "b" ∷ str "d" ∷ [])
   pub ties_turned : Answers with_ties second_and_third (str "d" ∷ str "b" ∷ [])
+  -- the documents of a collection come in any order
+  pub each_document : AnswersInAnyOrder two keys_of_c (str "a" ∷ str "b" ∷ [])
   -- FOR x IN [1, null, 2, 0] FILTER x RETURN x
   pub true_like_kept : Answers []
       (returning (for "x" (items (int 1 ∷ nothing ∷ int 2 ∷ int 0 ∷ [])) ∷ keep_if (var "x") ∷ []) (var "x"))
       (num 1 ∷ num 2 ∷ [])
   -- FOR x IN [[1,1],[1,2]] SORT x[0], x[1] DESC RETURN x[1]
   pub second_key : Answers []
-      (returning (for "x" (items (items (int 1 ∷ int 1 ∷ []) ∷ items (int 1 ∷ int 2 ∷ []) ∷ []))
+      (returning (for "x" (items (pair 1 1 ∷ pair 1 2 ∷ []))
       ∷ sort ((place "x" 0, false) ∷ (place "x" 1, true) ∷ []) ∷ []) (place "x" 1))
       (num 2 ∷ num 1 ∷ [])
   -- FOR x IN c LIMIT 0 RETURN x, and LIMIT 2, 9223372036854775807
@@ -142,6 +152,22 @@ pub record WorkedClauses : Type 0 where
       ∷ grouped (made.assigned (codes "k") (var "x") ∷ [], agg "n" "LENGTH" None ∷ [], None) ∷ [])
       (items (var "k" ∷ var "n" ∷ [])))
       (list (num 1 ∷ num 1 ∷ []) ∷ list (num 2 ∷ num 2 ∷ []) ∷ [])
+  -- FOR x IN [[2,1],[1,2],[1,1],[1,2]] COLLECT a = x[0], b = x[1] WITH COUNT INTO n RETURN [a, b, n]
+  pub two_criteria : Answers []
+      (returning (for "x" (items (pair 2 1 ∷ pair 1 2 ∷ pair 1 1 ∷ pair 1 2 ∷ []))
+      ∷ grouped (
+        made.assigned (codes "a") (place "x" 0) ∷ made.assigned (codes "b") (place "x" 1) ∷ [],
+        agg "n" "LENGTH" None ∷ [],
+        None,
+      ) ∷ [])
+      (items (var "a" ∷ var "b" ∷ var "n" ∷ [])))
+      (list (num 1 ∷ num 1 ∷ num 1 ∷ []) ∷ list (num 1 ∷ num 2 ∷ num 2 ∷ [])
+      ∷ list (num 2 ∷ num 1 ∷ num 1 ∷ []) ∷ [])
+  -- FOR x IN [1, null, 1] COLLECT AGGREGATE n = COUNT_DISTINCT(x) RETURN n
+  pub null_counts_as_distinct : Answers []
+      (returning (for "x" (items (int 1 ∷ nothing ∷ int 1 ∷ []))
+      ∷ grouped ([], agg "n" "COUNT_DISTINCT" (Some (var "x")) ∷ [], None) ∷ []) (var "n"))
+      (num 2 ∷ [])
   -- FOR x IN [] COLLECT AGGREGATE s = SUM(x), m = MIN(x), u = SORTED_UNIQUE(x) RETURN [s, m, u]
   pub over_nothing : Answers []
       (returning (for "x" (items [])

@@ -1,16 +1,17 @@
 -- Worked queries: traversals, each with what it prints.
-use Rattle.std.specs.Prelude.{ℕ, List, [], ◌∷◌, Option, Some, None, codes}
+use Rattle.std.specs.Prelude.{ℕ, List, [], ◌∷◌, true, false, Option, Some, None, codes}
 use Prim.Native.String.{String}
-use Rattle.aql_value.specs.Tree.{Tree, null}
+use Rattle.aql_value.specs.Tree.{Tree, null, boolean}
 use Rattle.aql_value.specs.Parts.{list}
 use Rattle.aql_value.specs.Database.{Database}
 use Rattle.aql_func.specs.declared.operators.BinOp.TheVariants.{Eq}
 use Rattle.aql_tree.specs.declared.syntax.Direction.{Direction}
-use Rattle.aql_tree.specs.declared.syntax.Direction.TheVariants.{Outbound, Any}
+use Rattle.aql_tree.specs.declared.syntax.Direction.TheVariants.{Outbound, Inbound, Any}
 use Rattle.aql_tree.specs.Tree.{ExprTree, ClauseTree, QueryTree}
 use Rattle.aql_tree.specs.Made as made
 use Rattle.aql_tree.specs.View.{MemberPart, named, name, each, walked}
-use Rattle.aql_meaning.specs.worked.Words.{str, document, edge, collection, edge_collection, txt, var, dot, op, returning, Answers, AnswersInAnyOrder}
+use Rattle.aql_meaning.specs.worked.Words.{num, str, document, edge, collection, edge_collection, txt, var, dot, op, fn, returning, Answers, AnswersInAnyOrder}
+use Rattle.aql_meaning.specs.worked.Expressions.{items, nothing}
 
 -- `v`, and `v, e, p`
 abbrev pub vertex_alone : made.WalkNames
@@ -20,9 +21,15 @@ abbrev pub all_three : made.WalkNames
 all_three = record { vertex = codes "v"; edge = Some (codes "e"); path = Some (codes "p") }
 
 -- `FOR names IN min..max DIRECTION start e PRUNE prune OPTIONS {settings}`
+abbrev pub walk_from : made.WalkNames → ℕ → ℕ → Direction → ExprTree → Option ExprTree → List MemberPart
+    → ClauseTree
+walk_from names min max direction start prune settings =
+    walked (made.traversal names min max direction start (codes "e" ∷ []) prune settings)
+
+-- the same from the text of an id
 abbrev pub walk : made.WalkNames → ℕ → ℕ → Direction → String → Option ExprTree → List MemberPart → ClauseTree
 walk names min max direction start prune settings =
-    walked (made.traversal names min max direction (txt start) (codes "e" ∷ []) prune settings)
+    walk_from names min max direction (txt start) prune settings
 
 -- `v._key`
 abbrev pub key : ExprTree
@@ -39,6 +46,22 @@ keys_of_path = made.stepped (var "p") (name (codes "vertices")) (each None None 
 -- `{order: "bfs", uniqueVertices: "global"}`
 abbrev pub global : List MemberPart
 global = named (codes "order") (txt "bfs") ∷ named (codes "uniqueVertices") (txt "global") ∷ []
+
+-- `{uniqueVertices: "path"}`
+abbrev pub each_vertex_once : List MemberPart
+each_vertex_once = named (codes "uniqueVertices") (txt "path") ∷ []
+
+-- `{uniqueEdges: "none"}`
+abbrev pub edges_again : List MemberPart
+edges_again = named (codes "uniqueEdges") (txt "none") ∷ []
+
+-- `{_id: id}`
+abbrev pub with_id : String → ExprTree
+with_id id = made.object (named (codes "_id") (txt id) ∷ [])
+
+-- `[e == null, LENGTH(p.edges)]`
+abbrev pub edges_of_path : ExprTree
+edges_of_path = items (op (var "e") Eq nothing ∷ fn "LENGTH" (dot (var "p") "edges" ∷ []) ∷ [])
 
 -- ---- graphs
 
@@ -64,11 +87,19 @@ shortcut = collection "n" (document "n/a" "a" [] ∷ document "n/b" "b" [] ∷ d
 abbrev pub loop : Database
 loop = collection "n" (document "n/a" "a" [] ∷ []) ∷ edge_collection "e" (edge "e/1" "n/a" "n/a" ∷ []) ∷ []
 
+-- a to x, x to b, where no document has the id of x
+abbrev pub gap : Database
+gap = collection "n" (document "n/a" "a" [] ∷ document "n/b" "b" [] ∷ [])
+    ∷ edge_collection "e" (edge "e/1" "n/a" "n/x" ∷ edge "e/2" "n/x" "n/b" ∷ []) ∷ []
+
 abbrev pub path_ab : Tree
 path_ab = list (str "a" ∷ str "b" ∷ [])
 
 abbrev pub path_ac : Tree
 path_ac = list (str "a" ∷ str "c" ∷ [])
+
+abbrev pub path_abc : Tree
+path_abc = list (str "a" ∷ str "b" ∷ str "c" ∷ [])
 
 abbrev pub path_abd : Tree
 path_abd = list (str "a" ∷ str "b" ∷ str "d" ∷ [])
@@ -85,10 +116,27 @@ pub record WorkedWalks : Type 0 where
   -- FOR v IN 1..4 OUTBOUND "n/a" e RETURN v._key
   pub round : AnswersInAnyOrder ring (returning (walk vertex_alone 1 4 Outbound "n/a" None [] ∷ []) key)
       (str "b" ∷ str "c" ∷ str "a" ∷ [])
-  -- the same with PRUNE v._key == "c": the path to c is given, and none behind it
+  -- the same with PRUNE v._key == "c": the path to c is given, and none after it
   pub pruned : AnswersInAnyOrder ring
       (returning (walk vertex_alone 1 4 Outbound "n/a" (at_key "c") [] ∷ []) key)
       (str "b" ∷ str "c" ∷ [])
+  -- FOR v IN 0..2 OUTBOUND "n/a" e PRUNE v._key == "a" RETURN v._key
+  pub pruned_at_once : Answers ring (returning (walk vertex_alone 0 2 Outbound "n/a" (at_key "a") [] ∷ []) key)
+      (str "a" ∷ [])
+  -- FOR v IN 1..4 OUTBOUND "n/a" e OPTIONS {uniqueVertices: "path"} RETURN v._key
+  pub vertices_once : AnswersInAnyOrder ring
+      (returning (walk vertex_alone 1 4 Outbound "n/a" None each_vertex_once ∷ []) key)
+      (str "b" ∷ str "c" ∷ [])
+  -- FOR v IN 1..1 OUTBOUND {_id: "n/a"} e RETURN v._key
+  pub from_an_object : Answers ring
+      (returning (walk_from vertex_alone 1 1 Outbound (with_id "n/a") None [] ∷ []) key) (str "b" ∷ [])
+  -- FOR v, e, p IN 0..1 OUTBOUND "n/a" e RETURN [e == null, LENGTH(p.edges)]
+  pub edges_counted : AnswersInAnyOrder ring
+      (returning (walk all_three 0 1 Outbound "n/a" None [] ∷ []) edges_of_path)
+      (list (boolean true ∷ num 0 ∷ []) ∷ list (boolean false ∷ num 1 ∷ []) ∷ [])
+  -- FOR v IN 1..1 INBOUND "n/d" e RETURN v._key
+  pub against_edges : AnswersInAnyOrder diamond
+      (returning (walk vertex_alone 1 1 Inbound "n/d" None [] ∷ []) key) (str "b" ∷ str "c" ∷ [])
   -- FOR v IN 0..1 ANY "n/a" e RETURN v._key
   pub both_ways : AnswersInAnyOrder ring (returning (walk vertex_alone 0 1 Any "n/a" None [] ∷ []) key)
       (str "a" ∷ str "b" ∷ str "c" ∷ [])
@@ -99,6 +147,12 @@ pub record WorkedWalks : Type 0 where
   pub no_id : Answers ring (returning (walk vertex_alone 0 1 Outbound "zz" None [] ∷ []) (var "v")) []
   -- FOR v IN 1..2 ANY "n/a" e RETURN v._key
   pub self_loop : Answers loop (returning (walk vertex_alone 1 2 Any "n/a" None [] ∷ []) key) (str "a" ∷ [])
+  -- FOR v IN 1..3 OUTBOUND "n/a" e OPTIONS {uniqueEdges: "none"} RETURN v._key
+  pub loop_again : Answers loop (returning (walk vertex_alone 1 3 Outbound "n/a" None edges_again ∷ []) key)
+      (str "a" ∷ str "a" ∷ str "a" ∷ [])
+  -- FOR v IN 1..2 OUTBOUND "n/a" e RETURN v._key: where there is no document v is null, and the path goes on
+  pub over_a_gap : AnswersInAnyOrder gap (returning (walk vertex_alone 1 2 Outbound "n/a" None [] ∷ []) key)
+      (null ∷ str "b" ∷ [])
   -- one path to each vertex, whichever it is
   pub d_by_b : AnswersInAnyOrder diamond (chosen_paths None) (path_ab ∷ path_ac ∷ path_abd ∷ [])
   pub d_by_c : AnswersInAnyOrder diamond (chosen_paths None) (path_ab ∷ path_ac ∷ path_acd ∷ [])
