@@ -8,7 +8,7 @@ use Rattle.std.specs.declared.option.Option.{Option}
 use Rattle.std.specs.Io.KnownBytes.{Appends, Consumes}
 use Rattle.aql_io.specs.Bytes.{HandsOut}
 
--- the first bytes were written, and then some of those behind them
+-- the first bytes were written, and then some of the next
 pub more_appended : (a b c : Option (List ℕ)) (bytes : List ℕ) (at count : ℕ) → Appends a b (take at bytes)
     → Appends b c (take count (drop at bytes)) → Appends a c (take (at + count) bytes)
 more_appended a b c bytes at count first second = rw take-add (Appends-trans a b c _ _ first second)
