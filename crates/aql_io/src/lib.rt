@@ -5,6 +5,7 @@
 //! fails.
 #![tactic(auto)]
 
+mod asking;
 mod memory;
 mod ports;
 mod streams;

@@ -5,7 +5,7 @@ ghost use Rattle.std.specs.declared.option.Option.{Option};
 ghost use Rattle.std.specs.Io.{ReadsAtMost, WritesAtMost};
 ghost use Rattle.aql_io.specs.Bytes.{ReadsNext, AppendsFirst};
 ghost use Rattle.aql_io.specs.Causes.{HasCause};
-ghost use Rattle.aql_io.specs.Memory.{Reading, Writing, limited, lowered};
+ghost use Rattle.aql_io.specs.Memory.{Reading, Writing, count_within, limit_after};
 ghost use Rattle.aql_io.specs.Memory.{ReadFails, read_count, after_read, after_failed_read};
 ghost use Rattle.aql_io.specs.Memory.{WriteFails, write_count, after_write, after_failed_write};
 
@@ -15,8 +15,8 @@ use std::alloc::Global;
 use std::marker::Model;
 
 // A count, cut down to the limit where there is one.
-fn cut(limit: Option<u64>, count: usize) -> usize
-    ensures { result ≡ limited limit count }
+fn count_within(limit: Option<u64>, count: usize) -> usize
+    ensures { result ≡ count_within limit count }
 {
     match limit {
         None => count,
@@ -25,8 +25,8 @@ fn cut(limit: Option<u64>, count: usize) -> usize
 }
 
 // What is left of the limit once so many bytes passed.
-fn lower(limit: Option<u64>, count: usize) -> Option<u64>
-    ensures { result ≡ lowered limit count }
+fn limit_after(limit: Option<u64>, count: usize) -> Option<u64>
+    ensures { result ≡ limit_after limit count }
 {
     limit.map(|limit| limit.saturating_sub(count as u64))
 }
@@ -101,10 +101,11 @@ impl MemorySource {
     // How many bytes a read into this much room hands out.
     fn count(&self, room: usize) -> usize
         ensures value { result ≡ read_count self.now room }
-        ensures ends { result ≡ 0 → 0 < room → self.now.until_fault ≢ Some 0 → self.now.left ≡ [] }
+        ensures ends { result ≡ 0 → 0 < room → self.now.until_fault ≢ Some 0
+            → self.now.left ≡ [] }
     {
         let most = room.min(self.piece).min(self.bytes.len() - self.at);
-        cut(self.until_fault, most)
+        count_within(self.until_fault, most)
     }
 }
 
@@ -117,6 +118,7 @@ impl Source for MemorySource {
         ensures bound { ReadsAtMost result into.new }
         ensures bytes { ReadsNext (Some self.old.left) (Some self.new.left) result into.new }
         ensures cause { HasCause self.old.faults self.new.faults result }
+        ensures quiet { OnOk result (self.new.faults ≡ self.old.faults) }
 
         ensures fails { IsErr result ↔ ReadFails self.old (length into.old) }
         ensures count { IfOk result (λ n. n ≡ read_count self.old (length into.old)) }
@@ -133,7 +135,7 @@ impl Source for MemorySource {
         let count = self.count(into.len());
         copy_front(into, &self.bytes, self.at, count);
         self.at += count;
-        self.until_fault = lower(self.until_fault, count);
+        self.until_fault = limit_after(self.until_fault, count);
         Ok(count)
     }
 }
@@ -162,7 +164,8 @@ impl Model for MemorySink {
       faults = s.faults;
     } };
 
-    ghost invariant = { λ s. (vec_len s.bytes + s.room ≤ vec_capacity s.bytes) × (0 < s.piece) };
+    ghost invariant = { λ s.
+        (vec_len s.bytes + s.room ≤ vec_capacity s.bytes) × (0 < s.piece) };
 }
 
 impl MemorySink {
@@ -217,6 +220,7 @@ impl Sink for MemorySink {
         ensures bytes { AppendsFirst (Some self.old.written) (Some self.new.written)
             result piece.now }
         ensures cause { HasCause self.old.faults self.new.faults result }
+        ensures quiet { OnOk result (self.new.faults ≡ self.old.faults) }
 
         ensures fails { IsErr result ↔ WriteFails self.old (length piece.now) }
         ensures count { IfOk result (λ n. n ≡ write_count self.old (length piece.now)) }
@@ -231,13 +235,13 @@ impl Sink for MemorySink {
             return Err(WriteFailed);
         }
         let most = piece.len().min(self.piece).min(self.room);
-        let count = cut(self.until_fault, most);
+        let count = count_within(self.until_fault, most);
         // The room was reserved.
         if self.bytes.extend_from_slice(&piece[..count]).is_err() {
             unreachable!();
         }
         self.room -= count;
-        self.until_fault = lower(self.until_fault, count);
+        self.until_fault = limit_after(self.until_fault, count);
         Ok(count)
     }
 }

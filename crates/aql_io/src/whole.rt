@@ -1,5 +1,5 @@
 // Whole inputs and whole outputs.
-ghost use Rattle.std.specs.Prelude.{◌≤◌, ◌<◌, ⊤, length, OnOk, OnErr, IfOk, IsErrOf};
+ghost use Rattle.std.specs.Prelude.{◌≡◌, ◌≢◌, ◌≤◌, ◌<◌, ⊤, length, Err, OnOk, OnErr, IfOk, IsErrOf};
 ghost use Rattle.std.specs.Io.KnownBytes.{Consumes, Appends, IsAtEnd};
 ghost use Rattle.aql_io.specs.Bytes.{AppendsPrefix, HandsOut};
 ghost use Rattle.aql_io.specs.Causes.{Rose, HasCause};
@@ -51,6 +51,10 @@ pub fn read_all<S: Source>(
 
     // After any fault the source has lost some of its next bytes, and nothing else.
     ensures front { OnErr result (HandsOut (S.left source.old) (S.left source.new) (λ _. ⊤)) }
+
+    // A read that fails is not tried again: no other answer comes after one.
+    ensures quiet { result ≢ Err ReadAllFault.Failed
+        → S.faults source.new ≡ S.faults source.old }
     ensures later { S.faults source.old ≤ S.faults source.new }
 {
     let mut bytes = Vec::new(alloc);
@@ -78,6 +82,7 @@ pub fn write_all<K: Sink>(sink: &mut K, bytes: &[u8]) -> Result<(), WriteFailed>
     ensures front { OnErr result
         (AppendsPrefix (K.written sink.old) (K.written sink.new) bytes.now) }
     ensures cause { HasCause (K.faults sink.old) (K.faults sink.new) result }
+    ensures quiet { OnOk result (K.faults sink.new ≡ K.faults sink.old) }
 {
     let mut at = 0;
     'pieces: while at < bytes.len() {

@@ -2,5 +2,6 @@ pub mod Cuts
 pub mod WordsOn
 pub mod NamesOn
 pub mod StepsOn
+pub mod LowerFaults
 pub mod OfBytes
 pub mod Reading

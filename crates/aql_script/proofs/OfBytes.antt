@@ -1,5 +1,5 @@
--- No bytes have a failed read as their fault: it comes from the source alone.
-use Rattle.std.proofs.Common.{◌≡◌, ℕ, ◌+◌, ◌-◌, List, [], ◌∷◌, Bool, true, false, Option, Some, None, Ok, Err, if◌then◌else◌, nat_lt, nat_eq, length, subst}
+-- The fault of bytes is that of a line or a limit.
+use Rattle.std.proofs.Common.{◌≡◌, ℕ, ◌+◌, ◌-◌, List, [], ◌∷◌, Bool, true, false, Option, Some, None, Ok, Err, if◌then◌else◌, nat_lt, nat_le, nat_eq, length, subst}
 use Rattle.std.specs.Prelude.{Result, is_some, IfErr}
 use Rattle.std.specs.Str.{is_utf8}
 use Rattle.aql_value.specs.Tree.{Tree}
@@ -17,21 +17,16 @@ use Rattle.aql_script.specs.Pieces.{pieces, words, first_of}
 use Rattle.aql_script.specs.Directives.{directive}
 use Rattle.aql_script.specs.Lines.{Step, next, query, fault, after, last, read, with_query, without_cr, joined}
 use Rattle.aql_script.specs.Steps.{step, by_first, directed, by_directive, declaration, declaring, index, index_at, indexing, document, with_value, adding, doc_fault, json_fault, shards_of, keys_of}
-use Rattle.aql_script.specs.Script.{lines}
+use Rattle.aql_script.specs.Script.{lines, script, HasFault, IsOfBytes}
+use Rattle.aql_script.proofs.LowerFaults.{FaultIs, OfCatalog, OfDocument, OfJson, declared_is, indexed_is, added_is, json_is}
 use Rattle.aql_script.specs.declared.loading.Loaded.{Loaded}
 use Rattle.aql_script.specs.declared.options.Options.{Options}
 use Rattle.aql_script.specs.declared.directives.Directive.{Directive}
 use Rattle.aql_script.specs.declared.directives.Directive.TheVariants.{Declare, Index, Query}
 use Rattle.aql_script.specs.declared.faults.LoadFault.{LoadFault}
 use Rattle.aql_script.specs.declared.faults.LoadFault.TheVariants.{Read, Limit, Line, Memory}
-use Rattle.aql_script.specs.declared.faults.LimitKind.TheVariants.{LineBytes, Shards}
+use Rattle.aql_script.specs.declared.faults.LimitKind.TheVariants.{LineBytes, Shards, ScriptBytes}
 use Rattle.aql_script.specs.declared.faults.LineKind.TheVariants.{DeclaredTwice, NoCollection, NoQuery, QueryNotUtf8}
-
-abbrev pub IsOfBytes : LoadFault → Type 0
-IsOfBytes Read = ⊥
-IsOfBytes (Limit kind) = Unit {0}
-IsOfBytes (Line n kind) = Unit {0}
-IsOfBytes Memory = Unit {0}
 
 abbrev StepOf : Step → Type 0
 StepOf (next held) = Unit {0}
@@ -42,40 +37,41 @@ either : (b : Bool) (s t : Step) → StepOf s → StepOf t → StepOf (if b then
 either true s t h k = h
 either false s t h k = k
 
-of_doc : (n : ℕ) (e : DocFault) → IsOfBytes (doc_fault n e)
-of_doc n NotObject = tt
-of_doc n BadKey = tt
-of_doc n IdMismatch = tt
-of_doc n BadEdge = tt
-of_doc n (DuplicateKey key) = tt
-of_doc n DocTooMany = tt
-of_doc n DocMemory = tt
+of_doc : (n : ℕ) (e : DocFault) → OfDocument e → IsOfBytes (doc_fault n e)
+of_doc n NotObject h = tt
+of_doc n BadKey h = tt
+of_doc n IdMismatch h = tt
+of_doc n BadEdge h = tt
+of_doc n (DuplicateKey key) h = tt
+of_doc n DocTooMany h = tt
+of_doc n DocMemory h = absurd h
 
-of_json : (n : ℕ) (e : JsonFault) → IsOfBytes (json_fault n e)
-of_json n NotJson = tt
-of_json n TooDeep = tt
-of_json n NotWhole = tt
-of_json n JsonMemory = tt
+of_json : (n : ℕ) (e : JsonFault) → OfJson e → IsOfBytes (json_fault n e)
+of_json n NotJson h = tt
+of_json n TooDeep h = tt
+of_json n NotWhole h = tt
+of_json n JsonMemory h = absurd h
 
-of_declaring : (n : ℕ) (r : Result (List Held) CatalogFault) → StepOf (declaring n r)
-of_declaring n (Ok held) = tt
-of_declaring n (Err Twice) = tt
-of_declaring n (Err TooMany) = tt
-of_declaring n (Err CatalogMemory) = tt
+of_declaring : (n : ℕ) (r : Result (List Held) CatalogFault) → FaultIs OfCatalog r → StepOf (declaring n r)
+of_declaring n (Ok held) h = tt
+of_declaring n (Err Twice) h = tt
+of_declaring n (Err TooMany) h = tt
+of_declaring n (Err CatalogMemory) h = absurd h
 
-of_indexing : (n : ℕ) (r : Result (List Held) CatalogFault) → StepOf (indexing n r)
-of_indexing n (Ok held) = tt
-of_indexing n (Err Twice) = tt
-of_indexing n (Err TooMany) = tt
-of_indexing n (Err CatalogMemory) = tt
+of_indexing : (n : ℕ) (r : Result (List Held) CatalogFault) → FaultIs OfCatalog r → StepOf (indexing n r)
+of_indexing n (Ok held) h = tt
+of_indexing n (Err Twice) h = tt
+of_indexing n (Err TooMany) h = tt
+of_indexing n (Err CatalogMemory) h = absurd h
 
-of_adding : (n : ℕ) (r : Result (List Held) DocFault) → StepOf (adding n r)
-of_adding n (Ok held) = tt
-of_adding n (Err e) = of_doc n e
+of_adding : (n : ℕ) (r : Result (List Held) DocFault) → FaultIs OfDocument r → StepOf (adding n r)
+of_adding n (Ok held) h = tt
+of_adding n (Err e) h = of_doc n e h
 
-of_value : (n : ℕ) (held : List Held) (r : Result Tree JsonFault) → StepOf (with_value n held r)
-of_value n held (Ok value) = of_adding n (added held (length held - 1) value)
-of_value n held (Err e) = of_json n e
+of_value : (n : ℕ) (held : List Held) (r : Result Tree JsonFault) → FaultIs OfJson r → StepOf (with_value n held r)
+of_value n held (Ok value) h =
+    of_adding n (added held (length held - 1) value) (added_is held (length held - 1) value)
+of_value n held (Err e) h = of_json n e h
 
 of_declaration : (n : ℕ) (held : List Held) (edge : Bool) (name : List ℕ) (options : Options)
     → StepOf (declaration n held edge name options)
@@ -85,12 +81,14 @@ of_declaration n held edge name options =
     either (is_some (place_of held name)) (fault (Line n DeclaredTwice))
     (if nat_lt 32 (shards_of options) then fault (Limit (Shards n)) else does) tt
     (either (nat_lt 32 (shards_of options)) (fault (Limit (Shards n))) does tt
-    (of_declaring n (declared held name edge (shards_of options) (keys_of options))))
+    (of_declaring n (declared held name edge (shards_of options) (keys_of options))
+    (declared_is held name edge (shards_of options) (keys_of options))))
 
 of_place : (n : ℕ) (held : List Held) (attributes : List (List ℕ)) (place : Option ℕ)
     → StepOf (index_at n held attributes place)
 of_place n held attributes None = tt
-of_place n held attributes (Some number) = of_indexing n (indexed held number attributes)
+of_place n held attributes (Some number) =
+    of_indexing n (indexed held number attributes) (indexed_is held number attributes)
 
 of_index : (n : ℕ) (held : List Held) (name : List ℕ) (attributes : List (List ℕ))
     → StepOf (index n held name attributes)
@@ -111,7 +109,7 @@ of_document : (n : ℕ) (held : List Held) (line : List ℕ) → StepOf (documen
 unfolding document
 of_document n held line =
     either (nat_eq (length held) 0) (fault (Line n NoCollection)) (with_value n held (json_line line)) tt
-    (of_value n held (json_line line))
+    (of_value n held (json_line line) (json_is line))
 
 of_first : (n : ℕ) (held : List Held) (line : List ℕ) (first : Option ℕ) → StepOf (by_first n held line first)
 of_first n held line None = tt
@@ -154,6 +152,16 @@ of_read n held (l ∷ []) = of_last n held l
 of_read n held (l ∷ m ∷ ls) =
     of_after (n + 1) (step (n + 1) held (without_cr l)) held (λ more. read step (n + 1) more (m ∷ ls))
     (joined (m ∷ ls)) (of_step (n + 1) held (without_cr l)) (λ more. of_read (n + 1) more (m ∷ ls))
+
+pub fault_of_bytes : (bytes : List ℕ) (e : LoadFault) → HasFault bytes e → IsOfBytes e
+unfolding script
+fault_of_bytes bytes e h =
+    subst (λ r. IfErr r IsOfBytes) h
+    (elim (nat_le (length bytes) 67108864)
+    as (λ b. IfErr {T = Loaded} {E = LoadFault} (if b then lines bytes else Err (Limit ScriptBytes)) IsOfBytes) [
+      | true ↦ of_read 0 [] (pieces 10 bytes)
+      | false ↦ tt
+    ])
 
 pub fault_of_lines : (bytes : List ℕ) (e : LoadFault) → lines bytes ≡ Err e → IsOfBytes e
 fault_of_lines bytes e h = subst (λ r. IfErr r IsOfBytes) h (of_read 0 [] (pieces 10 bytes))

@@ -35,7 +35,7 @@ module _ (bytes : List ℕ) (before after : Option (List ℕ)) where
   hinder faults faults' h c a Read m = absurd (fault_of_lines bytes Read m)
   hinder faults faults' h c a (Limit kind) m = faulty h c a (Limit kind) m
   hinder faults faults' h c a (Line n kind) m = faulty h c a (Line n kind) m
-  hinder faults faults' h c a Memory m = tt
+  hinder faults faults' h c a Memory m = absurd (fault_of_lines bytes Memory m)
 
   pub hinders : (faults faults' : ℕ) → length bytes ≤ 67108864 → Consumes before after bytes → IsAtEnd after
       → (r : Result Loaded LoadFault) → Meets r (lines bytes)

@@ -1,5 +1,5 @@
--- The script that bytes are, or its first fault: at most 67,108,864 bytes, and then the lines in order. And what a
--- call that loads a script from a source says of the source.
+-- The script that bytes are, or its first fault: at most 67,108,864 bytes, and then the lines in order. And what
+-- a call that loads a script from a source says of the source.
 use Rattle.std.specs.Prelude.{◌≡◌, ◌≤◌, ℕ, List, [], Result, Ok, Err, Option, length, nat_le, if◌then◌else◌}
 use Rattle.std.specs.Io.KnownBytes.{IsAtEnd}
 use Rattle.aql_io.specs.Bytes.{HandsOut}
@@ -25,6 +25,13 @@ IsScript bytes loaded = script bytes ≡ Ok loaded
 -- this is the first fault of the bytes
 abbrev pub HasFault : List ℕ → LoadFault → Type 0
 HasFault bytes e = script bytes ≡ Err e
+
+-- a fault that bytes can have: want of memory and failed reads come to a call alone
+abbrev pub IsOfBytes : LoadFault → Type 0
+IsOfBytes (Line n kind) = Unit {0}
+IsOfBytes (Limit kind) = Unit {0}
+IsOfBytes Read = ⊥
+IsOfBytes Memory = ⊥
 
 -- A script was read to the end of the source.
 abbrev pub Loads : Loaded → Option (List ℕ) → Option (List ℕ) → Type 0

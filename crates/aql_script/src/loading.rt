@@ -1,9 +1,10 @@
-ghost use Rattle.std.specs.Prelude.{◌≡◌, ◌≤◌, ◌<◌, ⊤, length, IfOk, IfErr, OnErr};
+ghost use Rattle.std.specs.Prelude.{◌≡◌, ◌≢◌, ◌≤◌, ◌<◌, ⊤, ℕ, List, length, Err, IfOk, IfErr, OnErr};
 ghost use Rattle.aql_script.specs.Lines.{last, with_query, without_cr};
 ghost use Rattle.aql_script.specs.Meets.{Meets};
-ghost use Rattle.aql_script.specs.Script.{lines, Loads, Hinders};
+ghost use Rattle.aql_script.specs.Script.{lines, Loads, Hinders, HasFault, IsOfBytes};
 ghost use Rattle.aql_io.specs.Bytes.{HandsOut};
 ghost use Rattle.aql_script.specs.Steps.{step};
+ghost use Rattle.aql_script.specs.declared.faults.LoadFault.{LoadFault};
 ghost use Rattle.aql_script.specs.declared.faults.LoadFault.TheVariants.{Line};
 ghost use Rattle.aql_script.specs.declared.faults.LineKind.TheVariants.{NoQuery};
 
@@ -43,6 +44,7 @@ pub fn load<S: Source>(alloc: Global, source: &mut S) -> Result<Loaded, LoadFaul
         (S.faults source.old) (S.faults source.new)) }
     ensures front { OnErr result
         (HandsOut (S.left source.old) (S.left source.new) (λ _. ⊤)) }
+    ensures quiet { result ≢ Err LoadFault.Read → S.faults source.new ≡ S.faults source.old }
     ensures later { S.faults source.old ≤ S.faults source.new }
 {
     match read_all(alloc, source, SCRIPT_BYTES) {
@@ -52,6 +54,12 @@ pub fn load<S: Source>(alloc: Global, source: &mut S) -> Result<Loaded, LoadFaul
         Err(ReadAllFault::Memory) => Err(LoadFault::Memory),
     }
 }
+
+/// The fault of a script's bytes is that of a line or a limit: want of memory and a failed read come
+/// to a call alone.
+pub fn bytes_have_no_other_fault()
+    ensures { (bytes : List ℕ) (fault : LoadFault) → HasFault bytes fault → IsOfBytes fault }
+{}
 
 // A carriage return at the end of a line is dropped.
 fn without_cr(line: &[u8]) -> &[u8]

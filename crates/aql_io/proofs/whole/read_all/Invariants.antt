@@ -1,4 +1,4 @@
-use Rattle.std.proofs.Common.{◌≤◌, length, ◌-◌}
+use Rattle.std.proofs.Common.{◌≡◌, ◌≤◌, length, ◌-◌}
 use Rattle.std.specs.Io.KnownBytes.{Consumes}
 use Rattle.aql_io.proofs.whole.read_all.Given as goal
 
@@ -7,7 +7,7 @@ abbrev pub invariant-chunks : goal.invariant-chunks
 invariant-chunks g l = record {
   consumed : Consumes (g.S.Source.left l.initial.source) (g.S.Source.left l.source) l.bytes.items;
   within : length l.bytes.items ≤ l.limit;
-  later : g.S.Source.faults l.initial.source ≤ g.S.Source.faults l.source;
+  quiet : g.S.Source.faults l.source ≡ g.S.Source.faults l.initial.source;
 }
 
 abbrev pub decreases-chunks : goal.decreases-chunks

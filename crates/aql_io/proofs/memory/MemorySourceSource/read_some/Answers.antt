@@ -8,7 +8,8 @@ returns-clause-bytes c =
     let all = inside.bytes.items in
     let count = c.count-count.result in
     let left_is : drop inside.at all ≡ c.args.self.now.left = ap (λ v. v.left) c.self.view_is in
-    let until_is : inside.until_fault ≡ c.args.self.now.until_fault = ap (λ v. v.until_fault) c.self.view_is in
+    let until_is : inside.until_fault ≡ c.args.self.now.until_fault =
+    ap (λ v. v.until_fault) c.self.view_is in
     let copied : take count c.copy_front.new.into ≡ take count (drop inside.at all) =
     rw c.deref.ensures.value at c.copy_front.ensures.front in
     let goes_on : c.args.self.now.until_fault ≢ Some 0 =
