@@ -1,14 +1,17 @@
 -- What a line of JSON gives, from what was read of it.
-use Rattle.std.proofs.Common.{◌≡◌, ◌≤◌, if◌then◌else◌, ℕ, List, Some, None, Ok, Err, true, false, refl, nat_le, arith}
-use Rattle.std.specs.Prelude.{IsUtf8}
+use Rattle.std.proofs.Common.{◌≡◌, ◌≤◌, if◌then◌else◌, ℕ, List, Some, None, Ok, Err, true, false, refl, inl, inr, nat_le, arith}
+use Rattle.std.specs.Prelude.{◌⊎◌, IsUtf8, Result, IfOk, IfErr, MatchResult}
 use Rattle.std.specs.Str.{is_utf8}
 use Rattle.std.proofs.lemmas.Str.{is_utf8-from_IsUtf8, IsUtf8-from_is_utf8}
 use Rattle.serde_json.specs.Data.{Data, depth}
 use Rattle.serde_json.specs.Read.{read}
 use Rattle.aql_value.specs.Tree.{Tree}
 use Rattle.aql_value.specs.Whole.{whole}
-use Rattle.aql_value.specs.JsonLine.{json_line, of_data, deepest}
-use Rattle.aql_value.specs.declared.reading.JsonFault.TheVariants.{NotJson, TooDeep, NotWhole}
+use Rattle.aql_value.specs.JsonLine.{json_line, of_data, deepest, Refuses}
+use Rattle.aql_value.specs.View.{tree_of}
+use Rattle.aql_value.specs.declared.values.Value.{Value}
+use Rattle.aql_value.specs.declared.reading.JsonFault.{JsonFault}
+use Rattle.aql_value.specs.declared.reading.JsonFault.TheVariants.{NotJson, TooDeep, NotWhole, Memory}
 
 within : (d : Data) → depth d ≤ deepest → nat_le (depth d) deepest ≡ true
 within d h = grind (arith, h)
@@ -16,15 +19,34 @@ within d h = grind (arith, h)
 beyond : (d : Data) → (depth d ≤ deepest → ⊥) → nat_le (depth d) deepest ≡ false
 beyond d h = grind (arith, h)
 
-pub value_is : (d : Data) (t : Tree) (line : List ℕ)
+pub read_whole : (d : Data) (t : Tree) (line : List ℕ)
     → IsUtf8 line → read line ≡ Some d → depth d ≤ deepest → whole d ≡ Some t → json_line line ≡ Ok t
 unfolding json_line
-value_is d t line u r h w = rw (is_utf8-from_IsUtf8 line u, r, within d h, w) refl
+read_whole d t line u r h w = rw (is_utf8-from_IsUtf8 line u, r, within d h, w) refl
 
-pub part_is : (d : Data) (line : List ℕ)
+read_part : (d : Data) (line : List ℕ)
     → IsUtf8 line → read line ≡ Some d → depth d ≤ deepest → whole d ≡ None → json_line line ≡ Err NotWhole
 unfolding json_line
-part_is d line u r h w = rw (is_utf8-from_IsUtf8 line u, r, within d h, w) refl
+read_part d line u r h w = rw (is_utf8-from_IsUtf8 line u, r, within d h, w) refl
+
+-- what is turned into a value, or not
+abbrev Turned : Data → Result Value JsonFault → Type 0
+Turned d r = MatchResult r (λ v. whole d ≡ Some (tree_of v)) (λ e. Refuses e (whole d ≡ None))
+
+pub value_is : (d : Data) (line : List ℕ) (r : Result Value JsonFault)
+    → IsUtf8 line → read line ≡ Some d → depth d ≤ deepest → Turned d r
+    → IfOk r (λ v. json_line line ≡ Ok (tree_of v))
+value_is d line (Ok v) u r h w = read_whole d (tree_of v) line u r h w
+value_is d line (Err e) u r h w = tt
+
+pub fault_is : (d : Data) (line : List ℕ) (r : Result Value JsonFault)
+    → IsUtf8 line → read line ≡ Some d → depth d ≤ deepest → Turned d r
+    → IfErr r (λ e. (e ≡ Memory) ⊎ (json_line line ≡ Err e))
+fault_is d line (Ok v) u r h w = tt
+fault_is d line (Err NotJson) u r h w = absurd w
+fault_is d line (Err TooDeep) u r h w = absurd w
+fault_is d line (Err NotWhole) u r h w = inr (read_part d line u r h w)
+fault_is d line (Err Memory) u r h w = inl refl
 
 pub deep_is : (d : Data) (line : List ℕ)
     → IsUtf8 line → read line ≡ Some d → (depth d ≤ deepest → ⊥) → json_line line ≡ Err TooDeep

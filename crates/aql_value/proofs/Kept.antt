@@ -24,29 +24,16 @@ items_pushed (w ∷ vs) v h k = (h.0, items_pushed vs v h.1 k)
 
 -- ---- places of names
 
-pub each_below_more : (k : List ℕ) (es : List Member) (i : ℕ) (d : Member) → i < length es
-    → EachBelow k (take i (fields_in es)) → BytesBelow (get_or es i d).name k
-    → EachBelow k (take (suc i) (fields_in es))
-each_below_more k [] i d lt h b = absurd (omega arith)
-each_below_more k (e ∷ es) zero d lt h b = (b, tt)
-each_below_more k (e ∷ es) (suc i) d lt h b = (h.0, each_below_more k es i d (omega arith) h.1 b)
-
 pub starts_at : (k : List ℕ) (es : List Member) (i : ℕ) (d : Member) → i < length es
     → (get_or es i d).name ≡ k → StartsAt k (drop i (fields_in es))
 starts_at k [] i d lt e = absurd (omega arith)
 starts_at k (m ∷ es) zero d lt e = e
 starts_at k (m ∷ es) (suc i) d lt e = starts_at k es i d (omega arith) e
 
-pub starts_above : (k : List ℕ) (es : List Member) (i : ℕ) (d : Member) → i < length es
-    → BytesBelow k (get_or es i d).name → StartsAbove k (drop i (fields_in es))
-starts_above k [] i d lt e = absurd (omega arith)
-starts_above k (m ∷ es) zero d lt e = e
-starts_above k (m ∷ es) (suc i) d lt e = starts_above k es i d (omega arith) e
-
 itself : (k : List ℕ) → slice_cmp nat_cmp k k ≡ Equal
 itself k = tied_itself nat_list_cmp_total k
 
-above : (k l : List ℕ) → BytesBelow l k → slice_cmp nat_cmp k l ≡ Greater
+pub above : (k l : List ℕ) → BytesBelow l k → slice_cmp nat_cmp k l ≡ Greater
 above k l b = nat_list_cmp_total.antisymm k l ∙ ap ordering_reverse b
 
 equal : (k l : List ℕ) → l ≡ k → slice_cmp nat_cmp k l ≡ Equal

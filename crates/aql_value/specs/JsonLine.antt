@@ -8,7 +8,7 @@ use Rattle.serde_json.specs.Read.{read}
 use Rattle.aql_value.specs.Tree.{Tree}
 use Rattle.aql_value.specs.Whole.{whole}
 use Rattle.aql_value.specs.declared.reading.JsonFault.{JsonFault}
-use Rattle.aql_value.specs.declared.reading.JsonFault.TheVariants.{NotJson, TooDeep, NotWhole}
+use Rattle.aql_value.specs.declared.reading.JsonFault.TheVariants.{NotJson, TooDeep, NotWhole, Memory}
 
 abbrev pub deepest : ℕ
 deepest = 64
@@ -24,3 +24,9 @@ of_data (Some d) = if nat_le (depth d) deepest then of_whole (whole d) else Err 
 -- only a line in UTF-8 is read
 unfoldable pub json_line : List ℕ → Result Tree JsonFault
 json_line line = if is_utf8 line then of_data (read line) else Err NotJson
+
+-- what a private call says of its fault: there is no value since a number is not whole, or memory ran out
+abbrev pub Refuses : JsonFault → Type 0 → Type 0
+Refuses NotWhole P = P
+Refuses Memory P = Unit {0}
+Refuses e P = ⊥

@@ -13,7 +13,6 @@ pub mod Json
 pub mod Writes
 pub mod Whole
 pub mod JsonLine
-pub mod Turned
 pub mod Hashed
 pub mod RoundTrip
 pub mod Parts

@@ -24,8 +24,8 @@ fn json_of(alloc: Global, value: &Value) -> Result<Text, OutOfMemory>
     let mut bytes = Vec::new(alloc);
     write_json(value, &mut bytes)?;
     recall_well_formed(value);
-    match str::from_utf8(&bytes) {
-        Ok(text) => Ok(Text::new(alloc, text)?),
+    match String::from_utf8(bytes) {
+        Ok(text) => Ok(Text::from(text)),
         Err(_) => unreachable!(),
     }
 }

@@ -3,6 +3,10 @@ ghost use Rattle.aql_value.specs.View.{tree_of};
 ghost use Rattle.aql_value.specs.Attributes.{with_attribute, attribute};
 ghost use Rattle.aql_value.specs.Fields.{fields_in};
 ghost use Rattle.aql_value.specs.Place.{IsPlace};
+ghost use Rattle.aql_value.specs.Tree.{object_of};
+ghost use Rattle.aql_value.specs.WellFormed.{FieldsWellFormed};
+ghost use Rattle.std.specs.Ordering.{nat_cmp};
+ghost use Rattle.std.specs.Cmp.Lexicographic.{slice_cmp};
 
 use crate::texts::recall_utf8;
 use crate::values::{Member, recall_well_formed};
@@ -93,19 +97,18 @@ impl Members {
 
 // The place of a name, or the place where it would be put.
 fn place_of(entries: &[Member], name: &str) -> Result<usize, usize>
+    requires { FieldsWellFormed (object_of (fields_in entries.now)) }
     ensures { IsPlace result name.now (fields_in entries.now) }
 {
-    for (i, entry) in entries.iter().enumerate() {
-        match entry.name.as_str().cmp(name) {
-            Ordering::Less => {}
-            Ordering::Equal => return Ok(i),
-            Ordering::Greater => return Err(i),
-        }
-    }
-    Err(entries.len())
+    entries.binary_search_by(
+        |entry: &Member| -> Ordering
+            ensures { result ≡ slice_cmp nat_cmp entry.now.name name.entry.now }
+        { entry.name.as_str().cmp(name) },
+    )
 }
 
 fn set_in(entries: &mut Vec<Member>, name: Text, value: Value) -> Result<(), OutOfMemory>
+    requires { FieldsWellFormed (object_of (fields_in entries.old.items)) }
     ensures ok { OnOk result
         (fields_in entries.new.items ≡ with_attribute name (tree_of value) (fields_in entries.old.items)) }
     ensures err { OnErr result (entries.new.items ≡ entries.old.items) }

@@ -3,6 +3,7 @@ ghost use Rattle.std.specs.Prelude.{◌≡◌, OnOk};
 use crate::{OutOfMemory, Text};
 use std::alloc::Global;
 use std::marker::Model;
+use std::slice;
 
 /// A list. Contracts see it as the list of its items.
 pub struct Seq<T> {
@@ -38,6 +39,23 @@ impl<T> Model for Seq<T> {
     ghost Value = { List T };
 
     ghost view = { λ a. a.items.items };
+}
+
+impl<'a, T> IntoIterator for &'a Seq<T> {
+    type Item = &'a T;
+
+    type IntoIter = slice::Iter<'a, T>;
+
+    ghost use Rattle.std.specs.Prelude.{◌≡◌, ◌<◌, ◌^◌, length};
+    ghost use Rattle.std.specs.Slice.Iter.{iter_rest, iter_steps};
+    ghost use Rattle.std.specs.Iterator.Runs.{EveryRun, ItemsMapTo};
+
+    ghost into_iter_gives = { λ s r. (iter_rest r ≡ s.now) × (length (iter_rest r) < 2 ^ 64)
+        × EveryRun (iter_steps {A = T}) (λ p. ItemsMapTo p (λ y. y.now) (iter_rest p.from)) };
+
+    fn into_iter(self) -> slice::Iter<'a, T> {
+        self.items.iter()
+    }
 }
 
 impl<T> Seq<T> {

@@ -4,7 +4,7 @@ ghost use Rattle.aql_value.specs.View.{tree_of};
 ghost use Rattle.aql_value.specs.Fields.{compare_entry};
 ghost use Rattle.aql_value.specs.Order.{Compares, kind};
 ghost use Rattle.aql_value.specs.Compare.{compare, compare_items, compare_fields};
-ghost use Rattle.aql_value.specs.TotalOrder.{BelowIsTotal, BelowIsTransitive, ObjectsCompareAtLeastName};
+ghost use Rattle.aql_value.specs.TotalOrder.{BelowIsTotal, BelowIsTransitive, ObjectsCompareAtLeastName, CompareAgrees};
 
 use crate::values::Member;
 use crate::{Items, Members, Value};
@@ -21,12 +21,14 @@ pub fn cmp(a: &Value, b: &Value) -> Ordering
 }
 
 /// The law of the order: of two values exactly one of less, identical and greater holds; less is
-/// transitive; and objects compare at the least attribute at which they differ, where a missing
-/// attribute is below null.
+/// transitive; objects compare at the least attribute at which they differ, where a missing
+/// attribute is below null; and `compare`, the function by which values are sorted, looked up and
+/// grouped, answers by this order.
 pub fn order_is_total()
     ensures total { BelowIsTotal }
     ensures transitive { BelowIsTransitive }
     ensures objects { ObjectsCompareAtLeastName }
+    ensures compare { CompareAgrees }
 {}
 
 #[cycle(ordering)]

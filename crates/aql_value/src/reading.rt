@@ -4,9 +4,8 @@ ghost use Rattle.serde_json.specs.View.{view, items_view, members_view};
 ghost use Rattle.aql_value.specs.Tree.{array_of, object_of};
 ghost use Rattle.aql_value.specs.View.{tree_of};
 ghost use Rattle.aql_value.specs.Whole.{whole, whole_items, whole_members};
-ghost use Rattle.aql_value.specs.JsonLine.{json_line};
 ghost use Rattle.aql_value.specs.RoundTrip.{TextIsCompact, TextReadsBack};
-ghost use Rattle.aql_value.specs.Turned.{FaultIs};
+ghost use Rattle.aql_value.specs.JsonLine.{json_line, Refuses};
 ghost use Rattle.aql_value.specs.declared.reading.JsonFault.TheVariants.{Memory};
 
 use crate::texts::recall_utf8;
@@ -46,11 +45,7 @@ pub fn from_json_line(alloc: Global, line: &[u8]) -> Result<Value, JsonFault>
     match serde_json::Value::from_slice(alloc, line) {
         Ok(json) => {
             if nests_within(&json, DEEPEST) {
-                match turned(alloc, &json) {
-                    Ok(value) => Ok(value),
-                    Err(Unturned::NotWhole) => Err(JsonFault::NotWhole),
-                    Err(Unturned::Memory) => Err(JsonFault::Memory),
-                }
+                value_of(alloc, json)
             } else {
                 Err(JsonFault::TooDeep)
             }
@@ -64,7 +59,7 @@ pub fn from_json_line(alloc: Global, line: &[u8]) -> Result<Value, JsonFault>
 }
 
 /// Two laws of the canonical JSON: it is the compact text that `serde_json` writes, and reading it
-/// gives the value back.
+/// gives the value back where its arrays and objects nest at most 64 deep.
 pub fn text_is_read_back()
     ensures compact { TextIsCompact }
     ensures back { TextReadsBack }
@@ -105,88 +100,79 @@ fn members_nest_within(members: &Map<String, serde_json::Value>, room: u8) -> bo
     true
 }
 
-// Why data gives no value.
-#[derive(Clone, Copy, PartialEq, Eq, Drop)]
-enum Unturned {
-    NotWhole,
-    Memory,
-}
+impl From<OutOfMemory> for JsonFault {
+    ghost use Rattle.aql_value.specs.declared.reading.JsonFault.{JsonFault};
 
-impl From<OutOfMemory> for Unturned {
-    ghost use Rattle.aql_value.specs.declared.reading.Unturned.{Unturned};
+    ghost from_gives = { λ _ e. e ≡ JsonFault.Memory };
 
-    ghost from_gives = { λ _ u. u ≡ Unturned.Memory };
-
-    fn from(_: OutOfMemory) -> Unturned {
-        Unturned::Memory
+    fn from(_: OutOfMemory) -> JsonFault {
+        JsonFault::Memory
     }
 }
 
-impl<T: Drop> From<AllocFailed<T>> for Unturned {
-    ghost use Rattle.aql_value.specs.declared.reading.Unturned.{Unturned};
+impl<T: Drop> From<AllocFailed<T>> for JsonFault {
+    ghost use Rattle.aql_value.specs.declared.reading.JsonFault.{JsonFault};
 
-    ghost from_gives = { λ _ u. u ≡ Unturned.Memory };
+    ghost from_gives = { λ _ e. e ≡ JsonFault.Memory };
 
-    fn from(_: AllocFailed<T>) -> Unturned {
-        Unturned::Memory
+    fn from(_: AllocFailed<T>) -> JsonFault {
+        JsonFault::Memory
     }
 }
 
-impl From<AllocError> for Unturned {
-    ghost use Rattle.aql_value.specs.declared.reading.Unturned.{Unturned};
+impl From<AllocError> for JsonFault {
+    ghost use Rattle.aql_value.specs.declared.reading.JsonFault.{JsonFault};
 
-    ghost from_gives = { λ _ u. u ≡ Unturned.Memory };
+    ghost from_gives = { λ _ e. e ≡ JsonFault.Memory };
 
-    fn from(_: AllocError) -> Unturned {
-        Unturned::Memory
+    fn from(_: AllocError) -> JsonFault {
+        JsonFault::Memory
     }
 }
 
-#[cycle(turning)]
-fn turned(alloc: Global, json: &serde_json::Value) -> Result<Value, Unturned>
+// The value that the data stands for; its texts and names are moved and not copied.
+#[cycle(values)]
+fn value_of(alloc: Global, json: serde_json::Value) -> Result<Value, JsonFault>
     ensures { MatchResult result
-        (λ v. whole (view json.now) ≡ Some (tree_of v))
-        (λ e. FaultIs e (whole (view json.now) ≡ None)) }
+        (λ v. whole (view json) ≡ Some (tree_of v))
+        (λ e. Refuses e (whole (view json) ≡ None)) }
 {
     match json {
         serde_json::Value::Null => Ok(Value::Null),
-        serde_json::Value::Bool(b) => Ok(Value::Bool(*b)),
+        serde_json::Value::Bool(b) => Ok(Value::Bool(b)),
         serde_json::Value::Number(n) => match n.as_i64() {
             Some(n) => Ok(Value::Num(n)),
-            None => Err(Unturned::NotWhole),
+            None => Err(JsonFault::NotWhole),
         },
-        serde_json::Value::String(text) => Ok(Value::Text(Text::new(alloc, text.as_str())?)),
-        serde_json::Value::Array(items) => Ok(Value::List(turned_items(alloc, items)?)),
-        serde_json::Value::Object(members) => Ok(Value::Object(turned_members(alloc, members)?)),
+        serde_json::Value::String(text) => Ok(Value::Text(Text::from(text))),
+        serde_json::Value::Array(items) => Ok(Value::List(items_of(alloc, items)?)),
+        serde_json::Value::Object(members) => Ok(Value::Object(members_of(alloc, members)?)),
     }
 }
 
-#[cycle(turning)]
-fn turned_items(alloc: Global, items: &Vec<serde_json::Value>) -> Result<Items, Unturned>
+#[cycle(values)]
+fn items_of(alloc: Global, items: Vec<serde_json::Value>) -> Result<Items, JsonFault>
     ensures { MatchResult result
-        (λ v. whole_items (items_view items.now.items) ≡ Some (array_of v))
-        (λ e. FaultIs e (whole_items (items_view items.now.items) ≡ None)) }
+        (λ v. whole_items (items_view items.items) ≡ Some (array_of v))
+        (λ e. Refuses e (whole_items (items_view items.items) ≡ None)) }
 {
     let mut out = Items::new(alloc);
     for item in items {
-        out.push(turned(alloc, item)?)?;
+        out.push(value_of(alloc, item)?)?;
     }
     Ok(out)
 }
 
-#[cycle(turning)]
-fn turned_members(
-    alloc: Global,
-    members: &Map<String, serde_json::Value>,
-) -> Result<Members, Unturned>
+#[cycle(values)]
+fn members_of(alloc: Global, members: Map<String, serde_json::Value>) -> Result<Members, JsonFault>
     ensures { MatchResult result
-        (λ v. whole_members (members_view members.now.entries) ≡ Some (object_of v))
-        (λ e. FaultIs e (whole_members (members_view members.now.entries) ≡ None)) }
+        (λ v. whole_members (members_view members.entries) ≡ Some (object_of v))
+        (λ e. Refuses e (whole_members (members_view members.entries) ≡ None)) }
 {
-    let mut entries = Vec::new(alloc);
-    for (key, member) in members.iter() {
-        let name = Text::new(alloc, key.as_str())?;
-        let value = turned(alloc, member)?;
+    let mut entries = Vec::with_capacity(alloc, members.len())?;
+    for (key, member) in members {
+        let name = Text::from(key);
+        let value = value_of(alloc, member)?;
         recall_well_formed(&value);
         recall_utf8(&name);
         entries.push(Member { name, value })?;

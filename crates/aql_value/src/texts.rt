@@ -22,9 +22,8 @@ impl Text {
     pub fn new(alloc: Global, text: &str) -> Result<Text, OutOfMemory>
         ensures { IfOk result (λ t. t ≡ text.now) }
     {
-        let mut own = String::new(alloc);
-        own.push_str(text)?;
-        Ok(Text { text: own })
+        let text = String::from_str(alloc, text)?;
+        Ok(Text { text })
     }
 
     /// The text, borrowed.
@@ -47,6 +46,16 @@ pub fn recall_utf8(text: &Text)
     ensures { IsUtf8 text.now }
 {
     let _text = text.as_str();
+}
+
+impl From<String> for Text {
+    ghost use Rattle.std.specs.Prelude.{◌≡◌, string_bytes};
+
+    ghost from_gives = { λ s t. t ≡ string_bytes s };
+
+    fn from(text: String) -> Text {
+        Text { text }
+    }
 }
 
 impl Drop for Text {
