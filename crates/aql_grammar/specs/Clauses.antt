@@ -120,7 +120,8 @@ module _ (E : Bool → ExprTree → Tokens → Tokens → Type 0) (inside : Bool
         → IsClause (e.for_in v x ∷ []) (k.Keyword w.For ∷ a) c
     for_paths : {names : e.WalkNames} {least greatest : ℕ} {way : Direction} {start : ExprTree}
         {edges : List (List ℕ)} {prune : Option ExprTree} {ms : List MemberPart}
-        {a b c d f g h i : Tokens} → AreTraversalNames names a (k.Keyword w.In ∷ b) → IsDepth least greatest b c
+        {a b c d f g h i : Tokens} → AreTraversalNames names a (k.Keyword w.In ∷ b)
+            → IsDepth least greatest b c
         → IsDirection way c d → E inside start d f
         → AreSeparated IsName edges f g → IsPrune prune g h → AreOptions ms h i
         → IsClause (walked (e.traversal names least greatest way start edges prune ms) ∷ [])

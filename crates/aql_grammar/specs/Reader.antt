@@ -188,8 +188,8 @@ begins_direction i = begins_direction_by (head i) (begins_comparison (next i))
 
 -- after the first number
 unfoldable pub begins_after_number : Tokens → Bool
-begins_after_number i = if sees s.Range i && is_number (head (next i)) then begins_direction (next (next i)) else
-    begins_direction i
+begins_after_number i = if sees s.Range i && is_number (head (next i))
+    then begins_direction (next (next i)) else begins_direction i
 
 unfoldable pub begins_traversal : Tokens → Bool
 begins_traversal i = if is_number (head i) then begins_after_number (next i) else begins_direction i
@@ -409,7 +409,8 @@ module _ (expr : Bool → Parser ExprTree) (inside : Bool) where
   clause_by found (Some (k.Keyword w.For)) = skip >> with_clause found <$> for_clause
   clause_by found (Some (k.Keyword w.Filter)) = skip >> (λ x. with_clause found (keep_if x)) <$> expr inside
   clause_by found (Some (k.Keyword w.Let)) = skip >> separated_onto let_clause found
-  clause_by found (Some (k.Keyword w.Sort)) = skip >> (λ ks. with_clause found (sort ks)) <$> separated sort_key
+  clause_by found (Some (k.Keyword w.Sort)) =
+      skip >> (λ ks. with_clause found (sort ks)) <$> separated sort_key
   clause_by found (Some (k.Keyword w.Limit)) = skip >> with_clause found <$> limit
   clause_by found (Some (k.Keyword w.Collect)) = skip >> with_clause found <$> collect
   clause_by found other = refuse

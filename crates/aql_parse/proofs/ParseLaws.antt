@@ -14,13 +14,15 @@ use Rattle.aql_grammar.specs.declared.faults.ParseFault.{ParseFault}
 use Rattle.aql_grammar.specs.declared.faults.ParseFault.TheVariants.{TooDeep, TooManyClauses, NotInGrammar}
 use Rattle.aql_grammar.specs.declared.faults.ParseFault.TheVariants.{WalkTooDeep, Memory}
 use Rattle.aql_grammar.specs.laws.TreeLaws.{tree_whole, one_tree}
-use Rattle.aql_parse.specs.Parsed.{WithinLimits, IsShallow, HasNoTree, TraversesTooDeep, Gives, Parsed, ReadsWhole}
+use Rattle.aql_parse.specs.Parsed.{WithinLimits, IsShallow, HasNoTree, TraversesTooDeep, Gives, Parsed}
+use Rattle.aql_parse.specs.Parsed.{ReadsWhole}
 
 pub no_tree : (ts : Tokens) → whole_query ts ≡ None → HasNoTree ts
 no_tree ts none q a = let p = tree_whole_query ts q a in absurd (cc)
 
 -- what the grammar refuses within the limits
-pub refused : (ts : Tokens) (e : ParseFault) → ReadsWhole (whole_query ts) (Err e) → nesting ts ≤ 64 → marks ts ≤ 256
+pub refused : (ts : Tokens) (e : ParseFault) → ReadsWhole (whole_query ts) (Err e) → nesting ts ≤ 64
+    → marks ts ≤ 256
     → Parsed ts (Err e)
 refused ts TooDeep h deep many = absurd h
 refused ts TooManyClauses h deep many = absurd h
@@ -46,7 +48,9 @@ gives_only ts (Err TooManyClauses) h q a within shallow = let w = within.1 in le
     (omega arith)
 gives_only ts (Err NotInGrammar) h q a within shallow = absurd (h.1 q a)
 gives_only ts (Err WalkTooDeep) h q a within shallow =
-    let same = one_tree ts h.1.0 q h.1.1.0 a in let e = ap (traversals_within 32) same in let deep = h.1.1.1 in
+    let same = one_tree ts h.1.0 q h.1.1.0 a in
+    let e = ap (traversals_within 32) same in
+    let deep = h.1.1.1 in
     absurd (cc)
 gives_only ts (Err Memory) h q a within shallow = tt
 

@@ -24,7 +24,8 @@ use Rattle.aql_grammar.specs.Clauses.{AreOptions, IsClause, AreClauses, IsDistin
 use Rattle.aql_grammar.specs.Input.{Parser, head, next, sees, sees_keyword, after_keyword, sees_word}
 use Rattle.aql_grammar.specs.Input.{is_name, is_number, same_symbol, same_keyword, name, natural, separated}
 use Rattle.aql_grammar.specs.Reader.{word, named_member, text_member, computed_member, member, members}
-use Rattle.aql_grammar.specs.Reader.{traversal_names, traversal_depth, limit, count_name, assignment, let_clause}
+use Rattle.aql_grammar.specs.Reader.{traversal_names, traversal_depth, limit, count_name, assignment}
+use Rattle.aql_grammar.specs.Reader.{let_clause}
 use Rattle.aql_grammar.specs.Reader.{sort_key, optional_argument, aggregate, aggregates, into_part, into}
 use Rattle.aql_grammar.specs.Reader.{groups, collect, prune, settings, traversal, for_clause}
 use Rattle.aql_grammar.specs.Reader.{begins_traversal, begins_clause, begins_query, clause, clauses_from}
@@ -39,14 +40,16 @@ use Rattle.aql_grammar.specs.laws.ListLaws.{items_complete}
 use Rattle.aql_grammar.specs.laws.OperatorLaws.{Ends, traversal_direction_read, traversal_direction_shrinks}
 use Rattle.aql_grammar.specs.laws.Shrinking.{member_shrinks, assignment_shrinks, let_shrinks}
 use Rattle.aql_grammar.specs.laws.Shrinking.{sort_key_shrinks, aggregate_shrinks, aggregates_fall}
-use Rattle.aql_grammar.specs.laws.Shrinking.{prune_falls, traversal_names_shrink, traversal_depth_falls, clause_shrinks}
+use Rattle.aql_grammar.specs.laws.Shrinking.{prune_falls, traversal_names_shrink, traversal_depth_falls}
+use Rattle.aql_grammar.specs.laws.Shrinking.{clause_shrinks}
 use Rattle.aql_grammar.specs.laws.Shrinking.{clauses_fall, distinct_falls}
 use Rattle.aql_grammar.specs.laws.Ending.{comma_ends, paren_ends, bracket_ends, brace_ends, asc_ends}
 use Rattle.aql_grammar.specs.laws.Ending.{desc_ends, with_ends, aggregate_ends, into_ends, name_ends}
 use Rattle.aql_grammar.specs.laws.Ending.{word_ends, Stop, stop_ends, stop_no_symbol, stop_no_keyword}
 use Rattle.aql_grammar.specs.laws.Ending.{stop_no_word, stop_no_name, clause_stops, word_no_symbol}
 use Rattle.aql_grammar.specs.laws.Ending.{options_no_prune, Starts, no_first_keyword}
-use Rattle.aql_grammar.specs.laws.Ending.{no_comparison_first, no_traversal_first, traversal_direction_begins, traversal_begins}
+use Rattle.aql_grammar.specs.laws.Ending.{no_comparison_first, no_traversal_first, traversal_direction_begins}
+use Rattle.aql_grammar.specs.laws.Ending.{traversal_begins}
 
 keyword_no_symbol : (keyword : Keyword) (symbol : Symbol) (ts : Tokens)
     → sees symbol (k.Keyword keyword ∷ ts) ≡ false
@@ -81,7 +84,8 @@ traversal_depth_complete : (m n : ℕ) (a b : Tokens) → IsDepth m n a b → is
 unfolding traversal_depth natural
 traversal_depth_complete m n a b IsDepth.unsaid number range = if_false _ _ _ a _ number refl
 traversal_depth_complete m n a b IsDepth.exact number range = eat_else s.Range _ _ b _ range refl
-traversal_depth_complete m n a b (IsDepth.between {b = c}) number range = eat_then s.Range _ _ (k.Number _ ∷ c) _ refl
+traversal_depth_complete m n a b (IsDepth.between {b = c}) number range = eat_then s.Range _ _
+    (k.Number _ ∷ c) _ refl
 
 distinct_complete : (d : Bool) (a b : Tokens) → IsDistinct d a b → sees_keyword w.Distinct b ≡ false
     → (sees_keyword w.Distinct a ≡ d) × (after_keyword w.Distinct a ≡ b)
@@ -437,7 +441,8 @@ module _ (R : Bool → Parser ExprTree) (E : Bool → ExprTree → Tokens → To
   names_front vs a b (AreSeparated.last {x = v} h) = name_ends v a b h
   names_front vs a b (AreSeparated.before {x = v} {b = c} h others) = name_ends v a (k.Symbol s.Comma ∷ c) h
 
-  traversal_complete : (names : e.WalkNames) (m n : ℕ) (d : Direction) (start : ExprTree) (edges : List (List ℕ))
+  traversal_complete : (names : e.WalkNames) (m n : ℕ) (d : Direction) (start : ExprTree)
+      (edges : List (List ℕ))
       (p : Option ExprTree) (ms : List MemberPart) (a b c f g h i : Tokens) → length a ≤ bound
       → IsDepth m n a b → IsDirection d b c → E inside start c f → AreSeparated IsName edges f g
       → IsPrune E inside p g h → AreOptions E inside ms h i → Stop i
@@ -451,7 +456,8 @@ module _ (R : Bool → Parser ExprTree) (E : Bool → ExprTree → Tokens → To
       let l4 = separated_shrinks IsName name_shrinks edges f g he in
       let l5 = prune_falls E shrinks inside p g h hp in
       let started = complete inside start c f (omega arith) hs (names_front edges f g he) in
-      let begun = traversal_direction_begins d b c hw (no_comparison_first (R inside) (starts inside) c (start, f) started)
+      let begun = traversal_direction_begins d b c hw
+          (no_comparison_first (R inside) (starts inside) c (start, f) started)
       in (
         traversal_begins m n a b hd begun.0 begun.1.0 begun.1.1,
         bind_here _ _ ((m, n), b) _ (traversal_depth_complete m n a b hd begun.1.0 begun.1.1)
@@ -490,10 +496,12 @@ module _ (R : Bool → Parser ExprTree) (E : Bool → ExprTree → Tokens → To
       {way = d} {start = start} {edges = edges} {prune = p} {ms = ms} {a = a'} {b = b'} {c = c'} {d = d'}
       {f = f'} {g = g'} {h = h'} hn hd hw hs he hp ho) stop =
       let i = traversal_names_shrink names a' (k.Keyword w.In ∷ b') hn in
-      let read = traversal_complete names m n d start edges p ms b' c' d' f' g' h' b (omega arith) hd hw hs he hp
+      let read = traversal_complete names m n d start edges p ms b' c' d' f' g' h' b
+          (omega arith) hd hw hs he hp
       ho stop in
       bind_here _ _ (walked (e.traversal names m n d start edges p ms), b) _
-      (bind_here _ _ (names, k.Keyword w.In ∷ b') _ (traversal_names_complete names a' (k.Keyword w.In ∷ b') hn
+      (bind_here _ _ (names, k.Keyword w.In ∷ b') _
+      (traversal_names_complete names a' (k.Keyword w.In ∷ b') hn
       (keyword_no_symbol w.In s.Comma b'))
       (keyword_then w.In b' _ _ (if_true _ _ _ b' _ read.0 read.1)))
       refl

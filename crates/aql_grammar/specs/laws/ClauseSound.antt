@@ -24,10 +24,12 @@ use Rattle.aql_grammar.specs.Clauses.{AreOptions, IsClause, AreClauses, IsDistin
 use Rattle.aql_grammar.specs.Input.{Parser, head, next, sees_keyword, after_keyword, is_name, is_number}
 use Rattle.aql_grammar.specs.Input.{expect, expect_keyword, expect_word, name, natural, separated}
 use Rattle.aql_grammar.specs.Reader.{word, named_member, text_member, computed_member, member, members}
-use Rattle.aql_grammar.specs.Reader.{traversal_names, traversal_depth, traversal_direction, limit, count_name, assignment, let_clause}
+use Rattle.aql_grammar.specs.Reader.{traversal_names, traversal_depth, traversal_direction, limit, count_name}
+use Rattle.aql_grammar.specs.Reader.{assignment, let_clause}
 use Rattle.aql_grammar.specs.Reader.{sort_key, optional_argument, aggregate, aggregates, into_part, into}
 use Rattle.aql_grammar.specs.Reader.{groups, collect, prune, settings, traversal, single_by, for_clause}
-use Rattle.aql_grammar.specs.Reader.{begins_traversal, begins_clause, clause_by, clause, clauses_from, clauses}
+use Rattle.aql_grammar.specs.Reader.{begins_traversal, begins_clause, clause_by, clause, clauses_from}
+use Rattle.aql_grammar.specs.Reader.{clauses}
 use Rattle.aql_grammar.specs.Reader.{query}
 use Rattle.aql_grammar.specs.laws.Steps.{Sound, bind_some, some_same, done, expect_some, keyword_some}
 use Rattle.aql_grammar.specs.laws.Steps.{word_some, eat_cases, keyword_cases, word_cases, if_cases}
@@ -83,7 +85,8 @@ traversal_names_sound ts y h =
     let p = bind_some (name (next x.0.1)) _ y c.1 in
     done AreTraversalNames ts _ p.0.1 y p.2 (AreTraversalNames.path (subst (λ r. IsName v.0.0 ts r) m.0 one)
     (subst (λ r. IsName x.0.0 (next v.0.1) r) c.0 two) (name_sound (next x.0.1) p.0 p.1)))
-    (λ c. done AreTraversalNames ts _ x.0.1 y c.1 (AreTraversalNames.edge (subst (λ r. IsName v.0.0 ts r) m.0 one)
+    (λ c. done AreTraversalNames ts _ x.0.1 y c.1
+    (AreTraversalNames.edge (subst (λ r. IsName v.0.0 ts r) m.0 one)
     two))
     (eat_cases s.Comma _ _ x.0.1 y x.2))
     (λ m. done AreTraversalNames ts _ v.0.1 y m.1 (AreTraversalNames.vertex one))
@@ -310,7 +313,8 @@ module _ (R : Bool → Parser ExprTree) (E : Bool → ExprTree → Tokens → To
   unfolding groups
   groups_sound ts y h =
       ⊎_elim
-      (λ m. AreAny.some (separated_sound (assignment R inside) (IsAssigned E inside) assignment_sound ts y m.1))
+      (λ m. AreAny.some
+      (separated_sound (assignment R inside) (IsAssigned E inside) assignment_sound ts y m.1))
       (λ m. done (AreAny (IsAssigned E inside)) ts [] ts y m.1 AreAny.none)
       (if_cases (is_name (head ts)) _ _ ts y h)
 
@@ -379,13 +383,15 @@ module _ (R : Bool → Parser ExprTree) (E : Bool → ExprTree → Tokens → To
       let p = bind_some (prune R inside edges.0.1) _ y edges.2 in
       let ms = bind_some (settings R inside p.0.1) _ y p.2 in
       done (OneClause w.For) a _ ms.0.1 y ms.2
-      (IsClause.for_paths n (traversal_depth_sound ts d.0 d.1) (traversal_direction_sound d.0.1 direction.0 direction.1)
+      (IsClause.for_paths n (traversal_depth_sound ts d.0 d.1)
+      (traversal_direction_sound d.0.1 direction.0 direction.1)
       (sound inside direction.0.1 start.0 start.1)
       (separated_sound name IsName name_sound start.0.1 edges.0 edges.1) (prune_sound edges.0.1 p.0 p.1)
       (settings_sound p.0.1 ms.0 ms.1))
 
   single_sound : (names : e.WalkNames) (a ts : Tokens) (y : ClauseTree × Tokens)
-      → AreTraversalNames names a (k.Keyword w.In ∷ ts) → single_by R inside names.vertex names.edge ts ≡ Some y
+      → AreTraversalNames names a (k.Keyword w.In ∷ ts)
+      → single_by R inside names.vertex names.edge ts ≡ Some y
       → OneClause w.For y.0 a y.1
   single_sound names a ts y (AreTraversalNames.vertex {v = v} n) h =
       let x = bind_some (R inside ts) _ y h in
@@ -443,7 +449,8 @@ module _ (R : Bool → Parser ExprTree) (E : Bool → ExprTree → Tokens → To
   clause_by_sound : (keyword : Keyword) (found : List ClauseTree) (ts : Tokens) (y : List ClauseTree
       × Tokens) → clause_by R inside found (Some (k.Keyword keyword)) (k.Keyword keyword ∷ ts) ≡ Some y
       → More found (IsClause E inside) (k.Keyword keyword ∷ ts) y
-  clause_by_sound w.For found ts y h = let c = bind_some (for_clause R inside ts) _ y h in one_clause_more w.For
+  clause_by_sound w.For found ts y h = let c = bind_some (for_clause R inside ts) _ y h in
+      one_clause_more w.For
       found ts c.0 y (for_sound ts c.0 c.1) c.2
   clause_by_sound w.Filter found ts y h = let x = bind_some (R inside ts) _ y h in one_clause_more w.Filter
       found ts (keep_if x.0.0, x.0.1) y (IsClause.filter (sound inside ts x.0 x.1)) x.2
@@ -454,7 +461,8 @@ module _ (R : Bool → Parser ExprTree) (E : Bool → ExprTree → Tokens → To
       one_clause_more w.Sort found ts (sort ks.0.0, ks.0.1) y
       (IsClause.sort_by (separated_sound (sort_key R inside) (IsSortKey E inside) sort_key_sound ts ks.0
       ks.1)) ks.2
-  clause_by_sound w.Limit found ts y h = let c = bind_some (limit ts) _ y h in one_clause_more w.Limit found ts
+  clause_by_sound w.Limit found ts y h = let c = bind_some (limit ts) _ y h in
+      one_clause_more w.Limit found ts
       c.0 y (limit_sound ts c.0 c.1) c.2
   clause_by_sound w.Collect found ts y h = let c = bind_some (collect R inside ts) _ y h in one_clause_more
       w.Collect found ts c.0 y (collect_sound ts c.0 c.1) c.2

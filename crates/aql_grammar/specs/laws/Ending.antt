@@ -249,7 +249,8 @@ no_comparison_first R starts ts y h = ⊎_elim (λ t. let a = starts.no_comparis
     (λ f. f) (decide (begins_comparison ts))
 
 -- an expression after which a clause ends isn't read as a traversal
-pub no_traversal_first : (R : Parser ExprTree) → Starts R → (ts : Tokens) (y : ExprTree × Tokens) → R ts ≡ Some y
+pub no_traversal_first : (R : Parser ExprTree) → Starts R → (ts : Tokens) (y : ExprTree × Tokens)
+    → R ts ≡ Some y
     → Stop y.1 → begins_traversal ts ≡ false
 no_traversal_first R starts ts y h stop =
     ⊎_elim (λ t. let a = starts.no_traversal ts y t h in let b = stop_no_direction y.1 stop in absurd (cc))
@@ -257,7 +258,8 @@ no_traversal_first R starts ts y h stop =
 
 -- ---- where a traversal begins
 
-pub traversal_direction_begins : (d : Direction) (a b : Tokens) → IsDirection d a b → begins_comparison b ≡ false
+pub traversal_direction_begins : (d : Direction) (a b : Tokens) → IsDirection d a b
+    → begins_comparison b ≡ false
     → (begins_direction a ≡ true) × ((is_number (head a) ≡ false) × (sees s.Range a ≡ false))
 unfolding begins_direction sees
 traversal_direction_begins d a b IsDirection.outbound none = (refl, (refl, refl))
@@ -278,6 +280,8 @@ range_seen ts = refl
 pub traversal_begins : (m n : ℕ) (a b : Tokens) → IsDepth m n a b → begins_direction b ≡ true
     → is_number (head b) ≡ false → sees s.Range b ≡ false → begins_traversal a ≡ true
 unfolding begins_traversal begins_after_number
-traversal_begins m n a b IsDepth.unsaid traversal_direction number range = cond_false (is_number (head a)) _ _ number traversal_direction
-traversal_begins m n a b IsDepth.exact traversal_direction number range = rw range traversal_direction
-traversal_begins m n a b (IsDepth.between {b = c}) traversal_direction number range = rw (range_seen (k.Number _ ∷ c)) traversal_direction
+traversal_begins m n a b IsDepth.unsaid direction number range =
+    cond_false (is_number (head a)) _ _ number direction
+traversal_begins m n a b IsDepth.exact direction number range = rw range direction
+traversal_begins m n a b (IsDepth.between {b = c}) direction number range =
+    rw (range_seen (k.Number _ ∷ c)) direction

@@ -24,7 +24,8 @@ use Rattle.aql_grammar.specs.Input.{Parser, head, next, sees, sees_keyword, same
 use Rattle.aql_grammar.specs.Input.{at_front, is_number, many}
 use Rattle.aql_grammar.specs.Reader.{operator_ahead, comparison, begins_comparison, quantifier}
 use Rattle.aql_grammar.specs.Reader.{unary_at, rank, at_level, begins_step, begins_direction}
-use Rattle.aql_grammar.specs.Reader.{begins_after_number, begins_traversal, access_of, chain_of, argument, arguments}
+use Rattle.aql_grammar.specs.Reader.{begins_after_number, begins_traversal, access_of, chain_of, argument}
+use Rattle.aql_grammar.specs.Reader.{arguments}
 use Rattle.aql_grammar.specs.Reader.{call_or_name, parentheses, primary, element, bracket_step, step, postfix}
 use Rattle.aql_grammar.specs.Reader.{unary_from, unary, link, chain, range, array_comparison, level_at}
 use Rattle.aql_grammar.specs.Reader.{ternary_of, conditional, expr, top}
@@ -592,15 +593,18 @@ module _ (R : Bool → Parser ExprTree) (starts : (inside : Bool) → Starts (R 
       (keyword_none R inside w.Outbound r refl) in absurd (cc)
   keyword_traversal w.Inbound r y way read = let refused = level_none R inside _
       (keyword_none R inside w.Inbound r refl) in absurd (cc)
-  keyword_traversal w.Any r y way read = let refused = level_none R inside _ (keyword_none R inside w.Any r refl)
+  keyword_traversal w.Any r y way read = let refused = level_none R inside _
+      (keyword_none R inside w.Any r refl)
       in absurd (cc)
   keyword_traversal _ r y way read = absurd (cc)
 
-  traversal_read : (ts : Tokens) (y : ExprTree × Tokens) → begins_traversal ts ≡ true → conditional R inside ts ≡ Some
+  traversal_read : (ts : Tokens) (y : ExprTree × Tokens) → begins_traversal ts ≡ true
+      → conditional R inside ts ≡ Some
       y → begins_direction y.1 ≡ true
   unfolding begins_traversal begins_after_number begins_direction
   traversal_read [] y way read = absurd (cc)
-  traversal_read (k.Number n ∷ r) y way read = number_traversal n r y (sees s.Range r && is_number (head (next r)))
+  traversal_read (k.Number n ∷ r) y way read = number_traversal n r y
+      (sees s.Range r && is_number (head (next r)))
       refl way read
   traversal_read (k.Keyword keyword ∷ r) y way read = keyword_traversal keyword r y way read
   traversal_read (k.Word v ∷ b) y way read = absurd (cc)

@@ -23,7 +23,8 @@ use Rattle.aql_grammar.specs.Expressions.{IsArrayComparison, IsConjunction, IsDi
 use Rattle.aql_grammar.specs.Tree.{IsExpr, IsTop}
 use Rattle.aql_grammar.specs.Input.{Parser, head, next, at_front, expect, name, separated, items, many}
 use Rattle.aql_grammar.specs.Reader.{operator, comparison, quantifier, unary_at, begins_step}
-use Rattle.aql_grammar.specs.Reader.{begins_query, access_of, chain_of, argument, arguments, call_or_name, parentheses}
+use Rattle.aql_grammar.specs.Reader.{begins_query, access_of, chain_of, argument, arguments, call_or_name}
+use Rattle.aql_grammar.specs.Reader.{parentheses}
 use Rattle.aql_grammar.specs.Reader.{primary, primary_by, members, element, bracket_step, step, step_by}
 use Rattle.aql_grammar.specs.Reader.{postfix, apply, unary_from, unary, link, at_level, chain, range}
 use Rattle.aql_grammar.specs.Reader.{array_comparison, level_at, ternary_of, conditional, expr}
@@ -67,7 +68,8 @@ module _ (R : Bool → Parser ExprTree) (E : Bool → ExprTree → Tokens → To
       xs.1))))
       (eat_cases s.CloseParen _ _ ts y h)
 
-  call_or_name_sound : (v : List ℕ) (ts : Tokens) (y : ExprTree × Tokens) → call_or_name R inside v ts ≡ Some y
+  call_or_name_sound : (v : List ℕ) (ts : Tokens) (y : ExprTree × Tokens)
+      → call_or_name R inside v ts ≡ Some y
       → IsPrimary E inside y.0 (k.Word v ∷ ts) y.1
   unfolding call_or_name
   call_or_name_sound v ts y h =

@@ -75,13 +75,15 @@ comparison_spelt (k.Text v ∷ ts) y b h = absurd (cc)
 comparison_spelt (k.Symbol s.Less ∷ ts) y b h = done IsComparison _ _ ts y h IsComparison.less
 comparison_spelt (k.Symbol s.LessOrEqual ∷ ts) y b h = done IsComparison _ _ ts y h IsComparison.less_equal
 comparison_spelt (k.Symbol s.Greater ∷ ts) y b h = done IsComparison _ _ ts y h IsComparison.greater
-comparison_spelt (k.Symbol s.GreaterOrEqual ∷ ts) y b h = done IsComparison _ _ ts y h IsComparison.greater_equal
+comparison_spelt (k.Symbol s.GreaterOrEqual ∷ ts) y b h =
+    done IsComparison _ _ ts y h IsComparison.greater_equal
 comparison_spelt (k.Symbol s.Equal ∷ ts) y b h = done IsComparison _ _ ts y h IsComparison.equal
 comparison_spelt (k.Symbol s.NotEqual ∷ ts) y b h = done IsComparison _ _ ts y h IsComparison.not_equal
 comparison_spelt (k.Symbol _ ∷ ts) y b h = absurd (cc)
 comparison_spelt (k.Keyword w.In ∷ ts) y b h = done IsComparison _ _ ts y h IsComparison.is_in
 comparison_spelt (k.Keyword w.Not ∷ []) y b h = absurd (cc)
-comparison_spelt (k.Keyword w.Not ∷ k.Keyword w.In ∷ ts) y b h = done IsComparison _ _ ts y h IsComparison.not_in
+comparison_spelt (k.Keyword w.Not ∷ k.Keyword w.In ∷ ts) y b h =
+    done IsComparison _ _ ts y h IsComparison.not_in
 comparison_spelt (k.Keyword w.Not ∷ k.Keyword _ ∷ ts) y b h = absurd (cc)
 comparison_spelt (k.Keyword w.Not ∷ k.Number n ∷ ts) y b h = absurd (cc)
 comparison_spelt (k.Keyword w.Not ∷ k.Word v ∷ ts) y b h = absurd (cc)
@@ -218,7 +220,8 @@ quantifier_shrinks q a b IsQuantifier.all = omega arith
 quantifier_shrinks q a b IsQuantifier.any = omega arith
 quantifier_shrinks q a b IsQuantifier.none = omega arith
 
-pub traversal_direction_read : (d : Direction) (a b : Tokens) → IsDirection d a b → traversal_direction a ≡ Some (d, b)
+pub traversal_direction_read : (d : Direction) (a b : Tokens) → IsDirection d a b
+    → traversal_direction a ≡ Some (d, b)
 unfolding traversal_direction
 traversal_direction_read d a b IsDirection.outbound = refl
 traversal_direction_read d a b IsDirection.inbound = refl

@@ -131,8 +131,8 @@ module _ (E : Bool → ExprTree → Tokens → Tokens → Type 0) (shrinks : (in
   clause_shrinks cs a b (IsClause.for_paths {names = names} {least = m} {greatest = n} {way = way}
       {start = start} {edges = edges} {prune = p} {ms = ms} {a = a'} {b = b'} {c = c'} {d = d'} {f = f'}
       {g = g'} {h = h'} hn hd hw hs he hp ho) =
-      let i = traversal_names_shrink names a' (k.Keyword w.In ∷ b') hn in let j = traversal_depth_falls m n b' c' hd in let
-      l = traversal_direction_shrinks way c' d' hw in
+      let i = traversal_names_shrink names a' (k.Keyword w.In ∷ b') hn in let j =
+      traversal_depth_falls m n b' c' hd in let l = traversal_direction_shrinks way c' d' hw in
       let q = shrinks inside start d' f' hs in let r = separated_shrinks IsName name_shrinks edges f' g' he
       in
       let t = prune_falls p g' h' hp in let u = options_fall ms h' b ho in omega arith

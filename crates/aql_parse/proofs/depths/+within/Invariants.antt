@@ -1,6 +1,8 @@
 use Rattle.std.proofs.Common.{◌≡◌, map, drop}
-use Rattle.aql_tree.specs.View.{tree, trees, members, steps, links, clauses, aggregates, clause_tree, step_part, member_part, link_part, key_part, let_part, aggregate_part}
-use Rattle.aql_parse.specs.Within.{exprs_within, members_within, steps_within, links_within, aggregates_within, clauses_within}
+use Rattle.aql_tree.specs.View.{tree, trees, members, steps, links, clauses, aggregates, clause_tree}
+use Rattle.aql_tree.specs.View.{step_part, member_part, link_part, key_part, let_part, aggregate_part}
+use Rattle.aql_parse.specs.Within.{exprs_within, members_within, steps_within, links_within}
+use Rattle.aql_parse.specs.Within.{aggregates_within, clauses_within}
 use Rattle.aql_parse.proofs.depths.+within.Given as goal
 
 abbrev pub invariant-exprs_within-loop-first : goal.invariant-exprs_within-loop-first

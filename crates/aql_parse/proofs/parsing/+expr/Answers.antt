@@ -5,8 +5,11 @@ use Rattle.aql_parse.proofs.parsing.+expr.Goals as goal
 
 pub returns-then-depth-eq0 : goal.returns-then-depth-eq0
 unfolding expr
-returns-then-depth-eq0 t c = let none : c.args.depth ≡ 0 = omega arith in ap (λ n. expr n c.args.inside c.args.tokens.now) none
+returns-then-depth-eq0 t c =
+    let none : c.args.depth ≡ 0 = omega arith in
+    ap (λ n. expr n c.args.inside c.args.tokens.now) none
 
 pub returns : goal.returns
 unfolding expr
-returns t c = rw (deeper (λ n. expr n c.args.inside c.args.tokens.now) c.args.depth (omega arith)) c.conditional.ensures
+returns t c =
+    rw (deeper (λ n. expr n c.args.inside c.args.tokens.now) c.args.depth (omega arith)) c.conditional.ensures

@@ -1,4 +1,5 @@
-use Rattle.aql_parse.proofs.ParseLaws.{gives_tree, gives_within, gives_only, gives_too_deep, gives_too_many, gives_none, gives_walk}
+use Rattle.aql_parse.proofs.ParseLaws.{gives_tree, gives_within, gives_only, gives_too_deep, gives_too_many}
+use Rattle.aql_parse.proofs.ParseLaws.{gives_none, gives_walk}
 use Rattle.aql_parse.proofs.parsing.parse.Goals as goal
 
 pub returns-clause-tree : goal.returns-clause-tree
