@@ -9,6 +9,7 @@ ghost use Rattle.aql_grammar.specs.Reader as reader;
 ghost use Rattle.aql_lex.specs.declared.vocabulary.Symbol.TheVariants as symbol;
 
 use crate::parser::Parser;
+use crate::primaries::word_value;
 use aql_grammar::{Cursor, ParseFault};
 use aql_lex::{Symbol, TokenKind};
 use aql_tree::{Expr, Exprs, Field, Fields};
