@@ -8,7 +8,7 @@ use Rattle.aql_lex.specs.declared.faults.LexKind.{LexKind}
 use Rattle.aql_lex.specs.Reading.{Lexes, Stops}
 use Rattle.aql_lex.proofs.Readings.{one_reading}
 use Rattle.aql_tree.specs.Tree.{QueryTree}
-use Rattle.aql_walks.specs.Within.{walks_within}
+use Rattle.aql_parse.specs.Within.{traversals_within}
 use Rattle.aql_grammar.specs.Kinds.{Tokens, kinds_of}
 use Rattle.aql_grammar.specs.Tree.{Tree}
 use Rattle.aql_grammar.specs.Limits.{nesting, marks}
@@ -52,7 +52,7 @@ within_or_refused ts q parse.TooDeep w t s n h = let a = w.0 in absurd (omega ar
 within_or_refused ts q parse.TooManyClauses w t s n h = let a = w.1 in let b = h.1 in absurd (omega arith)
 within_or_refused ts q parse.NotInGrammar w t s n h = h.1 q t
 within_or_refused ts q parse.WalkTooDeep w t s n h =
-    let e = ap (walks_within 32) (one_tree ts h.1.0 q h.1.1.0 t) in let deep = h.1.1.1 in absurd (cc)
+    let e = ap (traversals_within 32) (one_tree ts h.1.0 q h.1.1.0 t) in let deep = h.1.1.1 in absurd (cc)
 within_or_refused ts q parse.Memory w t s n h = n refl
 
 within_or_limit : (ts : Tokens) (a b : ParseFault) → WithinLimits ts → 64 < nesting ts → a ≡ b

@@ -18,24 +18,24 @@ use Rattle.aql_grammar.specs.Spelling.{IsName, IsWord, IsOptional, AreSeparated,
 use Rattle.aql_grammar.specs.Objects.{IsObject}
 
 -- Name ["," Name ["," Name]]
-pub data AreWalkNames : e.WalkNames → Tokens → Tokens → Type 0 where
+pub data AreTraversalNames : e.WalkNames → Tokens → Tokens → Type 0 where
   vertex : {v : List ℕ} {a b : Tokens} → IsName v a b
-      → AreWalkNames (record { vertex = v; edge = None; path = None }) a b
+      → AreTraversalNames (record { vertex = v; edge = None; path = None }) a b
   edge : {v x : List ℕ} {a b c : Tokens} → IsName v a (k.Symbol s.Comma ∷ b) → IsName x b c
-      → AreWalkNames (record { vertex = v; edge = Some x; path = None }) a c
+      → AreTraversalNames (record { vertex = v; edge = Some x; path = None }) a c
   path : {v x p : List ℕ} {a b c d : Tokens} → IsName v a (k.Symbol s.Comma ∷ b)
       → IsName x b (k.Symbol s.Comma ∷ c) → IsName p c d
-      → AreWalkNames (record { vertex = v; edge = Some x; path = Some p }) a d
+      → AreTraversalNames (record { vertex = v; edge = Some x; path = Some p }) a d
 
 -- a number of depth is at most the greatest of 32 bits
-abbrev pub capped : ℕ → ℕ
-capped n = min n 4294967295
+abbrev pub depth_number : ℕ → ℕ
+depth_number n = min n 4294967295
 
 -- [Number [".." Number]], the least and the greatest depth
 pub data IsDepth : ℕ → ℕ → Tokens → Tokens → Type 0 where
   unsaid : {a : Tokens} → IsDepth 1 1 a a
-  exact : {n : ℕ} {b : Tokens} → IsDepth (capped n) (capped n) (k.Number (pos n) ∷ b) b
-  between : {m n : ℕ} {b : Tokens} → IsDepth (capped m) (capped n)
+  exact : {n : ℕ} {b : Tokens} → IsDepth (depth_number n) (depth_number n) (k.Number (pos n) ∷ b) b
+  between : {m n : ℕ} {b : Tokens} → IsDepth (depth_number m) (depth_number n)
       (k.Number (pos m) ∷ k.Symbol s.Range ∷ k.Number (pos n) ∷ b) b
 
 -- "OUTBOUND" | "INBOUND" | "ANY"
@@ -120,7 +120,8 @@ module _ (E : Bool → ExprTree → Tokens → Tokens → Type 0) (inside : Bool
         → IsClause (e.for_in v x ∷ []) (k.Keyword w.For ∷ a) c
     for_paths : {names : e.WalkNames} {least greatest : ℕ} {way : Direction} {start : ExprTree}
         {edges : List (List ℕ)} {prune : Option ExprTree} {ms : List MemberPart}
-        {a b c d f g h i : Tokens} → AreWalkNames names a (k.Keyword w.In ∷ b) → IsDepth least greatest b c
+        {a b c d f g h i : Tokens} → AreTraversalNames names a (k.Keyword w.In ∷ b)
+            → IsDepth least greatest b c
         → IsDirection way c d → E inside start d f
         → AreSeparated IsName edges f g → IsPrune prune g h → AreOptions ms h i
         → IsClause (walked (e.traversal names least greatest way start edges prune ms) ∷ [])
@@ -145,7 +146,7 @@ module _ (E : Bool → ExprTree → Tokens → Tokens → Type 0) (inside : Bool
     more : {cs ds : List ClauseTree} {a b c : Tokens} → IsClause cs a b → AreClauses ds b c
         → AreClauses (cs ++ ds) a c
 
-  -- {Clause} "RETURN" ["DISTINCT"] Expr, behind the names of a WITH
+  -- {Clause} "RETURN" ["DISTINCT"] Expr, after the names of a WITH
   pub data IsQuery (with_list : List (List ℕ)) : QueryTree → Tokens → Tokens → Type 0 where
     query : {cs : List ClauseTree} {distinct : Bool} {x : ExprTree} {a b c d : Tokens}
         → AreClauses cs a (k.Keyword w.Return ∷ b) → IsDistinct distinct b c → E inside x c d

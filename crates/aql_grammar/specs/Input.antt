@@ -101,7 +101,7 @@ look f = λ i. Some (f i, i)
 abbrev pub skip : Parser (Unit {0})
 skip = λ i. Some (tt, next i)
 
--- behind a token, where it stands there
+-- after a token, where it stands there
 unfoldable pub after : Symbol → Tokens → Tokens
 after symbol i = if sees symbol i then next i else i
 
@@ -150,7 +150,7 @@ natural = peek >>= natural_by
 abbrev pub at_front : (Option TokenKind → Bool) → Tokens → Bool
 at_front test i = test (head i)
 
--- ---- lists, behind what was found; the number bounds how many are read
+-- ---- lists, after what was found; the number bounds how many are read
 
 unfoldable pub many_from : {A : Type 0} → (Tokens → Bool) → Parser A → ℕ → List A → Parser (List A)
 many_from starts one zero found = pure found

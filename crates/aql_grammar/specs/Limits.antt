@@ -11,7 +11,7 @@ use Rattle.aql_grammar.specs.Kinds.{Tokens}
 use Rattle.aql_grammar.specs.declared.limits.Effect.{Effect}
 use Rattle.aql_grammar.specs.declared.limits.Effect.TheVariants as does
 
--- what is open behind some tokens
+-- what is open after some tokens
 pub record Open : Type 0 where
   -- the ternaries of the innermost open bracket
   pub inner : ℕ
@@ -32,43 +32,43 @@ abbrev pub open_now : Open → ℕ
 open_now o = (length o.outer + total o.outer) + (o.inner + o.signs)
 
 -- a bracket opens
-abbrev pub bracket_opened : Open → Open
-bracket_opened o = record { inner = 0; outer = o.inner ∷ o.outer; signs = 0 }
+abbrev pub open_bracket : Open → Open
+open_bracket o = record { inner = 0; outer = o.inner ∷ o.outer; signs = 0 }
 
 -- the innermost bracket closes with its ternaries; a stray closing bracket closes ternaries alone
-abbrev pub bracket_closed : List ℕ → Open
-bracket_closed [] = nothing_open
-bracket_closed (n ∷ ns) = record { inner = n; outer = ns; signs = 0 }
+abbrev pub close_bracket : List ℕ → Open
+close_bracket [] = nothing_open
+close_bracket (n ∷ ns) = record { inner = n; outer = ns; signs = 0 }
 
 -- `?` opens until the next comma, clause word or closing bracket at its bracket level
-abbrev pub ternary_opened : Open → Open
-ternary_opened o = record { inner = suc o.inner; outer = o.outer; signs = 0 }
+abbrev pub open_ternary : Open → Open
+open_ternary o = record { inner = suc o.inner; outer = o.outer; signs = 0 }
 
-abbrev pub ternaries_closed : Open → Open
-ternaries_closed o = record { inner = 0; outer = o.outer; signs = 0 }
+abbrev pub close_ternaries : Open → Open
+close_ternaries o = record { inner = 0; outer = o.outer; signs = 0 }
 
 -- `!`, NOT, `+` and `-` open until the next token that is none of these
-abbrev pub sign_opened : Open → Open
-sign_opened o = record { inner = o.inner; outer = o.outer; signs = suc o.signs }
+abbrev pub open_sign : Open → Open
+open_sign o = record { inner = o.inner; outer = o.outer; signs = suc o.signs }
 
-abbrev pub signs_closed : Open → Open
-signs_closed o = record { inner = o.inner; outer = o.outer; signs = 0 }
+abbrev pub close_signs : Open → Open
+close_signs o = record { inner = o.inner; outer = o.outer; signs = 0 }
 
 -- ---- what a token does to what is open
 
-abbrev pub of_symbol : Symbol → Effect
-of_symbol s.OpenParen = does.OpensBracket
-of_symbol s.OpenBracket = does.OpensBracket
-of_symbol s.OpenBrace = does.OpensBracket
-of_symbol s.CloseParen = does.ClosesBracket
-of_symbol s.CloseBracket = does.ClosesBracket
-of_symbol s.CloseBrace = does.ClosesBracket
-of_symbol s.Question = does.OpensTernary
-of_symbol s.Comma = does.ClosesTernaries
-of_symbol s.Not = does.OpensSign
-of_symbol s.Plus = does.OpensSign
-of_symbol s.Minus = does.OpensSign
-of_symbol other = does.ClosesSigns
+abbrev pub effect_of_symbol : Symbol → Effect
+effect_of_symbol s.OpenParen = does.OpensBracket
+effect_of_symbol s.OpenBracket = does.OpensBracket
+effect_of_symbol s.OpenBrace = does.OpensBracket
+effect_of_symbol s.CloseParen = does.ClosesBracket
+effect_of_symbol s.CloseBracket = does.ClosesBracket
+effect_of_symbol s.CloseBrace = does.ClosesBracket
+effect_of_symbol s.Question = does.OpensTernary
+effect_of_symbol s.Comma = does.ClosesTernaries
+effect_of_symbol s.Not = does.OpensSign
+effect_of_symbol s.Plus = does.OpensSign
+effect_of_symbol s.Minus = does.OpensSign
+effect_of_symbol other = does.ClosesSigns
 
 -- FOR, FILTER, LET, SORT, LIMIT, COLLECT and RETURN
 abbrev pub is_clause_word : Keyword → Bool
@@ -81,29 +81,29 @@ is_clause_word w.Collect = true
 is_clause_word w.Return = true
 is_clause_word other = false
 
-abbrev pub of_keyword : Keyword → Effect
-of_keyword w.Not = does.OpensSign
-of_keyword keyword = if is_clause_word keyword then does.ClosesTernaries else does.ClosesSigns
+abbrev pub effect_of_keyword : Keyword → Effect
+effect_of_keyword w.Not = does.OpensSign
+effect_of_keyword keyword = if is_clause_word keyword then does.ClosesTernaries else does.ClosesSigns
 
 abbrev pub effect_of : TokenKind → Effect
-effect_of (k.Symbol symbol) = of_symbol symbol
-effect_of (k.Keyword keyword) = of_keyword keyword
+effect_of (k.Symbol symbol) = effect_of_symbol symbol
+effect_of (k.Keyword keyword) = effect_of_keyword keyword
 effect_of other = does.ClosesSigns
 
-abbrev pub changed : Effect → Open → Open
-changed does.OpensBracket o = bracket_opened o
-changed does.ClosesBracket o = bracket_closed o.outer
-changed does.OpensTernary o = ternary_opened o
-changed does.ClosesTernaries o = ternaries_closed o
-changed does.OpensSign o = sign_opened o
-changed does.ClosesSigns o = signs_closed o
+abbrev pub change : Effect → Open → Open
+change does.OpensBracket o = open_bracket o
+change does.ClosesBracket o = close_bracket o.outer
+change does.OpensTernary o = open_ternary o
+change does.ClosesTernaries o = close_ternaries o
+change does.OpensSign o = open_sign o
+change does.ClosesSigns o = close_signs o
 
-abbrev pub passed : TokenKind → Open → Open
-passed t o = changed (effect_of t) o
+abbrev pub pass : TokenKind → Open → Open
+pass t o = change (effect_of t) o
 
 abbrev pub nesting_from : Open → Tokens → ℕ
 nesting_from o [] = open_now o
-nesting_from o (t ∷ ts) = max (open_now o) (nesting_from (passed t o) ts)
+nesting_from o (t ∷ ts) = max (open_now o) (nesting_from (pass t o) ts)
 
 -- the greatest number of brackets, ternaries and signs that are open at once
 abbrev pub nesting : Tokens → ℕ

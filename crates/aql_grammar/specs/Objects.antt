@@ -13,12 +13,12 @@ use Rattle.aql_grammar.specs.Kinds.{Tokens}
 use Rattle.aql_grammar.specs.Spelling.{IsName, AreItems}
 
 -- what an unquoted name stands for
-abbrev pub unquoted : Bool → List ℕ → ExprTree
-unquoted inside v = if inside && bytes_eq v (codes "CURRENT") then current else e.name v
+abbrev pub word_value : Bool → List ℕ → ExprTree
+word_value inside v = if inside && bytes_eq v (codes "CURRENT") then current else e.name v
 
 -- Name, as a value
 pub data IsVariable (inside : Bool) : List ℕ → ExprTree → Tokens → Tokens → Type 0 where
-  word : {v : List ℕ} {b : Tokens} → IsVariable inside v (unquoted inside v) (k.Word v ∷ b) b
+  word : {v : List ℕ} {b : Tokens} → IsVariable inside v (word_value inside v) (k.Word v ∷ b) b
   quoted : {v : List ℕ} {b : Tokens} → IsVariable inside v (e.name v) (k.Quoted v ∷ b) b
 
 -- Name | Text

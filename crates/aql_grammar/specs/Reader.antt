@@ -22,8 +22,8 @@ use Rattle.aql_tree.specs.View.{IntoPart, grouped, walked}
 use Rattle.aql_tree.specs.View as part
 use Rattle.aql_tree.specs.Made as e
 use Rattle.aql_grammar.specs.Kinds.{Tokens}
-use Rattle.aql_grammar.specs.Objects.{unquoted}
-use Rattle.aql_grammar.specs.Clauses.{capped, says}
+use Rattle.aql_grammar.specs.Objects.{word_value}
+use Rattle.aql_grammar.specs.Clauses.{depth_number, says}
 use Rattle.aql_grammar.specs.Input.{Parser, ◌>>=◌, ◌>>◌, ◌<$>◌, pure, refuse, peek, look, head, next}
 use Rattle.aql_grammar.specs.Input.{at_front, sees, skip, eat, eat_keyword, eat_word, expect}
 use Rattle.aql_grammar.specs.Input.{expect_keyword, expect_word, name, is_name, natural, is_number, many}
@@ -40,40 +40,40 @@ word = peek >>= word_by
 -- ---- operators
 
 -- the level of an operator, and the operator
-abbrev pub by_symbol : Symbol → Option (ℕ × BinOp)
-by_symbol s.Star = Some (1, op.Mul)
-by_symbol s.Slash = Some (1, op.Div)
-by_symbol s.Percent = Some (1, op.Rem)
-by_symbol s.Plus = Some (2, op.Add)
-by_symbol s.Minus = Some (2, op.Sub)
-by_symbol s.Less = Some (4, op.Lt)
-by_symbol s.LessOrEqual = Some (4, op.Le)
-by_symbol s.Greater = Some (4, op.Gt)
-by_symbol s.GreaterOrEqual = Some (4, op.Ge)
-by_symbol s.Equal = Some (6, op.Eq)
-by_symbol s.NotEqual = Some (6, op.Ne)
-by_symbol s.And = Some (8, op.And)
-by_symbol s.Or = Some (9, op.Or)
-by_symbol other = None
+abbrev pub operator_of_symbol : Symbol → Option (ℕ × BinOp)
+operator_of_symbol s.Star = Some (1, op.Mul)
+operator_of_symbol s.Slash = Some (1, op.Div)
+operator_of_symbol s.Percent = Some (1, op.Rem)
+operator_of_symbol s.Plus = Some (2, op.Add)
+operator_of_symbol s.Minus = Some (2, op.Sub)
+operator_of_symbol s.Less = Some (4, op.Lt)
+operator_of_symbol s.LessOrEqual = Some (4, op.Le)
+operator_of_symbol s.Greater = Some (4, op.Gt)
+operator_of_symbol s.GreaterOrEqual = Some (4, op.Ge)
+operator_of_symbol s.Equal = Some (6, op.Eq)
+operator_of_symbol s.NotEqual = Some (6, op.Ne)
+operator_of_symbol s.And = Some (8, op.And)
+operator_of_symbol s.Or = Some (9, op.Or)
+operator_of_symbol other = None
 
-abbrev pub by_keyword : Keyword → Option (ℕ × BinOp)
-by_keyword w.In = Some (5, op.IsIn)
-by_keyword w.Like = Some (6, op.Like)
-by_keyword w.And = Some (8, op.And)
-by_keyword w.Or = Some (9, op.Or)
-by_keyword other = None
+abbrev pub operator_of_keyword : Keyword → Option (ℕ × BinOp)
+operator_of_keyword w.In = Some (5, op.IsIn)
+operator_of_keyword w.Like = Some (6, op.Like)
+operator_of_keyword w.And = Some (8, op.And)
+operator_of_keyword w.Or = Some (9, op.Or)
+operator_of_keyword other = None
 
--- behind `NOT`
-abbrev pub negated : Option TokenKind → Option (ℕ × BinOp)
-negated (Some (k.Keyword w.In)) = Some (5, op.NotIn)
-negated (Some (k.Keyword w.Like)) = Some (6, op.NotLike)
-negated other = None
+-- after `NOT`
+abbrev pub operator_after_not : Option TokenKind → Option (ℕ × BinOp)
+operator_after_not (Some (k.Keyword w.In)) = Some (5, op.NotIn)
+operator_after_not (Some (k.Keyword w.Like)) = Some (6, op.NotLike)
+operator_after_not other = None
 
 -- by the first token and the second
 abbrev pub operator_by : Option TokenKind → Option TokenKind → Option (ℕ × BinOp)
-operator_by (Some (k.Symbol symbol)) u = by_symbol symbol
-operator_by (Some (k.Keyword w.Not)) u = negated u
-operator_by (Some (k.Keyword keyword)) u = by_keyword keyword
+operator_by (Some (k.Symbol symbol)) u = operator_of_symbol symbol
+operator_by (Some (k.Keyword w.Not)) u = operator_after_not u
+operator_by (Some (k.Keyword keyword)) u = operator_of_keyword keyword
 operator_by other u = None
 
 unfoldable pub operator_ahead : Tokens → Option (ℕ × BinOp)
@@ -95,11 +95,11 @@ compares op.IsIn = true
 compares op.NotIn = true
 compares other = false
 
-unfoldable pub behind : BinOp → Tokens → Tokens
-behind o i = if has_two_words o then next (next i) else next i
+unfoldable pub after_operator : BinOp → Tokens → Tokens
+after_operator o i = if has_two_words o then next (next i) else next i
 
 abbrev pub operator_then : Option (ℕ × BinOp) → Parser BinOp
-operator_then (Some p) = λ i. Some (p.1, behind p.1 i)
+operator_then (Some p) = λ i. Some (p.1, after_operator p.1 i)
 operator_then None = refuse
 
 unfoldable pub operator : Parser BinOp
@@ -133,7 +133,7 @@ abbrev pub rank_by : Option (ℕ × BinOp) → Option TokenKind → ℕ
 rank_by (Some p) t = p.0
 rank_by None t = other_rank t
 
--- the level of what the tokens would go on with behind an operand: 0 for a step or a call, 10 for
+-- the level of what the tokens would go on with after an operand: 0 for a step or a call, 10 for
 -- the ternary, 11 for nothing
 unfoldable pub rank : Tokens → ℕ
 rank i = rank_by (operator_ahead i) (head i)
@@ -176,28 +176,28 @@ begins_query other = begins_clause other
 
 -- ---- where a traversal begins
 
--- ANY with a comparison behind it is part of an expression
+-- ANY with a comparison after it is part of an expression
 abbrev pub begins_direction_by : Option TokenKind → Bool → Bool
-begins_direction_by (Some (k.Keyword w.Outbound)) compared = true
-begins_direction_by (Some (k.Keyword w.Inbound)) compared = true
-begins_direction_by (Some (k.Keyword w.Any)) compared = not compared
-begins_direction_by other compared = false
+begins_direction_by (Some (k.Keyword w.Outbound)) has_comparison = true
+begins_direction_by (Some (k.Keyword w.Inbound)) has_comparison = true
+begins_direction_by (Some (k.Keyword w.Any)) has_comparison = not has_comparison
+begins_direction_by other has_comparison = false
 
 unfoldable pub begins_direction : Tokens → Bool
 begins_direction i = begins_direction_by (head i) (begins_comparison (next i))
 
--- behind the first number
-unfoldable pub begins_behind : Tokens → Bool
-begins_behind i = if sees s.Range i && is_number (head (next i)) then begins_direction (next (next i)) else
-    begins_direction i
+-- after the first number
+unfoldable pub begins_after_number : Tokens → Bool
+begins_after_number i = if sees s.Range i && is_number (head (next i))
+    then begins_direction (next (next i)) else begins_direction i
 
-unfoldable pub begins_walk : Tokens → Bool
-begins_walk i = if is_number (head i) then begins_behind (next i) else begins_direction i
+unfoldable pub begins_traversal : Tokens → Bool
+begins_traversal i = if is_number (head i) then begins_after_number (next i) else begins_direction i
 
 -- ---- the parts of a traversal that hold no expression
 
-unfoldable pub walk_names : Parser e.WalkNames
-walk_names = do
+unfoldable pub traversal_names : Parser e.WalkNames
+traversal_names = do
   vertex ← name
   has_edge ← eat s.Comma
   if has_edge then (do
@@ -209,26 +209,26 @@ walk_names = do
         else pure (record { vertex = vertex; edge = Some edge; path = None }))
       else pure (record { vertex = vertex; edge = None; path = None })
 
-unfoldable pub depth : Parser (ℕ × ℕ)
-depth = do
+unfoldable pub traversal_depth : Parser (ℕ × ℕ)
+traversal_depth = do
   t ← peek
   if is_number t then (do
     least ← natural
     has_greatest ← eat s.Range
     if has_greatest then (do
       greatest ← natural
-      pure (capped least, capped greatest))
-        else pure (capped least, capped least))
+      pure (depth_number least, depth_number greatest))
+        else pure (depth_number least, depth_number least))
       else pure (1, 1)
 
-abbrev pub way_by : Option TokenKind → Parser Direction
-way_by (Some (k.Keyword w.Outbound)) = skip >> pure direction.Outbound
-way_by (Some (k.Keyword w.Inbound)) = skip >> pure direction.Inbound
-way_by (Some (k.Keyword w.Any)) = skip >> pure direction.Any
-way_by other = refuse
+abbrev pub traversal_direction_by : Option TokenKind → Parser Direction
+traversal_direction_by (Some (k.Keyword w.Outbound)) = skip >> pure direction.Outbound
+traversal_direction_by (Some (k.Keyword w.Inbound)) = skip >> pure direction.Inbound
+traversal_direction_by (Some (k.Keyword w.Any)) = skip >> pure direction.Any
+traversal_direction_by other = refuse
 
-unfoldable pub way : Parser Direction
-way = peek >>= way_by
+unfoldable pub traversal_direction : Parser Direction
+traversal_direction = peek >>= traversal_direction_by
 
 unfoldable pub limit : Parser ClauseTree
 limit = do
@@ -239,20 +239,20 @@ limit = do
     pure (tree.limit first count))
       else pure (tree.limit 0 first)
 
--- behind `WITH`
+-- after `WITH`
 unfoldable pub count_name : Parser (List ℕ)
 count_name = do
   expect_word (codes "COUNT")
   expect_keyword w.Into
   name
 
-unfoldable pub chained : ExprTree → List LinkPart → ExprTree
-chained first [] = first
-chained first (l ∷ ls) = e.linked first l ls
+unfoldable pub chain_of : ExprTree → List LinkPart → ExprTree
+chain_of first [] = first
+chain_of first (l ∷ ls) = e.linked first l ls
 
-unfoldable pub accessed : ExprTree → List StepPart → ExprTree
-accessed of [] = of
-accessed of (x ∷ xs) = e.stepped of x xs
+unfoldable pub access_of : ExprTree → List StepPart → ExprTree
+access_of of [] = of
+access_of of (x ∷ xs) = e.stepped of x xs
 
 abbrev pub apply : {A : Type 0} → Option UnaryOp → (UnaryOp → Parser A) → Parser A → Parser A
 apply None f p = p
@@ -261,7 +261,7 @@ apply (Some o) f p = f o
 -- ---- the rules that hold expressions; `expr` reads one that stands one bracket deeper
 
 module _ (expr : Bool → Parser ExprTree) (inside : Bool) where
-  -- behind a name
+  -- after a name
   unfoldable pub named_member : List ℕ → ExprTree → Parser MemberPart
   named_member v short = do
     has_value ← eat s.Colon
@@ -272,7 +272,7 @@ module _ (expr : Bool → Parser ExprTree) (inside : Bool) where
     expect s.Colon
     part.named v <$> expr inside
 
-  -- behind the opening bracket
+  -- after the opening bracket
   unfoldable pub computed_member : Parser MemberPart
   computed_member = do
     n ← expr inside
@@ -281,7 +281,7 @@ module _ (expr : Bool → Parser ExprTree) (inside : Bool) where
     part.computed n <$> expr inside
 
   abbrev pub member_by : Option TokenKind → Parser MemberPart
-  member_by (Some (k.Word v)) = skip >> named_member v (unquoted inside v)
+  member_by (Some (k.Word v)) = skip >> named_member v (word_value inside v)
   member_by (Some (k.Quoted v)) = skip >> named_member v (e.name v)
   member_by (Some (k.Text v)) = skip >> text_member v
   member_by (Some (k.Symbol s.OpenBracket)) = skip >> computed_member
@@ -290,14 +290,14 @@ module _ (expr : Bool → Parser ExprTree) (inside : Bool) where
   unfoldable pub member : Parser MemberPart
   member = peek >>= member_by
 
-  -- behind the opening brace
+  -- after the opening brace
   abbrev pub members : Parser (List MemberPart)
   members = items s.CloseBrace member
 
   -- ---- clauses
 
-  unfoldable pub assigned : Parser LetPart
-  assigned = do
+  unfoldable pub assignment : Parser LetPart
+  assignment = do
     v ← name
     expect s.Assign
     e.assigned v <$> expr inside
@@ -316,7 +316,7 @@ module _ (expr : Bool → Parser ExprTree) (inside : Bool) where
       is_ascending ← eat_keyword w.Asc
       pure (x, false))
 
-  -- behind the opening parenthesis of an aggregate
+  -- after the opening parenthesis of an aggregate
   unfoldable pub optional_argument : Parser (Option ExprTree)
   optional_argument = do
     is_empty ← eat s.CloseParen
@@ -338,7 +338,7 @@ module _ (expr : Bool → Parser ExprTree) (inside : Bool) where
     has_some ← eat_keyword w.Aggregate
     if has_some then separated aggregate else pure []
 
-  -- behind `INTO`
+  -- after `INTO`
   unfoldable pub into_part : Parser IntoPart
   into_part = do
     v ← name
@@ -355,9 +355,9 @@ module _ (expr : Bool → Parser ExprTree) (inside : Bool) where
   unfoldable pub groups : Parser (List LetPart)
   groups = do
     t ← peek
-    if is_name t then separated assigned else pure []
+    if is_name t then separated assignment else pure []
 
-  -- behind `COLLECT`
+  -- after `COLLECT`
   unfoldable pub collect : Parser ClauseTree
   collect = do
     ls ← groups
@@ -380,41 +380,42 @@ module _ (expr : Bool → Parser ExprTree) (inside : Bool) where
     has_some ← eat_word (codes "OPTIONS")
     if has_some then expect s.OpenBrace >> members else pure []
 
-  unfoldable pub walk : e.WalkNames → Parser ClauseTree
-  walk names = do
-    d ← depth
-    direction ← way
+  unfoldable pub traversal : e.WalkNames → Parser ClauseTree
+  traversal names = do
+    depth ← traversal_depth
+    direction ← traversal_direction
     start ← expr inside
     edges ← separated name
     p ← prune
     ms ← settings
-    pure (walked (e.traversal names d.0 d.1 direction start edges p ms))
+    pure (walked (e.traversal names depth.0 depth.1 direction start edges p ms))
 
   abbrev pub single_by : List ℕ → Option (List ℕ) → Parser ClauseTree
   single_by v None = e.for_in v <$> expr inside
   single_by v (Some other) = refuse
 
-  -- behind `FOR`
+  -- after `FOR`
   unfoldable pub for_clause : Parser ClauseTree
   for_clause = do
-    names ← walk_names
+    names ← traversal_names
     expect_keyword w.In
-    walks ← look begins_walk
-    if walks then walk names else single_by names.vertex names.edge
+    is_traversal ← look begins_traversal
+    if is_traversal then traversal names else single_by names.vertex names.edge
 
-  abbrev pub pushed : List ClauseTree → ClauseTree → List ClauseTree
-  pushed found c = found ++ c ∷ []
+  abbrev pub with_clause : List ClauseTree → ClauseTree → List ClauseTree
+  with_clause found c = found ++ c ∷ []
 
   abbrev pub clause_by : List ClauseTree → Option TokenKind → Parser (List ClauseTree)
-  clause_by found (Some (k.Keyword w.For)) = skip >> pushed found <$> for_clause
-  clause_by found (Some (k.Keyword w.Filter)) = skip >> (λ x. pushed found (keep_if x)) <$> expr inside
+  clause_by found (Some (k.Keyword w.For)) = skip >> with_clause found <$> for_clause
+  clause_by found (Some (k.Keyword w.Filter)) = skip >> (λ x. with_clause found (keep_if x)) <$> expr inside
   clause_by found (Some (k.Keyword w.Let)) = skip >> separated_onto let_clause found
-  clause_by found (Some (k.Keyword w.Sort)) = skip >> (λ ks. pushed found (sort ks)) <$> separated sort_key
-  clause_by found (Some (k.Keyword w.Limit)) = skip >> pushed found <$> limit
-  clause_by found (Some (k.Keyword w.Collect)) = skip >> pushed found <$> collect
+  clause_by found (Some (k.Keyword w.Sort)) =
+      skip >> (λ ks. with_clause found (sort ks)) <$> separated sort_key
+  clause_by found (Some (k.Keyword w.Limit)) = skip >> with_clause found <$> limit
+  clause_by found (Some (k.Keyword w.Collect)) = skip >> with_clause found <$> collect
   clause_by found other = refuse
 
-  -- a clause behind those that were found
+  -- a clause after those that were found
   unfoldable pub clause : List ClauseTree → Parser (List ClauseTree)
   clause found = peek >>= clause_by found
 
@@ -441,20 +442,20 @@ module _ (expr : Bool → Parser ExprTree) (inside : Bool) where
     t ← peek
     if begins_query t then subquery <$> query [] else expr inside
 
-  -- behind the opening parenthesis of a call
+  -- after the opening parenthesis of a call
   unfoldable pub arguments : Parser (List ExprTree)
   arguments = do
     is_empty ← eat s.CloseParen
     if is_empty then pure [] else (do found ← separated argument; expect s.CloseParen; pure found)
 
-  -- behind a word
-  unfoldable pub named : List ℕ → Parser ExprTree
-  named v = do
+  -- after a word
+  unfoldable pub call_or_name : List ℕ → Parser ExprTree
+  call_or_name v = do
     is_call ← eat s.OpenParen
-    if is_call then e.call v <$> arguments else pure (unquoted inside v)
+    if is_call then e.call v <$> arguments else pure (word_value inside v)
 
-  unfoldable pub bracketed : Parser ExprTree
-  bracketed = do
+  unfoldable pub parentheses : Parser ExprTree
+  parentheses = do
     found ← argument
     expect s.CloseParen
     pure found
@@ -463,11 +464,11 @@ module _ (expr : Bool → Parser ExprTree) (inside : Bool) where
   primary_by (Some (k.Number n)) = skip >> pure (e.number n)
   primary_by (Some (k.Text v)) = skip >> pure (e.text v)
   primary_by (Some (k.Quoted v)) = skip >> pure (e.name v)
-  primary_by (Some (k.Word v)) = skip >> named v
+  primary_by (Some (k.Word v)) = skip >> call_or_name v
   primary_by (Some (k.Keyword w.Null)) = skip >> pure e.null
   primary_by (Some (k.Keyword w.True)) = skip >> pure (e.boolean true)
   primary_by (Some (k.Keyword w.False)) = skip >> pure (e.boolean false)
-  primary_by (Some (k.Symbol s.OpenParen)) = skip >> bracketed
+  primary_by (Some (k.Symbol s.OpenParen)) = skip >> parentheses
   primary_by (Some (k.Symbol s.OpenBracket)) = skip >> e.list <$> items s.CloseBracket (expr inside)
   primary_by (Some (k.Symbol s.OpenBrace)) = skip >> e.object <$> members
   primary_by other = refuse
@@ -481,7 +482,7 @@ module _ (expr : Bool → Parser ExprTree) (inside : Bool) where
     has_some ← eat_keyword keyword
     if has_some then Some <$> expr true else pure None
 
-  -- behind the opening bracket of a step
+  -- after the opening bracket of a step
   unfoldable pub bracket_step : Parser StepPart
   bracket_step = do
     is_each ← eat s.Star
@@ -507,7 +508,7 @@ module _ (expr : Bool → Parser ExprTree) (inside : Bool) where
   postfix = do
     of ← primary
     steps ← many (at_front begins_step) step
-    pure (accessed of steps)
+    pure (access_of of steps)
 
   -- ---- operators, level by level
 
@@ -533,7 +534,7 @@ unfoldable pub chain : ℕ → Parser ExprTree → Parser ExprTree
 chain level part = do
   first ← part
   rest ← many (at_level level) (link part)
-  pure (chained first rest)
+  pure (chain_of first rest)
 
 unfoldable pub range : Parser ExprTree → Parser ExprTree
 range part = do
@@ -560,9 +561,9 @@ module _ (expr : Bool → Parser ExprTree) (inside : Bool) where
   level_at zero = unary expr inside
   level_at (suc k) = level_by (suc k) (level_at k)
 
-  -- behind the question mark
-  unfoldable pub choice_of : ExprTree → Parser ExprTree
-  choice_of test = do
+  -- after the question mark
+  unfoldable pub ternary_of : ExprTree → Parser ExprTree
+  ternary_of test = do
     is_short ← eat s.Colon
     if is_short then e.conditional test None <$> expr inside else (do
       first ← expr inside
@@ -573,7 +574,7 @@ module _ (expr : Bool → Parser ExprTree) (inside : Bool) where
   conditional = do
     test ← level_at 9
     is_choice ← eat s.Question
-    if is_choice then choice_of test else pure test
+    if is_choice then ternary_of test else pure test
 
 -- with expressions nested no deeper than the number
 unfoldable pub expr : ℕ → Bool → Parser ExprTree
@@ -586,10 +587,10 @@ top fuel = do
   if has_list then (do names ← separated name; query (expr fuel) false names) else query (expr fuel) false
       []
 
-abbrev pub ended : Option (QueryTree × Tokens) → Option QueryTree
-ended None = None
-ended (Some p) = if length p.1 == 0 then Some p.0 else None
+abbrev pub at_end : Option (QueryTree × Tokens) → Option QueryTree
+at_end None = None
+at_end (Some p) = if length p.1 == 0 then Some p.0 else None
 
 -- the query that all the tokens are, in which no more nests than there are tokens
-unfoldable pub whole : Tokens → Option QueryTree
-whole i = ended (top (length i) i)
+unfoldable pub whole_query : Tokens → Option QueryTree
+whole_query i = at_end (top (length i) i)

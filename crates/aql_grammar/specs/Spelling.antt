@@ -1,6 +1,6 @@
 -- How tokens spell the small parts of a query, and lists of parts. A relation `P x a b` of this
--- grammar says that the tokens `a` begin with a spelling of x, and that `b` is what stands behind
--- it; no rule looks into what stands behind. Names and words are those of the AQL manual's chapter
+-- grammar says that the tokens `a` begin with a spelling of x, and that `b` is what stands after
+-- it; no rule looks into what stands after. Names and words are those of the AQL manual's chapter
 -- on syntax.
 use Rattle.std.specs.Prelude.{◌≡◌, ℕ, true, List, [], ◌∷◌, Option, Some, None}
 use Rattle.std.specs.Str.{str_eq_ignore_ascii_case}

@@ -20,6 +20,6 @@ pub data IsTop (E : Bool → ExprTree → Tokens → Tokens → Type 0) : QueryT
   with_list : {names : List (List ℕ)} {q : QueryTree} {a b c : Tokens} → AreSeparated IsName names a b
       → IsQuery E false names q b c → IsTop E q (k.Keyword w.With ∷ a) c
 
--- the tokens spell this query, and nothing stands behind it
+-- the tokens spell this query, and nothing stands after it
 abbrev pub Tree : Tokens → QueryTree → Type 0
 Tree tokens q = (depth : ℕ) × IsTop (IsExpr depth) q tokens []

@@ -63,7 +63,7 @@ impl<'a> Cursor<'a> {
         }
     }
 
-    /// The token behind the next.
+    /// The token after the next.
     pub fn peek_second(&self) -> Option<&'a TokenKind>
         ensures { option_copied result ≡ input.head (input.next self.now) }
     {

@@ -6,10 +6,10 @@ mod cursor;
 mod faults;
 mod limits;
 mod operators;
-mod walks;
+mod traversals;
 
 pub use cursor::Cursor;
 pub use faults::ParseFault;
 pub use limits::{Effect, has_too_many_marks, nests_too_deep};
 pub use operators::{begins_clause, begins_query, begins_step, is_name, is_number, unary_at};
-pub use walks::{Depth, WalkNames};
+pub use traversals::{Depth, TraversalNames};

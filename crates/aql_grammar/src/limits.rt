@@ -20,7 +20,7 @@ pub enum Effect {
     ClosesSigns,
 }
 
-// What is open behind some tokens.
+// What is open after some tokens.
 #[derive(Drop)]
 struct Open {
     // The ternaries of the innermost bracket.
@@ -68,7 +68,7 @@ impl Open {
     #[tactic(auto, using(crate::specs::laws::LimitLaws::reverse_push))]
     fn change(&mut self, effect: Effect) -> Result<(), OutOfMemory>
         requires { spec.open_now self.old < 1000 }
-        ensures { OnOk result (self.new ≡ spec.changed effect self.old) }
+        ensures { OnOk result (self.new ≡ spec.change effect self.old) }
     {
         self.signs = match effect {
             Effect::OpensSign => self.signs + 1,
@@ -95,8 +95,8 @@ impl Open {
     }
 }
 
-fn of_symbol(symbol: Symbol) -> Effect
-    ensures { result ≡ spec.of_symbol symbol }
+fn effect_of_symbol(symbol: Symbol) -> Effect
+    ensures { result ≡ spec.effect_of_symbol symbol }
 {
     match symbol {
         Symbol::OpenParen | Symbol::OpenBracket | Symbol::OpenBrace => Effect::OpensBracket,
@@ -123,8 +123,8 @@ fn is_clause_word(keyword: Keyword) -> bool
     )
 }
 
-fn of_keyword(keyword: Keyword) -> Effect
-    ensures { result ≡ spec.of_keyword keyword }
+fn effect_of_keyword(keyword: Keyword) -> Effect
+    ensures { result ≡ spec.effect_of_keyword keyword }
 {
     match keyword {
         Keyword::Not => Effect::OpensSign,
@@ -142,8 +142,8 @@ fn effect_of(token: &TokenKind) -> Effect
     ensures { result ≡ spec.effect_of token.now }
 {
     match token {
-        TokenKind::Symbol(symbol) => of_symbol(*symbol),
-        TokenKind::Keyword(keyword) => of_keyword(*keyword),
+        TokenKind::Symbol(symbol) => effect_of_symbol(*symbol),
+        TokenKind::Keyword(keyword) => effect_of_keyword(*keyword),
         _ => Effect::ClosesSigns,
     }
 }

@@ -11,8 +11,8 @@ use aql_func::{BinOp, UnaryOp};
 use aql_lex::{Keyword, Symbol, TokenKind};
 use aql_tree::{Direction, QuantKind};
 
-fn by_symbol(symbol: Symbol) -> Option<(u8, BinOp)>
-    ensures { result ≡ reader.by_symbol symbol }
+fn operator_of_symbol(symbol: Symbol) -> Option<(u8, BinOp)>
+    ensures { result ≡ reader.operator_of_symbol symbol }
 {
     match symbol {
         Symbol::Star => Some((1, BinOp::Mul)),
@@ -32,8 +32,8 @@ fn by_symbol(symbol: Symbol) -> Option<(u8, BinOp)>
     }
 }
 
-fn by_keyword(keyword: Keyword) -> Option<(u8, BinOp)>
-    ensures { result ≡ reader.by_keyword keyword }
+fn operator_of_keyword(keyword: Keyword) -> Option<(u8, BinOp)>
+    ensures { result ≡ reader.operator_of_keyword keyword }
 {
     match keyword {
         Keyword::In => Some((5, BinOp::IsIn)),
@@ -44,8 +44,8 @@ fn by_keyword(keyword: Keyword) -> Option<(u8, BinOp)>
     }
 }
 
-fn negated(next: Option<&TokenKind>) -> Option<(u8, BinOp)>
-    ensures { result ≡ reader.negated (option_copied next.entry) }
+fn operator_after_not(next: Option<&TokenKind>) -> Option<(u8, BinOp)>
+    ensures { result ≡ reader.operator_after_not (option_copied next.entry) }
 {
     match next {
         Some(TokenKind::Keyword(Keyword::In)) => Some((5, BinOp::NotIn)),
@@ -153,14 +153,14 @@ impl<'a> Cursor<'a> {
         ensures { result ≡ reader.operator_ahead self.now }
     {
         match self.peek() {
-            Some(TokenKind::Symbol(symbol)) => by_symbol(*symbol),
-            Some(TokenKind::Keyword(Keyword::Not)) => negated(self.peek_second()),
-            Some(TokenKind::Keyword(keyword)) => by_keyword(*keyword),
+            Some(TokenKind::Symbol(symbol)) => operator_of_symbol(*symbol),
+            Some(TokenKind::Keyword(Keyword::Not)) => operator_after_not(self.peek_second()),
+            Some(TokenKind::Keyword(keyword)) => operator_of_keyword(*keyword),
             _ => None,
         }
     }
 
-    /// The level of what the next token would go on with behind an operand: 0 for a step or a call,
+    /// The level of what the next token would go on with after an operand: 0 for a step or a call,
     /// 1 to 9 for an operator, 10 for the ternary, 11 for nothing.
     #[tactic(auto, unfolding(crate::specs::Reader::rank))]
     pub fn rank(&self) -> u8
@@ -173,7 +173,7 @@ impl<'a> Cursor<'a> {
     }
 
     /// Takes an operator.
-    #[tactic(auto, unfolding(crate::specs::Reader::operator, crate::specs::Reader::behind))]
+    #[tactic(auto, unfolding(crate::specs::Reader::operator, crate::specs::Reader::after_operator))]
     pub fn operator(&mut self) -> Result<BinOp, ParseFault>
         ensures { Reads (reader.operator self.old) result self.new }
     {
@@ -225,21 +225,21 @@ impl<'a> Cursor<'a> {
     }
 
     /// Takes OUTBOUND, INBOUND or ANY.
-    #[tactic(auto, unfolding(crate::specs::Reader::way))]
-    pub fn way(&mut self) -> Result<Direction, ParseFault>
-        ensures { Reads (reader.way self.old) result self.new }
+    #[tactic(auto, unfolding(crate::specs::Reader::traversal_direction))]
+    pub fn traversal_direction(&mut self) -> Result<Direction, ParseFault>
+        ensures { Reads (reader.traversal_direction self.old) result self.new }
     {
-        let way = match self.peek() {
+        let direction = match self.peek() {
             Some(TokenKind::Keyword(Keyword::Outbound)) => Direction::Outbound,
             Some(TokenKind::Keyword(Keyword::Inbound)) => Direction::Inbound,
             Some(TokenKind::Keyword(Keyword::Any)) => Direction::Any,
             _ => return Err(ParseFault::NotInGrammar),
         };
         self.take();
-        Ok(way)
+        Ok(direction)
     }
 
-    // ANY with a comparison behind it is part of an expression.
+    // ANY with a comparison after it is part of an expression.
     #[tactic(auto, unfolding(crate::specs::Reader::begins_direction))]
     fn begins_direction(&self) -> bool
         ensures { result ≡ reader.begins_direction self.now }
@@ -255,9 +255,9 @@ impl<'a> Cursor<'a> {
         }
     }
 
-    #[tactic(auto, unfolding(crate::specs::Reader::begins_behind))]
-    fn begins_behind(&self) -> bool
-        ensures { result ≡ reader.begins_behind self.now }
+    #[tactic(auto, unfolding(crate::specs::Reader::begins_after_number))]
+    fn begins_after_number(&self) -> bool
+        ensures { result ≡ reader.begins_after_number self.now }
     {
         let mut ahead = self.ahead();
         if self.sees(Symbol::Range) && is_number(self.peek_second()) {
@@ -267,15 +267,15 @@ impl<'a> Cursor<'a> {
         ahead.begins_direction()
     }
 
-    /// Whether a traversal stands behind IN: a direction, also behind a depth.
-    #[tactic(auto, unfolding(crate::specs::Reader::begins_walk))]
-    pub fn begins_walk(&self) -> bool
-        ensures { result ≡ reader.begins_walk self.now }
+    /// Whether a traversal stands after IN: a direction, also after a depth.
+    #[tactic(auto, unfolding(crate::specs::Reader::begins_traversal))]
+    pub fn begins_traversal(&self) -> bool
+        ensures { result ≡ reader.begins_traversal self.now }
     {
         if is_number(self.peek()) {
             let mut ahead = self.ahead();
             ahead.take();
-            ahead.begins_behind()
+            ahead.begins_after_number()
         } else {
             self.begins_direction()
         }

@@ -5,22 +5,24 @@ use Rattle.std.specs.Prelude.{Result, Ok, Err, IfOk, IsErrOf}
 use Rattle.aql_tree.specs.Tree.{QueryTree}
 use Rattle.aql_tree.specs.View.{query_tree}
 use Rattle.aql_tree.specs.declared.syntax.Query.{Query}
-use Rattle.aql_walks.specs.Within.{walks_within}
+use Rattle.aql_parse.specs.Within.{traversals_within}
 use Rattle.aql_grammar.specs.Kinds.{Tokens}
 use Rattle.aql_grammar.specs.Tree.{Tree}
 use Rattle.aql_grammar.specs.Limits.{nesting, marks}
-use Rattle.aql_grammar.specs.Reader.{whole}
+use Rattle.aql_grammar.specs.Reader.{whole_query}
 use Rattle.aql_grammar.specs.declared.faults.ParseFault.{ParseFault}
 use Rattle.aql_grammar.specs.declared.faults.ParseFault.TheVariants.{TooDeep, TooManyClauses, NotInGrammar}
 use Rattle.aql_grammar.specs.declared.faults.ParseFault.TheVariants.{WalkTooDeep, Memory}
 use Rattle.aql_grammar.specs.laws.TreeLaws.{tree_whole, one_tree}
-use Rattle.aql_parse.specs.Parsed.{WithinLimits, IsShallow, HasNoTree, WalksTooDeep, Gives, Parsed, ReadsWhole}
+use Rattle.aql_parse.specs.Parsed.{WithinLimits, IsShallow, HasNoTree, TraversesTooDeep, Gives, Parsed}
+use Rattle.aql_parse.specs.Parsed.{ReadsWhole}
 
-pub no_tree : (ts : Tokens) → whole ts ≡ None → HasNoTree ts
-no_tree ts none q a = let p = tree_whole ts q a in absurd (cc)
+pub no_tree : (ts : Tokens) → whole_query ts ≡ None → HasNoTree ts
+no_tree ts none q a = let p = tree_whole_query ts q a in absurd (cc)
 
 -- what the grammar refuses within the limits
-pub refused : (ts : Tokens) (e : ParseFault) → ReadsWhole (whole ts) (Err e) → nesting ts ≤ 64 → marks ts ≤ 256
+pub refused : (ts : Tokens) (e : ParseFault) → ReadsWhole (whole_query ts) (Err e) → nesting ts ≤ 64
+    → marks ts ≤ 256
     → Parsed ts (Err e)
 refused ts TooDeep h deep many = absurd h
 refused ts TooManyClauses h deep many = absurd h
@@ -46,7 +48,9 @@ gives_only ts (Err TooManyClauses) h q a within shallow = let w = within.1 in le
     (omega arith)
 gives_only ts (Err NotInGrammar) h q a within shallow = absurd (h.1 q a)
 gives_only ts (Err WalkTooDeep) h q a within shallow =
-    let same = one_tree ts h.1.0 q h.1.1.0 a in let e = ap (walks_within 32) same in let deep = h.1.1.1 in
+    let same = one_tree ts h.1.0 q h.1.1.0 a in
+    let e = ap (traversals_within 32) same in
+    let deep = h.1.1.1 in
     absurd (cc)
 gives_only ts (Err Memory) h q a within shallow = tt
 
@@ -78,7 +82,7 @@ gives_none ts (Err WalkTooDeep) h is = absurd (cc)
 gives_none ts (Err Memory) h is = absurd (cc)
 
 pub gives_walk : (ts : Tokens) (r : Result Query ParseFault) → Parsed ts r → IsErrOf r WalkTooDeep
-    → WithinLimits ts × WalksTooDeep ts
+    → WithinLimits ts × TraversesTooDeep ts
 gives_walk ts (Ok q) h is = absurd (cc)
 gives_walk ts (Err TooDeep) h is = absurd (cc)
 gives_walk ts (Err TooManyClauses) h is = absurd (cc)

@@ -1,1 +1,5 @@
 pub mod Parsed
+pub mod Within
+pub mod Deeper
+pub mod Parts
+pub mod Shapes

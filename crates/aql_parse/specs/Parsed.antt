@@ -4,7 +4,7 @@ use Rattle.std.specs.Prelude.{◌≡◌, ◌≤◌, ◌<◌, true, false, Option
 use Rattle.aql_tree.specs.Tree.{QueryTree}
 use Rattle.aql_tree.specs.View.{query_tree}
 use Rattle.aql_tree.specs.declared.syntax.Query.{Query}
-use Rattle.aql_walks.specs.Within.{walks_within}
+use Rattle.aql_parse.specs.Within.{traversals_within}
 use Rattle.aql_grammar.specs.Kinds.{Tokens}
 use Rattle.aql_grammar.specs.Tree.{Tree}
 use Rattle.aql_grammar.specs.Limits.{nesting, marks}
@@ -17,15 +17,15 @@ WithinLimits tokens = (nesting tokens ≤ 64) × (marks tokens ≤ 256)
 
 -- a tree whose traversals go at most 32 edges deep
 abbrev pub IsShallow : QueryTree → Type 0
-IsShallow q = walks_within 32 q ≡ true
+IsShallow q = traversals_within 32 q ≡ true
 
 -- no tree spells the tokens
 abbrev pub HasNoTree : Tokens → Type 0
 HasNoTree tokens = (q : QueryTree) → Tree tokens q → ⊥
 
 -- the tokens have a tree with a deeper traversal
-abbrev pub WalksTooDeep : Tokens → Type 0
-WalksTooDeep tokens = (q : QueryTree) × (Tree tokens q × (walks_within 32 q ≡ false))
+abbrev pub TraversesTooDeep : Tokens → Type 0
+TraversesTooDeep tokens = (q : QueryTree) × (Tree tokens q × (traversals_within 32 q ≡ false))
 
 -- this tree, unless memory ran out
 abbrev pub Gives : QueryTree → Result Query ParseFault → Type 0
@@ -39,7 +39,7 @@ Parsed tokens (Ok q) = WithinLimits tokens × (Tree tokens (query_tree q) × IsS
 Parsed tokens (Err fault.TooDeep) = 64 < nesting tokens
 Parsed tokens (Err fault.TooManyClauses) = (nesting tokens ≤ 64) × (256 < marks tokens)
 Parsed tokens (Err fault.NotInGrammar) = WithinLimits tokens × HasNoTree tokens
-Parsed tokens (Err fault.WalkTooDeep) = WithinLimits tokens × WalksTooDeep tokens
+Parsed tokens (Err fault.WalkTooDeep) = WithinLimits tokens × TraversesTooDeep tokens
 Parsed tokens (Err fault.Memory) = Unit {0}
 
 -- the reader's answer over all the tokens

@@ -18,16 +18,17 @@ use Rattle.aql_tree.specs.Made as e
 use Rattle.aql_grammar.specs.Kinds.{Tokens}
 use Rattle.aql_grammar.specs.Spelling.{IsName, IsOptional, AreSeparated, AreAny, AreItems}
 use Rattle.aql_grammar.specs.Objects.{IsVariable, IsKey, IsMember, IsObject}
-use Rattle.aql_grammar.specs.Clauses.{AreWalkNames, IsDepth, IsDirection, says, IsAssigned, IsLet}
+use Rattle.aql_grammar.specs.Clauses.{AreTraversalNames, IsDepth, IsDirection, says, IsAssigned, IsLet}
 use Rattle.aql_grammar.specs.Clauses.{IsSortKey, IsAggregate, IsInto, AreAggregates, IsTail, IsPrune}
 use Rattle.aql_grammar.specs.Clauses.{AreOptions, IsClause, AreClauses, IsDistinct, IsQuery}
 use Rattle.aql_grammar.specs.Input.{Parser, head, next, sees, sees_keyword, after_keyword, sees_word}
 use Rattle.aql_grammar.specs.Input.{is_name, is_number, same_symbol, same_keyword, name, natural, separated}
 use Rattle.aql_grammar.specs.Reader.{word, named_member, text_member, computed_member, member, members}
-use Rattle.aql_grammar.specs.Reader.{walk_names, depth, limit, count_name, assigned, let_clause}
+use Rattle.aql_grammar.specs.Reader.{traversal_names, traversal_depth, limit, count_name, assignment}
+use Rattle.aql_grammar.specs.Reader.{let_clause}
 use Rattle.aql_grammar.specs.Reader.{sort_key, optional_argument, aggregate, aggregates, into_part, into}
-use Rattle.aql_grammar.specs.Reader.{groups, collect, prune, settings, walk, for_clause}
-use Rattle.aql_grammar.specs.Reader.{begins_walk, begins_clause, begins_query, clause, clauses_from}
+use Rattle.aql_grammar.specs.Reader.{groups, collect, prune, settings, traversal, for_clause}
+use Rattle.aql_grammar.specs.Reader.{begins_traversal, begins_clause, begins_query, clause, clauses_from}
 use Rattle.aql_grammar.specs.Reader.{clauses, query}
 use Rattle.aql_grammar.specs.laws.Steps.{Complete, Shrinks, Always, bind_here, if_true, if_false}
 use Rattle.aql_grammar.specs.laws.Steps.{expect_then, keyword_then, word_then, eat_then, eat_else}
@@ -36,17 +37,19 @@ use Rattle.aql_grammar.specs.laws.Steps.{name_complete, name_shrinks, word_shrin
 use Rattle.aql_grammar.specs.laws.Steps.{sees_keyword_here}
 use Rattle.aql_grammar.specs.laws.ListLaws.{separated_complete, separated_onto_complete, separated_shrinks}
 use Rattle.aql_grammar.specs.laws.ListLaws.{items_complete}
-use Rattle.aql_grammar.specs.laws.OperatorLaws.{Ends, way_read, way_shrinks}
-use Rattle.aql_grammar.specs.laws.Shrinking.{member_shrinks, assigned_shrinks, let_shrinks}
+use Rattle.aql_grammar.specs.laws.OperatorLaws.{Ends, traversal_direction_read, traversal_direction_shrinks}
+use Rattle.aql_grammar.specs.laws.Shrinking.{member_shrinks, assignment_shrinks, let_shrinks}
 use Rattle.aql_grammar.specs.laws.Shrinking.{sort_key_shrinks, aggregate_shrinks, aggregates_fall}
-use Rattle.aql_grammar.specs.laws.Shrinking.{prune_falls, walk_names_shrink, depth_falls, clause_shrinks}
+use Rattle.aql_grammar.specs.laws.Shrinking.{prune_falls, traversal_names_shrink, traversal_depth_falls}
+use Rattle.aql_grammar.specs.laws.Shrinking.{clause_shrinks}
 use Rattle.aql_grammar.specs.laws.Shrinking.{clauses_fall, distinct_falls}
 use Rattle.aql_grammar.specs.laws.Ending.{comma_ends, paren_ends, bracket_ends, brace_ends, asc_ends}
 use Rattle.aql_grammar.specs.laws.Ending.{desc_ends, with_ends, aggregate_ends, into_ends, name_ends}
 use Rattle.aql_grammar.specs.laws.Ending.{word_ends, Stop, stop_ends, stop_no_symbol, stop_no_keyword}
 use Rattle.aql_grammar.specs.laws.Ending.{stop_no_word, stop_no_name, clause_stops, word_no_symbol}
 use Rattle.aql_grammar.specs.laws.Ending.{options_no_prune, Starts, no_first_keyword}
-use Rattle.aql_grammar.specs.laws.Ending.{no_comparison_first, no_walk_first, way_begins, walk_begins}
+use Rattle.aql_grammar.specs.laws.Ending.{no_comparison_first, no_traversal_first, traversal_direction_begins}
+use Rattle.aql_grammar.specs.laws.Ending.{traversal_begins}
 
 keyword_no_symbol : (keyword : Keyword) (symbol : Symbol) (ts : Tokens)
     → sees symbol (k.Keyword keyword ∷ ts) ≡ false
@@ -63,25 +66,26 @@ pub names_read : (vs : List (List ℕ)) (a b : Tokens) → AreSeparated IsName v
     → separated name a ≡ Some (vs, b)
 names_read vs a b h other = names_complete vs a b h other
 
-walk_names_complete : (n : e.WalkNames) (a b : Tokens) → AreWalkNames n a b → sees s.Comma b ≡ false
-    → walk_names a ≡ Some (n, b)
-unfolding walk_names
-walk_names_complete n a b (AreWalkNames.vertex {v = v} h) other = bind_here _ _ (v, b) _
+traversal_names_complete : (n : e.WalkNames) (a b : Tokens) → AreTraversalNames n a b → sees s.Comma b ≡ false
+    → traversal_names a ≡ Some (n, b)
+unfolding traversal_names
+traversal_names_complete n a b (AreTraversalNames.vertex {v = v} h) other = bind_here _ _ (v, b) _
     (name_complete v a b h) (eat_else s.Comma _ _ b _ other refl)
-walk_names_complete n a b (AreWalkNames.edge {v = v} {x = x} {b = c} h g) other =
+traversal_names_complete n a b (AreTraversalNames.edge {v = v} {x = x} {b = c} h g) other =
     bind_here _ _ (v, k.Symbol s.Comma ∷ c) _ (name_complete v a _ h) (eat_then s.Comma _ _ c _
     (bind_here _ _ (x, b) _ (name_complete x c b g) (eat_else s.Comma _ _ b _ other refl)))
-walk_names_complete n a b (AreWalkNames.path {v = v} {x = x} {p = p} {b = c} {c = d} h g f) other =
+traversal_names_complete n a b (AreTraversalNames.path {v = v} {x = x} {p = p} {b = c} {c = d} h g f) other =
     bind_here _ _ (v, k.Symbol s.Comma ∷ c) _ (name_complete v a _ h) (eat_then s.Comma _ _ c _
     (bind_here _ _ (x, k.Symbol s.Comma ∷ d) _ (name_complete x c _ g) (eat_then s.Comma _ _ d _
     (bind_here _ _ (p, b) _ (name_complete p d b f) refl))))
 
-depth_complete : (m n : ℕ) (a b : Tokens) → IsDepth m n a b → is_number (head b) ≡ false
-    → sees s.Range b ≡ false → depth a ≡ Some ((m, n), b)
-unfolding depth natural
-depth_complete m n a b IsDepth.unsaid number range = if_false _ _ _ a _ number refl
-depth_complete m n a b IsDepth.exact number range = eat_else s.Range _ _ b _ range refl
-depth_complete m n a b (IsDepth.between {b = c}) number range = eat_then s.Range _ _ (k.Number _ ∷ c) _ refl
+traversal_depth_complete : (m n : ℕ) (a b : Tokens) → IsDepth m n a b → is_number (head b) ≡ false
+    → sees s.Range b ≡ false → traversal_depth a ≡ Some ((m, n), b)
+unfolding traversal_depth natural
+traversal_depth_complete m n a b IsDepth.unsaid number range = if_false _ _ _ a _ number refl
+traversal_depth_complete m n a b IsDepth.exact number range = eat_else s.Range _ _ b _ range refl
+traversal_depth_complete m n a b (IsDepth.between {b = c}) number range = eat_then s.Range _ _
+    (k.Number _ ∷ c) _ refl
 
 distinct_complete : (d : Bool) (a b : Tokens) → IsDistinct d a b → sees_keyword w.Distinct b ≡ false
     → (sees_keyword w.Distinct a ≡ d) × (after_keyword w.Distinct a ≡ b)
@@ -135,7 +139,7 @@ module _ (R : Bool → Parser ExprTree) (E : Bool → ExprTree → Tokens → To
   member_complete m a b short (IsMember.short IsVariable.quoted) f = eat_else s.Colon _ _ b _ f.no_colon
       refl
 
-  -- behind the opening brace
+  -- after the opening brace
   pub members_complete : (ms : List MemberPart) (a b : Tokens) → AreItems (IsMember E inside) ms a
       (k.Symbol s.CloseBrace ∷ b) → length a ≤ bound → members R inside a ≡ Some (ms, b)
   members_complete ms a b h short =
@@ -145,9 +149,9 @@ module _ (R : Bool → Parser ExprTree) (E : Bool → ExprTree → Tokens → To
 
   -- ---- clauses
 
-  assigned_complete : Complete (assigned R inside) (IsAssigned E inside) Ends bound
-  unfolding assigned
-  assigned_complete l a b short (IsAssigned.assigned {v = v} {x = x} {b = c} h g) ends =
+  assignment_complete : Complete (assignment R inside) (IsAssigned E inside) Ends bound
+  unfolding assignment
+  assignment_complete l a b short (IsAssigned.assigned {v = v} {x = x} {b = c} h g) ends =
       let i = name_shrinks v a (k.Symbol s.Assign ∷ c) h in
       bind_here _ _ (v, k.Symbol s.Assign ∷ c) _ (name_complete v a _ h)
       (expect_then s.Assign c _ _ (bind_here _ _ (x, b) _ (complete inside x c b (omega arith) g ends)
@@ -308,7 +312,7 @@ module _ (R : Bool → Parser ExprTree) (E : Bool → ExprTree → Tokens → To
       (bind_here _ _ (p, b) _ (into_part_complete p c b (omega arith) (IsInto.keeping h o ms) stop)
       refl)
 
-  -- what stands behind the groups of COLLECT
+  -- what stands after the groups of COLLECT
   record Tailed (ts : Tokens) : Type 0 where
     ends : Ends ts
     no_comma : sees s.Comma ts ≡ false
@@ -348,13 +352,13 @@ module _ (R : Bool → Parser ExprTree) (E : Bool → ExprTree → Tokens → To
   groups_complete ls a b short AreAny.none f = if_false _ _ _ a _ f.no_name refl
   groups_complete ls a b short (AreAny.some h) f =
       if_true _ _ _ a _ (separated_names ls a b h)
-      (separated_complete (assigned R inside) (IsAssigned E inside) Ends bound assigned_complete
-      (assigned_shrinks E shrinks inside) comma_ends ls a b h short f.ends f.no_comma)
+      (separated_complete (assignment R inside) (IsAssigned E inside) Ends bound assignment_complete
+      (assignment_shrinks E shrinks inside) comma_ends ls a b h short f.ends f.no_comma)
 
   any_falls : (ls : List LetPart) (a b : Tokens) → AreAny (IsAssigned E inside) ls a b → length b ≤ length a
   any_falls ls a b AreAny.none = omega arith
   any_falls ls a b (AreAny.some h) = let i = separated_shrinks (IsAssigned E inside)
-      (assigned_shrinks E shrinks inside) ls a b h in omega arith
+      (assignment_shrinks E shrinks inside) ls a b h in omega arith
 
   parts_no_with : (gs : List AggregatePart) (i : Option IntoPart) (a b c : Tokens)
       → AreAggregates E inside gs a b → IntoOrStop b → sees_keyword w.With a ≡ false
@@ -384,11 +388,11 @@ module _ (R : Bool → Parser ExprTree) (E : Bool → ExprTree → Tokens → To
       (bind_here _ _ (i, c) _ (into_complete i d c (omega arith) n stop) (if_true _ _ _ c _ said refl))))
 
   -- PRUNE, OPTIONS, or what ends the clause
-  record WalkEnds (ts : Tokens) : Type 0 where
+  record TraversalEnds (ts : Tokens) : Type 0 where
     ends : Ends ts
     no_comma : sees s.Comma ts ≡ false
 
-  options_end : (ms : List MemberPart) (a b : Tokens) → AreOptions E inside ms a b → Stop b → WalkEnds a
+  options_end : (ms : List MemberPart) (a b : Tokens) → AreOptions E inside ms a b → Stop b → TraversalEnds a
       × (sees_word (codes "PRUNE") a ≡ false)
   options_end ms a b AreOptions.none stop = (
     record { ends = stop_ends a stop; no_comma = stop_no_symbol s.Comma a stop },
@@ -405,7 +409,7 @@ module _ (R : Bool → Parser ExprTree) (E : Bool → ExprTree → Tokens → To
   )
 
   prune_ends : (p : Option ExprTree) (ms : List MemberPart) (a b c : Tokens) → IsPrune E inside p a b
-      → AreOptions E inside ms b c → Stop c → WalkEnds a
+      → AreOptions E inside ms b c → Stop c → TraversalEnds a
   prune_ends p ms a b c IsPrune.none g stop = (options_end ms a c g stop).0
   prune_ends p ms a b c (IsPrune.some {b = d} o h) g stop = record {
     ends = word_ends (codes "PRUNE") a d o;
@@ -437,25 +441,27 @@ module _ (R : Bool → Parser ExprTree) (E : Bool → ExprTree → Tokens → To
   names_front vs a b (AreSeparated.last {x = v} h) = name_ends v a b h
   names_front vs a b (AreSeparated.before {x = v} {b = c} h others) = name_ends v a (k.Symbol s.Comma ∷ c) h
 
-  walk_complete : (names : e.WalkNames) (m n : ℕ) (d : Direction) (start : ExprTree) (edges : List (List ℕ))
+  traversal_complete : (names : e.WalkNames) (m n : ℕ) (d : Direction) (start : ExprTree)
+      (edges : List (List ℕ))
       (p : Option ExprTree) (ms : List MemberPart) (a b c f g h i : Tokens) → length a ≤ bound
       → IsDepth m n a b → IsDirection d b c → E inside start c f → AreSeparated IsName edges f g
       → IsPrune E inside p g h → AreOptions E inside ms h i → Stop i
-      → (begins_walk a ≡ true)
-      × (walk R inside names a ≡ Some (walked (e.traversal names m n d start edges p ms), i))
-  unfolding walk
-  walk_complete names m n d start edges p ms a b c f g h i short hd hw hs he hp ho stop =
-      let l1 = depth_falls m n a b hd in
-      let l2 = way_shrinks d b c hw in
+      → (begins_traversal a ≡ true)
+      × (traversal R inside names a ≡ Some (walked (e.traversal names m n d start edges p ms), i))
+  unfolding traversal
+  traversal_complete names m n d start edges p ms a b c f g h i short hd hw hs he hp ho stop =
+      let l1 = traversal_depth_falls m n a b hd in
+      let l2 = traversal_direction_shrinks d b c hw in
       let l3 = shrinks inside start c f hs in
       let l4 = separated_shrinks IsName name_shrinks edges f g he in
       let l5 = prune_falls E shrinks inside p g h hp in
       let started = complete inside start c f (omega arith) hs (names_front edges f g he) in
-      let begun = way_begins d b c hw (no_comparison_first (R inside) (starts inside) c (start, f) started)
+      let begun = traversal_direction_begins d b c hw
+          (no_comparison_first (R inside) (starts inside) c (start, f) started)
       in (
-        walk_begins m n a b hd begun.0 begun.1.0 begun.1.1,
-        bind_here _ _ ((m, n), b) _ (depth_complete m n a b hd begun.1.0 begun.1.1)
-            (bind_here _ _ (d, c) _ (way_read d b c hw)
+        traversal_begins m n a b hd begun.0 begun.1.0 begun.1.1,
+        bind_here _ _ ((m, n), b) _ (traversal_depth_complete m n a b hd begun.1.0 begun.1.1)
+            (bind_here _ _ (d, c) _ (traversal_direction_read d b c hw)
             (bind_here _ _ (start, f) _ started
             (bind_here _ _ (edges, g) _
             (names_complete edges f g he (prune_ends p ms g h i hp ho stop).no_comma)
@@ -480,20 +486,22 @@ module _ (R : Bool → Parser ExprTree) (E : Bool → ExprTree → Tokens → To
       let read = complete inside x c b (omega arith) g (stop_ends b stop) in
       bind_here _ _ (e.for_in v x, b) _
       (bind_here _ _ (record { vertex = v; edge = None; path = None }, k.Keyword w.In ∷ c) _
-      (walk_names_complete _ d (k.Keyword w.In ∷ c) (AreWalkNames.vertex h)
+      (traversal_names_complete _ d (k.Keyword w.In ∷ c) (AreTraversalNames.vertex h)
       (keyword_no_symbol w.In s.Comma c))
       (keyword_then w.In c _ _
-      (if_false _ _ _ c _ (no_walk_first (R inside) (starts inside) c (x, b) read stop)
+      (if_false _ _ _ c _ (no_traversal_first (R inside) (starts inside) c (x, b) read stop)
       (bind_here _ _ (x, b) _ read refl))))
       refl
   clause_complete found cs a b short (IsClause.for_paths {names = names} {least = m} {greatest = n}
       {way = d} {start = start} {edges = edges} {prune = p} {ms = ms} {a = a'} {b = b'} {c = c'} {d = d'}
       {f = f'} {g = g'} {h = h'} hn hd hw hs he hp ho) stop =
-      let i = walk_names_shrink names a' (k.Keyword w.In ∷ b') hn in
-      let read = walk_complete names m n d start edges p ms b' c' d' f' g' h' b (omega arith) hd hw hs he hp
+      let i = traversal_names_shrink names a' (k.Keyword w.In ∷ b') hn in
+      let read = traversal_complete names m n d start edges p ms b' c' d' f' g' h' b
+          (omega arith) hd hw hs he hp
       ho stop in
       bind_here _ _ (walked (e.traversal names m n d start edges p ms), b) _
-      (bind_here _ _ (names, k.Keyword w.In ∷ b') _ (walk_names_complete names a' (k.Keyword w.In ∷ b') hn
+      (bind_here _ _ (names, k.Keyword w.In ∷ b') _
+      (traversal_names_complete names a' (k.Keyword w.In ∷ b') hn
       (keyword_no_symbol w.In s.Comma b'))
       (keyword_then w.In b' _ _ (if_true _ _ _ b' _ read.0 read.1)))
       refl

@@ -17,24 +17,26 @@ use Rattle.aql_tree.specs.View as part
 use Rattle.aql_tree.specs.Made as e
 use Rattle.aql_grammar.specs.Kinds.{Tokens}
 use Rattle.aql_grammar.specs.Spelling.{IsName, IsWord, IsOptional, AreSeparated, AreAny}
-use Rattle.aql_grammar.specs.Objects.{unquoted, IsVariable, IsKey, IsMember, IsObject}
-use Rattle.aql_grammar.specs.Clauses.{AreWalkNames, capped, IsDepth, says, IsAssigned, IsLet}
+use Rattle.aql_grammar.specs.Objects.{word_value, IsVariable, IsKey, IsMember, IsObject}
+use Rattle.aql_grammar.specs.Clauses.{AreTraversalNames, depth_number, IsDepth, says, IsAssigned, IsLet}
 use Rattle.aql_grammar.specs.Clauses.{IsSortKey, IsAggregate, IsInto, AreAggregates, IsTail, IsPrune}
 use Rattle.aql_grammar.specs.Clauses.{AreOptions, IsClause, AreClauses, IsDistinct, IsQuery}
 use Rattle.aql_grammar.specs.Input.{Parser, head, next, sees_keyword, after_keyword, is_name, is_number}
 use Rattle.aql_grammar.specs.Input.{expect, expect_keyword, expect_word, name, natural, separated}
 use Rattle.aql_grammar.specs.Reader.{word, named_member, text_member, computed_member, member, members}
-use Rattle.aql_grammar.specs.Reader.{walk_names, depth, way, limit, count_name, assigned, let_clause}
+use Rattle.aql_grammar.specs.Reader.{traversal_names, traversal_depth, traversal_direction, limit, count_name}
+use Rattle.aql_grammar.specs.Reader.{assignment, let_clause}
 use Rattle.aql_grammar.specs.Reader.{sort_key, optional_argument, aggregate, aggregates, into_part, into}
-use Rattle.aql_grammar.specs.Reader.{groups, collect, prune, settings, walk, single_by, for_clause}
-use Rattle.aql_grammar.specs.Reader.{begins_walk, begins_clause, clause_by, clause, clauses_from, clauses}
+use Rattle.aql_grammar.specs.Reader.{groups, collect, prune, settings, traversal, single_by, for_clause}
+use Rattle.aql_grammar.specs.Reader.{begins_traversal, begins_clause, clause_by, clause, clauses_from}
+use Rattle.aql_grammar.specs.Reader.{clauses}
 use Rattle.aql_grammar.specs.Reader.{query}
 use Rattle.aql_grammar.specs.laws.Steps.{Sound, bind_some, some_same, done, expect_some, keyword_some}
 use Rattle.aql_grammar.specs.laws.Steps.{word_some, eat_cases, keyword_cases, word_cases, if_cases}
 use Rattle.aql_grammar.specs.laws.Steps.{name_sound, natural_some, seen_keyword}
 use Rattle.aql_grammar.specs.laws.ListLaws.{More, from_nothing, separated_sound, separated_onto_sound}
 use Rattle.aql_grammar.specs.laws.ListLaws.{items_sound, Closed}
-use Rattle.aql_grammar.specs.laws.OperatorLaws.{way_sound}
+use Rattle.aql_grammar.specs.laws.OperatorLaws.{traversal_direction_sound}
 
 word_some' : (ts : Tokens) (y : List ℕ × Tokens) → word ts ≡ Some y → ts ≡ k.Word y.0 ∷ y.1
 unfolding word
@@ -46,7 +48,7 @@ word_some' (k.Text w ∷ ts) y h = absurd (cc)
 word_some' (k.Keyword w ∷ ts) y h = absurd (cc)
 word_some' (k.Symbol w ∷ ts) y h = absurd (cc)
 
--- a keyword that may stand there, and what is behind it
+-- a keyword that may stand there, and what is after it
 after_by : (keyword : Keyword) (ts : Tokens) (b : Bool) → sees_keyword keyword ts ≡ b
     → ((ts ≡ k.Keyword keyword ∷ next ts) × (cond b (next ts) ts ≡ next ts)) ⊎ ((b ≡ false)
     × (cond b (next ts) ts ≡ ts))
@@ -69,9 +71,9 @@ distinct_spelt : (ts : Tokens) → IsDistinct (sees_keyword w.Distinct ts) ts (a
 unfolding after_keyword
 distinct_spelt ts = distinct_by ts (sees_keyword w.Distinct ts) refl
 
-pub walk_names_sound : Sound walk_names AreWalkNames
-unfolding walk_names
-walk_names_sound ts y h =
+pub traversal_names_sound : Sound traversal_names AreTraversalNames
+unfolding traversal_names
+traversal_names_sound ts y h =
     let v = bind_some (name ts) _ y h in
     let one = name_sound ts v.0 v.1 in
     ⊎_elim
@@ -81,21 +83,22 @@ walk_names_sound ts y h =
     ⊎_elim
     (λ c.
     let p = bind_some (name (next x.0.1)) _ y c.1 in
-    done AreWalkNames ts _ p.0.1 y p.2 (AreWalkNames.path (subst (λ r. IsName v.0.0 ts r) m.0 one)
+    done AreTraversalNames ts _ p.0.1 y p.2 (AreTraversalNames.path (subst (λ r. IsName v.0.0 ts r) m.0 one)
     (subst (λ r. IsName x.0.0 (next v.0.1) r) c.0 two) (name_sound (next x.0.1) p.0 p.1)))
-    (λ c. done AreWalkNames ts _ x.0.1 y c.1 (AreWalkNames.edge (subst (λ r. IsName v.0.0 ts r) m.0 one)
+    (λ c. done AreTraversalNames ts _ x.0.1 y c.1
+    (AreTraversalNames.edge (subst (λ r. IsName v.0.0 ts r) m.0 one)
     two))
     (eat_cases s.Comma _ _ x.0.1 y x.2))
-    (λ m. done AreWalkNames ts _ v.0.1 y m.1 (AreWalkNames.vertex one))
+    (λ m. done AreTraversalNames ts _ v.0.1 y m.1 (AreTraversalNames.vertex one))
     (eat_cases s.Comma _ _ v.0.1 y v.2)
 
 -- the two numbers of a depth
 abbrev pub IsDepthPair : ℕ × ℕ → Tokens → Tokens → Type 0
 IsDepthPair p a b = IsDepth p.0 p.1 a b
 
-pub depth_sound : Sound depth IsDepthPair
-unfolding depth
-depth_sound ts y h =
+pub traversal_depth_sound : Sound traversal_depth IsDepthPair
+unfolding traversal_depth
+traversal_depth_sound ts y h =
     ⊎_elim
     (λ m.
     let n = bind_some (natural ts) _ y m.1 in
@@ -104,12 +107,12 @@ depth_sound ts y h =
     (λ c.
     let g = bind_some (natural (next n.0.1)) _ y c.1 in
     let there = natural_some (next n.0.1) g.0 g.1 in
-    done IsDepthPair ts (capped n.0.0, capped g.0.0) g.0.1 y g.2
-    (subst (λ q. IsDepth (capped n.0.0) (capped g.0.0) q g.0.1)
+    done IsDepthPair ts (depth_number n.0.0, depth_number g.0.0) g.0.1 y g.2
+    (subst (λ q. IsDepth (depth_number n.0.0) (depth_number g.0.0) q g.0.1)
     (sym (here ∙ ap (λ q. k.Number (pos n.0.0) ∷ q) (c.0 ∙ ap (λ q. k.Symbol s.Range ∷ q) there)))
     IsDepth.between))
-    (λ c. done IsDepthPair ts (capped n.0.0, capped n.0.0) n.0.1 y c.1
-    (subst (λ q. IsDepth (capped n.0.0) (capped n.0.0) q n.0.1) (sym here) IsDepth.exact))
+    (λ c. done IsDepthPair ts (depth_number n.0.0, depth_number n.0.0) n.0.1 y c.1
+    (subst (λ q. IsDepth (depth_number n.0.0) (depth_number n.0.0) q n.0.1) (sym here) IsDepth.exact))
     (eat_cases s.Range _ _ n.0.1 y n.2))
     (λ m. done IsDepthPair ts (1, 1) ts y m.1 IsDepth.unsaid)
     (if_cases (is_number (head ts)) _ _ ts y h)
@@ -178,14 +181,14 @@ module _ (R : Bool → Parser ExprTree) (E : Bool → ExprTree → Tokens → To
   pub member_sound : Sound (member R inside) (IsMember E inside)
   unfolding member
   member_sound [] y h = absurd (cc)
-  member_sound (k.Word v ∷ ts) y h = member_named v (unquoted inside v) _ ts y IsName.word IsVariable.word h
+  member_sound (k.Word v ∷ ts) y h = member_named v (word_value inside v) _ ts y IsName.word IsVariable.word h
   member_sound (k.Quoted v ∷ ts) y h = member_named v (e.name v) _ ts y IsName.quoted IsVariable.quoted h
   member_sound (k.Text v ∷ ts) y h = member_text v ts y h
   member_sound (k.Symbol symbol ∷ ts) y h = member_symbol symbol ts y h
   member_sound (k.Number n ∷ ts) y h = absurd (cc)
   member_sound (k.Keyword v ∷ ts) y h = absurd (cc)
 
-  -- behind the opening brace
+  -- after the opening brace
   pub object_sound : (ts : Tokens) (y : List MemberPart × Tokens) → members R inside ts ≡ Some y
       → IsObject E inside y.0 (k.Symbol s.OpenBrace ∷ ts) y.1
   object_sound ts y h = IsObject.object (items_sound s.CloseBrace (member R inside) (IsMember E inside)
@@ -193,9 +196,9 @@ module _ (R : Bool → Parser ExprTree) (E : Bool → ExprTree → Tokens → To
 
   -- ---- clauses
 
-  assigned_sound : Sound (assigned R inside) (IsAssigned E inside)
-  unfolding assigned
-  assigned_sound ts y h =
+  assignment_sound : Sound (assignment R inside) (IsAssigned E inside)
+  unfolding assignment
+  assignment_sound ts y h =
       let v = bind_some (name ts) _ y h in
       let a = bind_some (expect s.Assign v.0.1) _ y v.2 in
       let x = bind_some (R inside a.0.1) _ y a.2 in
@@ -310,18 +313,19 @@ module _ (R : Bool → Parser ExprTree) (E : Bool → ExprTree → Tokens → To
   unfolding groups
   groups_sound ts y h =
       ⊎_elim
-      (λ m. AreAny.some (separated_sound (assigned R inside) (IsAssigned E inside) assigned_sound ts y m.1))
+      (λ m. AreAny.some
+      (separated_sound (assignment R inside) (IsAssigned E inside) assignment_sound ts y m.1))
       (λ m. done (AreAny (IsAssigned E inside)) ts [] ts y m.1 AreAny.none)
       (if_cases (is_name (head ts)) _ _ ts y h)
 
-  -- one clause, read behind its first word
+  -- one clause, read after its first word
   abbrev OneClause : Keyword → ClauseTree → Tokens → Tokens → Type 0
   OneClause keyword c a b = IsClause E inside (c ∷ []) (k.Keyword keyword ∷ a) b
 
-  counted : (ls : List LetPart) (i : Option IntoPart) (g : AggregatePart) → says ls (g ∷ []) i ≡ true
-  counted [] None g = refl
-  counted [] (Some i) g = refl
-  counted (l ∷ ls) i g = refl
+  count_says : (ls : List LetPart) (i : Option IntoPart) (g : AggregatePart) → says ls (g ∷ []) i ≡ true
+  count_says [] None g = refl
+  count_says [] (Some i) g = refl
+  count_says (l ∷ ls) i g = refl
 
   collect_sound : Sound (collect R inside) (OneClause w.Collect)
   unfolding collect
@@ -334,7 +338,7 @@ module _ (R : Bool → Parser ExprTree) (E : Bool → ExprTree → Tokens → To
       let n = count_sound (next ls.0.1) v.0 v.1 in
       done (OneClause w.Collect) ts _ v.0.1 y v.2
       (IsClause.collect (subst (λ r. AreAny (IsAssigned E inside) ls.0.0 ts r) m.0 spelt)
-      (IsTail.count n.1.0 n.1.1) (counted ls.0.0 None _)))
+      (IsTail.count n.1.0 n.1.1) (count_says ls.0.0 None _)))
       (λ m.
       let gs = bind_some (aggregates R inside ls.0.1) _ y m.1 in
       let i = bind_some (into R inside gs.0.1) _ y gs.2 in
@@ -367,43 +371,45 @@ module _ (R : Bool → Parser ExprTree) (E : Bool → ExprTree → Tokens → To
       (λ m. done (AreOptions E inside) ts [] ts y m.1 AreOptions.none)
       (word_cases (codes "OPTIONS") _ _ ts y h)
 
-  walk_sound : (names : e.WalkNames) (a ts : Tokens) (y : ClauseTree × Tokens)
-      → AreWalkNames names a (k.Keyword w.In ∷ ts) → walk R inside names ts ≡ Some y
+  traversal_sound : (names : e.WalkNames) (a ts : Tokens) (y : ClauseTree × Tokens)
+      → AreTraversalNames names a (k.Keyword w.In ∷ ts) → traversal R inside names ts ≡ Some y
       → OneClause w.For y.0 a y.1
-  unfolding walk
-  walk_sound names a ts y n h =
-      let d = bind_some (depth ts) _ y h in
-      let way' = bind_some (way d.0.1) _ y d.2 in
-      let start = bind_some (R inside way'.0.1) _ y way'.2 in
+  unfolding traversal
+  traversal_sound names a ts y n h =
+      let d = bind_some (traversal_depth ts) _ y h in
+      let direction = bind_some (traversal_direction d.0.1) _ y d.2 in
+      let start = bind_some (R inside direction.0.1) _ y direction.2 in
       let edges = bind_some (separated name start.0.1) _ y start.2 in
       let p = bind_some (prune R inside edges.0.1) _ y edges.2 in
       let ms = bind_some (settings R inside p.0.1) _ y p.2 in
       done (OneClause w.For) a _ ms.0.1 y ms.2
-      (IsClause.for_paths n (depth_sound ts d.0 d.1) (way_sound d.0.1 way'.0 way'.1)
-      (sound inside way'.0.1 start.0 start.1)
+      (IsClause.for_paths n (traversal_depth_sound ts d.0 d.1)
+      (traversal_direction_sound d.0.1 direction.0 direction.1)
+      (sound inside direction.0.1 start.0 start.1)
       (separated_sound name IsName name_sound start.0.1 edges.0 edges.1) (prune_sound edges.0.1 p.0 p.1)
       (settings_sound p.0.1 ms.0 ms.1))
 
   single_sound : (names : e.WalkNames) (a ts : Tokens) (y : ClauseTree × Tokens)
-      → AreWalkNames names a (k.Keyword w.In ∷ ts) → single_by R inside names.vertex names.edge ts ≡ Some y
+      → AreTraversalNames names a (k.Keyword w.In ∷ ts)
+      → single_by R inside names.vertex names.edge ts ≡ Some y
       → OneClause w.For y.0 a y.1
-  single_sound names a ts y (AreWalkNames.vertex {v = v} n) h =
+  single_sound names a ts y (AreTraversalNames.vertex {v = v} n) h =
       let x = bind_some (R inside ts) _ y h in
       done (OneClause w.For) a (e.for_in v x.0.0) x.0.1 y x.2 (IsClause.for_in n (sound inside ts x.0 x.1))
-  single_sound names a ts y (AreWalkNames.edge n m) h = absurd (cc)
-  single_sound names a ts y (AreWalkNames.path n m p) h = absurd (cc)
+  single_sound names a ts y (AreTraversalNames.edge n m) h = absurd (cc)
+  single_sound names a ts y (AreTraversalNames.path n m p) h = absurd (cc)
 
   for_sound : Sound (for_clause R inside) (OneClause w.For)
   unfolding for_clause
   for_sound ts y h =
-      let n = bind_some (walk_names ts) _ y h in
+      let n = bind_some (traversal_names ts) _ y h in
       let i = bind_some (expect_keyword w.In n.0.1) _ y n.2 in
-      let named = subst (λ r. AreWalkNames n.0.0 ts r) (keyword_some w.In n.0.1 i.0 i.1)
-      (walk_names_sound ts n.0 n.1) in
+      let named = subst (λ r. AreTraversalNames n.0.0 ts r) (keyword_some w.In n.0.1 i.0 i.1)
+      (traversal_names_sound ts n.0 n.1) in
       ⊎_elim
-      (λ m. walk_sound n.0.0 ts i.0.1 y named m.1)
+      (λ m. traversal_sound n.0.0 ts i.0.1 y named m.1)
       (λ m. single_sound n.0.0 ts i.0.1 y named m.1)
-      (if_cases (begins_walk i.0.1) _ _ i.0.1 y i.2)
+      (if_cases (begins_traversal i.0.1) _ _ i.0.1 y i.2)
 
   limit_sound : Sound limit (OneClause w.Limit)
   unfolding limit
@@ -422,11 +428,11 @@ module _ (R : Bool → Parser ExprTree) (E : Bool → ExprTree → Tokens → To
       (subst (λ q. OneClause w.Limit (tree.limit 0 n.0.0) q n.0.1) (sym here) IsClause.limit))
       (eat_cases s.Comma _ _ n.0.1 y n.2)
 
-  -- a clause that is pushed behind those that were found
-  pushed_more : (keyword : Keyword) (found : List ClauseTree) (ts : Tokens) (p : ClauseTree × Tokens)
+  -- a clause that is pushed after those that were found
+  one_clause_more : (keyword : Keyword) (found : List ClauseTree) (ts : Tokens) (p : ClauseTree × Tokens)
       (y : List ClauseTree × Tokens) → OneClause keyword p.0 ts p.1 → Some (found ++ p.0 ∷ [], p.1) ≡ Some y
       → More found (IsClause E inside) (k.Keyword keyword ∷ ts) y
-  pushed_more keyword found ts p y spelt h =
+  one_clause_more keyword found ts p y spelt h =
       let e = some_same (found ++ p.0 ∷ [], p.1) y h in
       record {
         xs = p.0 ∷ [];
@@ -443,20 +449,22 @@ module _ (R : Bool → Parser ExprTree) (E : Bool → ExprTree → Tokens → To
   clause_by_sound : (keyword : Keyword) (found : List ClauseTree) (ts : Tokens) (y : List ClauseTree
       × Tokens) → clause_by R inside found (Some (k.Keyword keyword)) (k.Keyword keyword ∷ ts) ≡ Some y
       → More found (IsClause E inside) (k.Keyword keyword ∷ ts) y
-  clause_by_sound w.For found ts y h = let c = bind_some (for_clause R inside ts) _ y h in pushed_more w.For
+  clause_by_sound w.For found ts y h = let c = bind_some (for_clause R inside ts) _ y h in
+      one_clause_more w.For
       found ts c.0 y (for_sound ts c.0 c.1) c.2
-  clause_by_sound w.Filter found ts y h = let x = bind_some (R inside ts) _ y h in pushed_more w.Filter
+  clause_by_sound w.Filter found ts y h = let x = bind_some (R inside ts) _ y h in one_clause_more w.Filter
       found ts (keep_if x.0.0, x.0.1) y (IsClause.filter (sound inside ts x.0 x.1)) x.2
   clause_by_sound w.Let found ts y h = let_more found ts y (separated_onto_sound (let_clause R inside)
       (IsLet E inside) let_sound found ts y h)
   clause_by_sound w.Sort found ts y h =
       let ks = bind_some (separated (sort_key R inside) ts) _ y h in
-      pushed_more w.Sort found ts (sort ks.0.0, ks.0.1) y
+      one_clause_more w.Sort found ts (sort ks.0.0, ks.0.1) y
       (IsClause.sort_by (separated_sound (sort_key R inside) (IsSortKey E inside) sort_key_sound ts ks.0
       ks.1)) ks.2
-  clause_by_sound w.Limit found ts y h = let c = bind_some (limit ts) _ y h in pushed_more w.Limit found ts
+  clause_by_sound w.Limit found ts y h = let c = bind_some (limit ts) _ y h in
+      one_clause_more w.Limit found ts
       c.0 y (limit_sound ts c.0 c.1) c.2
-  clause_by_sound w.Collect found ts y h = let c = bind_some (collect R inside ts) _ y h in pushed_more
+  clause_by_sound w.Collect found ts y h = let c = bind_some (collect R inside ts) _ y h in one_clause_more
       w.Collect found ts c.0 y (collect_sound ts c.0 c.1) c.2
   clause_by_sound _ found ts y h = absurd (cc)
 

@@ -1,4 +1,4 @@
--- What may stand behind a whole expression and behind a clause, and what no expression begins with.
+-- What may stand after a whole expression and after a clause, and what no expression begins with.
 use Rattle.std.proofs.Common.{◌≡◌, ℕ, Bool, true, false, cond, List, [], ◌∷◌}
 use Rattle.std.proofs.Common.{Option, Some, None, ⊎_elim, refl, ap, ◌∙◌}
 use Rattle.std.proofs.Common.{arith}
@@ -19,14 +19,14 @@ use Rattle.aql_grammar.specs.Clauses.{IsDirection, IsDepth}
 use Rattle.aql_grammar.specs.Input.{Parser, head, next, sees, sees_keyword, sees_word, is_name, is_number}
 use Rattle.aql_grammar.specs.Input.{same_symbol}
 use Rattle.aql_grammar.specs.Reader.{rank, operator_ahead, begins_query, begins_clause, begins_comparison}
-use Rattle.aql_grammar.specs.Reader.{begins_direction, begins_behind, begins_walk}
+use Rattle.aql_grammar.specs.Reader.{begins_direction, begins_after_number, begins_traversal}
 use Rattle.aql_grammar.specs.laws.Steps.{decide, seen_keyword, seen_word, not_seen, Refuses}
 use Rattle.aql_grammar.specs.laws.OperatorLaws.{Ends}
 
 pub ends_by : (ts : Tokens) → rank ts ≡ 11 → Ends ts
 ends_by ts e = omega arith
 
--- ---- behind an expression
+-- ---- after an expression
 
 pub comma_ends : (ts : Tokens) → Ends (k.Symbol s.Comma ∷ ts)
 unfolding rank operator_ahead
@@ -85,7 +85,7 @@ pub word_ends : (meant : List ℕ) (a b : Tokens) → IsWord meant a b → Ends 
 unfolding rank operator_ahead
 word_ends meant a b (IsWord.word h) = ends_by a refl
 
--- ---- behind a clause: another clause, or RETURN
+-- ---- after a clause: another clause, or RETURN
 
 abbrev pub Stop : Tokens → Type 0
 Stop ts = begins_query (head ts) ≡ true
@@ -212,7 +212,7 @@ pub record Starts (R : Parser ExprTree) : Type 0 where
   pub no_keyword : (keyword : Keyword) → is_refused_keyword keyword ≡ true → Refuses R (k.Keyword keyword)
   pub no_comparison : (ts : Tokens) → begins_comparison ts ≡ true → R ts ≡ None
   -- where a traversal begins, what is read ends in front of its direction
-  pub no_walk : (ts : Tokens) (y : ExprTree × Tokens) → begins_walk ts ≡ true → R ts ≡ Some y
+  pub no_traversal : (ts : Tokens) (y : ExprTree × Tokens) → begins_traversal ts ≡ true → R ts ≡ Some y
       → begins_direction y.1 ≡ true
 
 pub no_first_keyword : (R : Parser ExprTree) → Starts R → (keyword : Keyword) → is_refused_keyword keyword ≡
@@ -248,21 +248,23 @@ pub no_comparison_first : (R : Parser ExprTree) → Starts R → (ts : Tokens) (
 no_comparison_first R starts ts y h = ⊎_elim (λ t. let a = starts.no_comparison ts t in absurd (cc))
     (λ f. f) (decide (begins_comparison ts))
 
--- an expression behind which a clause ends isn't read as a traversal
-pub no_walk_first : (R : Parser ExprTree) → Starts R → (ts : Tokens) (y : ExprTree × Tokens) → R ts ≡ Some y
-    → Stop y.1 → begins_walk ts ≡ false
-no_walk_first R starts ts y h stop =
-    ⊎_elim (λ t. let a = starts.no_walk ts y t h in let b = stop_no_direction y.1 stop in absurd (cc))
-    (λ f. f) (decide (begins_walk ts))
+-- an expression after which a clause ends isn't read as a traversal
+pub no_traversal_first : (R : Parser ExprTree) → Starts R → (ts : Tokens) (y : ExprTree × Tokens)
+    → R ts ≡ Some y
+    → Stop y.1 → begins_traversal ts ≡ false
+no_traversal_first R starts ts y h stop =
+    ⊎_elim (λ t. let a = starts.no_traversal ts y t h in let b = stop_no_direction y.1 stop in absurd (cc))
+    (λ f. f) (decide (begins_traversal ts))
 
 -- ---- where a traversal begins
 
-pub way_begins : (d : Direction) (a b : Tokens) → IsDirection d a b → begins_comparison b ≡ false
+pub traversal_direction_begins : (d : Direction) (a b : Tokens) → IsDirection d a b
+    → begins_comparison b ≡ false
     → (begins_direction a ≡ true) × ((is_number (head a) ≡ false) × (sees s.Range a ≡ false))
 unfolding begins_direction sees
-way_begins d a b IsDirection.outbound none = (refl, (refl, refl))
-way_begins d a b IsDirection.inbound none = (refl, (refl, refl))
-way_begins d a b IsDirection.any none = (rw none refl, (refl, refl))
+traversal_direction_begins d a b IsDirection.outbound none = (refl, (refl, refl))
+traversal_direction_begins d a b IsDirection.inbound none = (refl, (refl, refl))
+traversal_direction_begins d a b IsDirection.any none = (rw none refl, (refl, refl))
 
 cond_false : (b x y : Bool) → b ≡ false → y ≡ true → cond b x y ≡ true
 cond_false b x y e h = ap (λ (c : Bool). cond c x y) e ∙ h
@@ -275,9 +277,11 @@ unfolding sees same_symbol
 range_seen ts = refl
 
 -- a depth and a direction begin a traversal
-pub walk_begins : (m n : ℕ) (a b : Tokens) → IsDepth m n a b → begins_direction b ≡ true
-    → is_number (head b) ≡ false → sees s.Range b ≡ false → begins_walk a ≡ true
-unfolding begins_walk begins_behind
-walk_begins m n a b IsDepth.unsaid way number range = cond_false (is_number (head a)) _ _ number way
-walk_begins m n a b IsDepth.exact way number range = rw range way
-walk_begins m n a b (IsDepth.between {b = c}) way number range = rw (range_seen (k.Number _ ∷ c)) way
+pub traversal_begins : (m n : ℕ) (a b : Tokens) → IsDepth m n a b → begins_direction b ≡ true
+    → is_number (head b) ≡ false → sees s.Range b ≡ false → begins_traversal a ≡ true
+unfolding begins_traversal begins_after_number
+traversal_begins m n a b IsDepth.unsaid direction number range =
+    cond_false (is_number (head a)) _ _ number direction
+traversal_begins m n a b IsDepth.exact direction number range = rw range direction
+traversal_begins m n a b (IsDepth.between {b = c}) direction number range =
+    rw (range_seen (k.Number _ ∷ c)) direction

@@ -24,10 +24,11 @@ use Rattle.aql_grammar.specs.Input.{Parser, head, next, sees, sees_keyword, same
 use Rattle.aql_grammar.specs.Input.{at_front, is_number, many}
 use Rattle.aql_grammar.specs.Reader.{operator_ahead, comparison, begins_comparison, quantifier}
 use Rattle.aql_grammar.specs.Reader.{unary_at, rank, at_level, begins_step, begins_direction}
-use Rattle.aql_grammar.specs.Reader.{begins_behind, begins_walk, accessed, chained, argument, arguments}
-use Rattle.aql_grammar.specs.Reader.{named, bracketed, primary, element, bracket_step, step, postfix}
+use Rattle.aql_grammar.specs.Reader.{begins_after_number, begins_traversal, access_of, chain_of, argument}
+use Rattle.aql_grammar.specs.Reader.{arguments}
+use Rattle.aql_grammar.specs.Reader.{call_or_name, parentheses, primary, element, bracket_step, step, postfix}
 use Rattle.aql_grammar.specs.Reader.{unary_from, unary, link, chain, range, array_comparison, level_at}
-use Rattle.aql_grammar.specs.Reader.{choice_of, conditional, expr, top}
+use Rattle.aql_grammar.specs.Reader.{ternary_of, conditional, expr, top}
 use Rattle.aql_grammar.specs.laws.Steps.{Complete, Shrinks, Always, bind_here, if_true, if_false}
 use Rattle.aql_grammar.specs.laws.Steps.{expect_then, eat_then, eat_else, eat_keyword_then}
 use Rattle.aql_grammar.specs.laws.Steps.{eat_keyword_else, name_complete, name_shrinks, some_same, Refuses}
@@ -91,13 +92,13 @@ module _ (R : Bool → Parser ExprTree) (E : Bool → ExprTree → Tokens → To
 
   variable_complete : (v : List ℕ) (x : ExprTree) (a b : Tokens) → IsVariable inside v x a b
       → sees s.OpenParen b ≡ false → primary R inside a ≡ Some (x, b)
-  unfolding primary named
+  unfolding primary call_or_name
   variable_complete v x a b IsVariable.word f = eat_else s.OpenParen _ _ b _ f refl
   variable_complete v x a b IsVariable.quoted f = refl
 
   primary_complete : Complete (primary R inside) (IsPrimary E inside) (λ ts. sees s.OpenParen ts ≡ false)
       (suc bound)
-  unfolding primary named bracketed
+  unfolding primary call_or_name parentheses
   primary_complete x a b short IsPrimary.number f = refl
   primary_complete x a b short IsPrimary.text f = refl
   primary_complete x a b short IsPrimary.null f = refl
@@ -135,7 +136,7 @@ module _ (R : Bool → Parser ExprTree) (E : Bool → ExprTree → Tokens → To
       eat_keyword_then w.Return _ _ c _ (bind_here _ _ (x, b) _ (complete true x c b (omega arith) h ends)
       refl)
 
-  -- what stands behind the filter of an inline operator
+  -- what stands after the filter of an inline operator
   return_front : (p : Option ExprTree) (a b : Tokens) → IsElementReturn E inside p a
       (k.Symbol s.CloseBracket ∷ b) → Ends a × (sees_keyword w.Filter a ≡ false)
   unfolding sees_keyword same_keyword
@@ -186,7 +187,7 @@ module _ (R : Bool → Parser ExprTree) (E : Bool → ExprTree → Tokens → To
   steps_no_call p ps a b (AreMany.one {b = c} h others) = step_no_call p a c h
 
   postfix_complete : Complete (postfix R inside) (IsPostfix E inside) (Follow 0) (suc bound)
-  unfolding postfix accessed
+  unfolding postfix access_of
   postfix_complete x a b short (IsPostfix.alone h) f =
       bind_here _ _ (x, b) _ (primary_complete x a b short h (no_call b f))
       (bind_here _ _ ([], b) _
@@ -253,7 +254,7 @@ module _ (R : Parser ExprTree) (P : ExprTree → Tokens → Tokens → Type 0) (
   level_follows ts on = let e = at_rank level ts on in omega arith
 
   pub chain_complete : Complete (chain level R) (IsChain level P) (Follow level) bound
-  unfolding chain chained
+  unfolding chain chain_of
   chain_complete x a b short (IsChain.alone h) f =
       let i = shrinks x a b h in
       let g : Follow below b = omega arith in
@@ -291,9 +292,9 @@ module _ (R : Parser ExprTree) (P : ExprTree → Tokens → Tokens → Type 0) (
         bind_here _ _ (x, b) _ (complete x a b short h g) (eat_else s.Range _ _ b _ (no_range b f) refl)
     range_complete complete x a b short (IsRange.range {x = low} {y = high} {b = c} h g) f =
         let i = shrinks low a (k.Symbol s.Range ∷ c) h in
-        let behind : Follow 2 b = omega arith in
+        let after : Follow 2 b = omega arith in
         bind_here _ _ (low, k.Symbol s.Range ∷ c) _ (complete low a _ short h (range_follows c))
-        (eat_then s.Range _ _ c _ (bind_here _ _ (high, b) _ (complete high c b (omega arith) g behind) refl))
+        (eat_then s.Range _ _ c _ (bind_here _ _ (high, b) _ (complete high c b (omega arith) g after) refl))
 
     quantified_complete : Complete R P (Follow 6) bound → Complete (array_comparison R) (IsQuantified P)
         (Follow 7) bound
@@ -309,12 +310,12 @@ module _ (R : Parser ExprTree) (P : ExprTree → Tokens → Tokens → Type 0) (
         let j = quantifier_shrinks kind c d q in
         let l = comparison_shrinks op d r o in
         let before : Follow 6 c = omega arith in
-        let behind : Follow 6 b = omega arith in
+        let after : Follow 6 b = omega arith in
         bind_here _ _ (left, c) _ (complete left a c short h before)
         (if_true _ _ _ c _ (is_at 7 c there.0)
         (bind_here _ _ (kind, d) _ there.1
         (bind_here _ _ (op, r) _ (comparison_read op d r o).1
-        (bind_here _ _ (right, b) _ (complete right r b (omega arith) g behind) refl))))
+        (bind_here _ _ (right, b) _ (complete right r b (omega arith) g after) refl))))
 
 module _ (R : Bool → Parser ExprTree) (E : Bool → ExprTree → Tokens → Tokens → Type 0) (bound : ℕ)
     (complete : (inside : Bool) → Complete (R inside) (E inside) Ends bound)
@@ -367,7 +368,7 @@ module _ (R : Bool → Parser ExprTree) (E : Bool → ExprTree → Tokens → To
       (omega arith) conjunction_complete (conjunction_shrinks E shrinks inside)
 
   pub conditional_complete : Complete (conditional R inside) (IsConditional E inside) Ends (suc bound)
-  unfolding conditional choice_of
+  unfolding conditional ternary_of
   conditional_complete x a b short (IsConditional.plain h) ends =
       let f : Follow 9 b = omega arith in
       bind_here _ _ (x, b) _ (disjunction_complete x a b short h f)
@@ -476,7 +477,7 @@ module _ (R : Bool → Parser ExprTree) (inside : Bool) where
   comparison_none (k.Keyword w.Not ∷ k.Symbol v ∷ ts) h = absurd (cc)
   comparison_none (k.Keyword _ ∷ ts) h = absurd (cc)
 
--- ANY without a comparison behind it ends nothing
+-- ANY without a comparison after it ends nothing
 any_none : (R : Parser ExprTree) (x : ExprTree) (a ts : Tokens) → R a ≡ Some (x, k.Keyword w.Any ∷ ts)
     → begins_comparison ts ≡ false → array_comparison R a ≡ None
 unfolding array_comparison rank operator_ahead quantifier comparison
@@ -550,63 +551,66 @@ module _ (R : Bool → Parser ExprTree) (starts : (inside : Bool) → Starts (R 
       none)
 
   -- a number or a range of numbers in front of a direction is read so far
-  span_walk : (x : ExprTree) (a b : Tokens) (y : ExprTree × Tokens) → IsSpan Nothing inside x a b
+  span_traversal : (x : ExprTree) (a b : Tokens) (y : ExprTree × Tokens) → IsSpan Nothing inside x a b
       → begins_direction b ≡ true → conditional R inside a ≡ Some y → begins_direction y.1 ≡ true
   unfolding begins_direction
-  span_walk x a [] y h way read = absurd (cc)
-  span_walk x a (k.Number n ∷ b) y h way read = absurd (cc)
-  span_walk x a (k.Word v ∷ b) y h way read = absurd (cc)
-  span_walk x a (k.Quoted v ∷ b) y h way read = absurd (cc)
-  span_walk x a (k.Text v ∷ b) y h way read = absurd (cc)
-  span_walk x a (k.Symbol v ∷ b) y h way read = absurd (cc)
-  span_walk x a (k.Keyword w.Outbound ∷ b) y h way read = same_way x (k.Keyword w.Outbound ∷ b) y
+  span_traversal x a [] y h way read = absurd (cc)
+  span_traversal x a (k.Number n ∷ b) y h way read = absurd (cc)
+  span_traversal x a (k.Word v ∷ b) y h way read = absurd (cc)
+  span_traversal x a (k.Quoted v ∷ b) y h way read = absurd (cc)
+  span_traversal x a (k.Text v ∷ b) y h way read = absurd (cc)
+  span_traversal x a (k.Symbol v ∷ b) y h way read = absurd (cc)
+  span_traversal x a (k.Keyword w.Outbound ∷ b) y h way read = same_way x (k.Keyword w.Outbound ∷ b) y
       (sym (span_ends x a _ h (outbound_ends b)) ∙ read) refl
-  span_walk x a (k.Keyword w.Inbound ∷ b) y h way read = same_way x (k.Keyword w.Inbound ∷ b) y
+  span_traversal x a (k.Keyword w.Inbound ∷ b) y h way read = same_way x (k.Keyword w.Inbound ∷ b) y
       (sym (span_ends x a _ h (inbound_ends b)) ∙ read) refl
-  span_walk x a (k.Keyword w.Any ∷ b) y h way read = let refused = span_any x a b h
+  span_traversal x a (k.Keyword w.Any ∷ b) y h way read = let refused = span_any x a b h
       (not_true (begins_comparison b) way) in absurd (cc)
-  span_walk x a (k.Keyword _ ∷ b) y h way read = absurd (cc)
+  span_traversal x a (k.Keyword _ ∷ b) y h way read = absurd (cc)
 
-  number_walk : (n : ℤ) (r : Tokens) (y : ExprTree × Tokens) (t : Bool)
+  number_traversal : (n : ℤ) (r : Tokens) (y : ExprTree × Tokens) (t : Bool)
       → (sees s.Range r && is_number (head (next r))) ≡ t → cond t (begins_direction (next (next r)))
       (begins_direction r) ≡ true
       → conditional R inside (k.Number n ∷ r) ≡ Some y → begins_direction y.1 ≡ true
-  number_walk n r y false same way read = span_walk (e.number n) (k.Number n ∷ r) r y
+  number_traversal n r y false same way read = span_traversal (e.number n) (k.Number n ∷ r) r y
       (IsRange.alone (number_sum n r)) way read
-  number_walk n r y true same way read =
+  number_traversal n r y true same way read =
       let facts = both (sees s.Range r) (is_number (head (next r))) same in
       let range_here = seen s.Range r facts.0 in
       let number_here = number_there (next r) facts.1 in
-      span_walk (range_of (e.number n) (e.number number_here.0)) (k.Number n ∷ r) (next (next r)) y
+      span_traversal (range_of (e.number n) (e.number number_here.0)) (k.Number n ∷ r) (next (next r)) y
       (IsRange.range (subst (λ q. IsSum Nothing inside (e.number n) (k.Number n ∷ r) q) range_here
       (number_sum n r))
       (subst (λ q. IsSum Nothing inside (e.number number_here.0) q (next (next r))) (sym number_here.1)
       (number_sum number_here.0 (next (next r)))))
       way read
 
-  keyword_walk : (keyword : Keyword) (r : Tokens) (y : ExprTree × Tokens)
+  keyword_traversal : (keyword : Keyword) (r : Tokens) (y : ExprTree × Tokens)
       → begins_direction (k.Keyword keyword ∷ r) ≡ true → conditional R inside (k.Keyword keyword ∷ r) ≡
       Some y → begins_direction y.1 ≡ true
   unfolding begins_direction
-  keyword_walk w.Outbound r y way read = let refused = level_none R inside _
+  keyword_traversal w.Outbound r y way read = let refused = level_none R inside _
       (keyword_none R inside w.Outbound r refl) in absurd (cc)
-  keyword_walk w.Inbound r y way read = let refused = level_none R inside _
+  keyword_traversal w.Inbound r y way read = let refused = level_none R inside _
       (keyword_none R inside w.Inbound r refl) in absurd (cc)
-  keyword_walk w.Any r y way read = let refused = level_none R inside _ (keyword_none R inside w.Any r refl)
+  keyword_traversal w.Any r y way read = let refused = level_none R inside _
+      (keyword_none R inside w.Any r refl)
       in absurd (cc)
-  keyword_walk _ r y way read = absurd (cc)
+  keyword_traversal _ r y way read = absurd (cc)
 
-  walk_read : (ts : Tokens) (y : ExprTree × Tokens) → begins_walk ts ≡ true → conditional R inside ts ≡ Some
+  traversal_read : (ts : Tokens) (y : ExprTree × Tokens) → begins_traversal ts ≡ true
+      → conditional R inside ts ≡ Some
       y → begins_direction y.1 ≡ true
-  unfolding begins_walk begins_behind begins_direction
-  walk_read [] y way read = absurd (cc)
-  walk_read (k.Number n ∷ r) y way read = number_walk n r y (sees s.Range r && is_number (head (next r)))
+  unfolding begins_traversal begins_after_number begins_direction
+  traversal_read [] y way read = absurd (cc)
+  traversal_read (k.Number n ∷ r) y way read = number_traversal n r y
+      (sees s.Range r && is_number (head (next r)))
       refl way read
-  walk_read (k.Keyword keyword ∷ r) y way read = keyword_walk keyword r y way read
-  walk_read (k.Word v ∷ b) y way read = absurd (cc)
-  walk_read (k.Quoted v ∷ b) y way read = absurd (cc)
-  walk_read (k.Text v ∷ b) y way read = absurd (cc)
-  walk_read (k.Symbol v ∷ b) y way read = absurd (cc)
+  traversal_read (k.Keyword keyword ∷ r) y way read = keyword_traversal keyword r y way read
+  traversal_read (k.Word v ∷ b) y way read = absurd (cc)
+  traversal_read (k.Quoted v ∷ b) y way read = absurd (cc)
+  traversal_read (k.Text v ∷ b) y way read = absurd (cc)
+  traversal_read (k.Symbol v ∷ b) y way read = absurd (cc)
 
 pub starts_of : (fuel : ℕ) (inside : Bool) → Starts (expr fuel inside)
 unfolding expr
@@ -614,7 +618,7 @@ starts_of zero inside = record {
   no_symbol = λ symbol h ts. refl;
   no_keyword = λ keyword h ts. refl;
   no_comparison = λ ts h. refl;
-  no_walk = λ ts y h read. absurd (cc);
+  no_traversal = λ ts y h read. absurd (cc);
 }
 starts_of (suc fuel) inside = record {
   no_symbol = λ symbol h ts. level_none (expr fuel) inside (k.Symbol symbol ∷ ts)
@@ -622,7 +626,7 @@ starts_of (suc fuel) inside = record {
   no_keyword = λ keyword h ts. level_none (expr fuel) inside (k.Keyword keyword ∷ ts)
       (keyword_none (expr fuel) inside keyword ts h);
   no_comparison = λ ts h. level_none (expr fuel) inside ts (comparison_none (expr fuel) inside ts h);
-  no_walk = λ ts y h read. walk_read (expr fuel) (starts_of fuel) inside ts y h read;
+  no_traversal = λ ts y h read. traversal_read (expr fuel) (starts_of fuel) inside ts y h read;
 }
 
 -- an expression is read, with as much fuel as there are tokens

@@ -15,7 +15,7 @@ use Rattle.aql_tree.specs.View as part
 use Rattle.aql_tree.specs.Made as e
 use Rattle.aql_grammar.specs.Kinds.{Tokens}
 use Rattle.aql_grammar.specs.Spelling.{IsName, AreMany, AreAny}
-use Rattle.aql_grammar.specs.Objects.{unquoted, IsVariable}
+use Rattle.aql_grammar.specs.Objects.{word_value, IsVariable}
 use Rattle.aql_grammar.specs.Expressions.{IsArgument, IsPrimary, IsElementFilter, IsElementReturn, IsStep}
 use Rattle.aql_grammar.specs.Expressions.{IsPostfix, IsUnary, IsLink, IsChain, IsRange, IsQuantified}
 use Rattle.aql_grammar.specs.Expressions.{IsProduct, IsSum, IsSpan, IsRelation, IsMembership, IsEquality}
@@ -23,10 +23,11 @@ use Rattle.aql_grammar.specs.Expressions.{IsArrayComparison, IsConjunction, IsDi
 use Rattle.aql_grammar.specs.Tree.{IsExpr, IsTop}
 use Rattle.aql_grammar.specs.Input.{Parser, head, next, at_front, expect, name, separated, items, many}
 use Rattle.aql_grammar.specs.Reader.{operator, comparison, quantifier, unary_at, begins_step}
-use Rattle.aql_grammar.specs.Reader.{begins_query, accessed, chained, argument, arguments, named, bracketed}
+use Rattle.aql_grammar.specs.Reader.{begins_query, access_of, chain_of, argument, arguments, call_or_name}
+use Rattle.aql_grammar.specs.Reader.{parentheses}
 use Rattle.aql_grammar.specs.Reader.{primary, primary_by, members, element, bracket_step, step, step_by}
 use Rattle.aql_grammar.specs.Reader.{postfix, apply, unary_from, unary, link, at_level, chain, range}
-use Rattle.aql_grammar.specs.Reader.{array_comparison, level_at, choice_of, conditional, expr}
+use Rattle.aql_grammar.specs.Reader.{array_comparison, level_at, ternary_of, conditional, expr}
 use Rattle.aql_grammar.specs.Reader.{query, top}
 use Rattle.aql_grammar.specs.laws.Steps.{Sound, bind_some, done, expect_some, eat_cases}
 use Rattle.aql_grammar.specs.laws.Steps.{keyword_cases, if_cases, name_sound}
@@ -67,24 +68,25 @@ module _ (R : Bool → Parser ExprTree) (E : Bool → ExprTree → Tokens → To
       xs.1))))
       (eat_cases s.CloseParen _ _ ts y h)
 
-  named_sound : (v : List ℕ) (ts : Tokens) (y : ExprTree × Tokens) → named R inside v ts ≡ Some y
+  call_or_name_sound : (v : List ℕ) (ts : Tokens) (y : ExprTree × Tokens)
+      → call_or_name R inside v ts ≡ Some y
       → IsPrimary E inside y.0 (k.Word v ∷ ts) y.1
-  unfolding named
-  named_sound v ts y h =
+  unfolding call_or_name
+  call_or_name_sound v ts y h =
       ⊎_elim
       (λ m.
       let xs = bind_some (arguments R inside (next ts)) _ y m.1 in
       done (IsPrimary E inside) (k.Word v ∷ ts) (e.call v xs.0.0) xs.0.1 y xs.2
       (subst (λ q. IsPrimary E inside (e.call v xs.0.0) (k.Word v ∷ q) xs.0.1) (sym m.0)
       (IsPrimary.call (arguments_sound (next ts) xs.0 xs.1))))
-      (λ m. done (IsPrimary E inside) (k.Word v ∷ ts) (unquoted inside v) ts y m.1
+      (λ m. done (IsPrimary E inside) (k.Word v ∷ ts) (word_value inside v) ts y m.1
       (IsPrimary.name IsVariable.word))
       (eat_cases s.OpenParen _ _ ts y h)
 
-  bracketed_sound : (ts : Tokens) (y : ExprTree × Tokens) → bracketed R inside ts ≡ Some y
+  parentheses_sound : (ts : Tokens) (y : ExprTree × Tokens) → parentheses R inside ts ≡ Some y
       → IsPrimary E inside y.0 (k.Symbol s.OpenParen ∷ ts) y.1
-  unfolding bracketed
-  bracketed_sound ts y h =
+  unfolding parentheses
+  parentheses_sound ts y h =
       let x = bind_some (argument R inside ts) _ y h in
       let c = bind_some (expect s.CloseParen x.0.1) _ y x.2 in
       done (IsPrimary E inside) (k.Symbol s.OpenParen ∷ ts) x.0.0 c.0.1 y c.2
@@ -94,7 +96,7 @@ module _ (R : Bool → Parser ExprTree) (E : Bool → ExprTree → Tokens → To
   primary_symbol : (symbol : Symbol) (ts : Tokens) (y : ExprTree × Tokens)
       → primary_by R inside (Some (k.Symbol symbol)) (k.Symbol symbol ∷ ts) ≡ Some y
       → IsPrimary E inside y.0 (k.Symbol symbol ∷ ts) y.1
-  primary_symbol s.OpenParen ts y h = bracketed_sound ts y h
+  primary_symbol s.OpenParen ts y h = parentheses_sound ts y h
   primary_symbol s.OpenBracket ts y h =
       let xs = bind_some (items s.CloseBracket (R inside) ts) _ y h in
       done (IsPrimary E inside) (k.Symbol s.OpenBracket ∷ ts) (e.list xs.0.0) xs.0.1 y xs.2
@@ -125,7 +127,7 @@ module _ (R : Bool → Parser ExprTree) (E : Bool → ExprTree → Tokens → To
       IsPrimary.text
   primary_sound (k.Quoted v ∷ ts) y h = done (IsPrimary E inside) (k.Quoted v ∷ ts) (e.name v) ts y h
       (IsPrimary.name IsVariable.quoted)
-  primary_sound (k.Word v ∷ ts) y h = named_sound v ts y h
+  primary_sound (k.Word v ∷ ts) y h = call_or_name_sound v ts y h
   primary_sound (k.Keyword keyword ∷ ts) y h = primary_keyword keyword ts y h
   primary_sound (k.Symbol symbol ∷ ts) y h = primary_symbol symbol ts y h
 
@@ -196,19 +198,19 @@ module _ (R : Bool → Parser ExprTree) (E : Bool → ExprTree → Tokens → To
   step_sound (k.Text v ∷ ts) y h = absurd (cc)
   step_sound (k.Keyword v ∷ ts) y h = absurd (cc)
 
-  accessed_spelt : (of : ExprTree) (ps : List StepPart) (a b c : Tokens) → IsPrimary E inside of a b
-      → AreMany (IsStep E inside) ps b c → IsPostfix E inside (accessed of ps) a c
-  unfolding accessed
-  accessed_spelt of [] a b c h AreMany.none = IsPostfix.alone h
-  accessed_spelt of (p ∷ ps) a b c h more = IsPostfix.stepped h more
+  access_spelt : (of : ExprTree) (ps : List StepPart) (a b c : Tokens) → IsPrimary E inside of a b
+      → AreMany (IsStep E inside) ps b c → IsPostfix E inside (access_of of ps) a c
+  unfolding access_of
+  access_spelt of [] a b c h AreMany.none = IsPostfix.alone h
+  access_spelt of (p ∷ ps) a b c h more = IsPostfix.stepped h more
 
   postfix_sound : Sound (postfix R inside) (IsPostfix E inside)
   unfolding postfix
   postfix_sound ts y h =
       let x = bind_some (primary R inside ts) _ y h in
       let ps = bind_some (many (at_front begins_step) (step R inside) x.0.1) _ y x.2 in
-      done (IsPostfix E inside) ts (accessed x.0.0 ps.0.0) ps.0.1 y ps.2
-      (accessed_spelt x.0.0 ps.0.0 ts x.0.1 ps.0.1 (primary_sound ts x.0 x.1)
+      done (IsPostfix E inside) ts (access_of x.0.0 ps.0.0) ps.0.1 y ps.2
+      (access_spelt x.0.0 ps.0.0 ts x.0.1 ps.0.1 (primary_sound ts x.0 x.1)
       (many_sound (at_front begins_step) (step R inside) (IsStep E inside)
       (λ r z on read. step_sound r z read) x.0.1 ps.0 ps.1))
 
@@ -230,12 +232,12 @@ module _ (R : Bool → Parser ExprTree) (E : Bool → ExprTree → Tokens → To
 
 -- ---- one level over another
 
-chained_spelt : (level : ℕ) (P : ExprTree → Tokens → Tokens → Type 0) (first : ExprTree)
+chain_spelt : (level : ℕ) (P : ExprTree → Tokens → Tokens → Type 0) (first : ExprTree)
     (ls : List LinkPart) (a b c : Tokens) → P first a b → AreMany (IsLink level P) ls b c
-    → IsChain level P (chained first ls) a c
-unfolding chained
-chained_spelt level P first [] a b c h AreMany.none = IsChain.alone h
-chained_spelt level P first (l ∷ ls) a b c h more = IsChain.linked h more
+    → IsChain level P (chain_of first ls) a c
+unfolding chain_of
+chain_spelt level P first [] a b c h AreMany.none = IsChain.alone h
+chain_spelt level P first (l ∷ ls) a b c h more = IsChain.linked h more
 
 module _ (R : Parser ExprTree) (P : ExprTree → Tokens → Tokens → Type 0) (sound : Sound R P) where
   link_sound : (level : ℕ) (ts : Tokens) (y : LinkPart × Tokens) → at_level level ts ≡ true
@@ -252,8 +254,8 @@ module _ (R : Parser ExprTree) (P : ExprTree → Tokens → Tokens → Type 0) (
   chain_sound level ts y h =
       let x = bind_some (R ts) _ y h in
       let ls = bind_some (many (at_level level) (link R) x.0.1) _ y x.2 in
-      done (IsChain level P) ts (chained x.0.0 ls.0.0) ls.0.1 y ls.2
-      (chained_spelt level P x.0.0 ls.0.0 ts x.0.1 ls.0.1 (sound ts x.0 x.1)
+      done (IsChain level P) ts (chain_of x.0.0 ls.0.0) ls.0.1 y ls.2
+      (chain_spelt level P x.0.0 ls.0.0 ts x.0.1 ls.0.1 (sound ts x.0 x.1)
       (many_sound (at_level level) (link R) (IsLink level P) (link_sound level) x.0.1 ls.0 ls.1))
 
   pub range_sound : Sound (range R) (IsRange P)
@@ -323,8 +325,8 @@ module _ (R : Bool → Parser ExprTree) (E : Bool → ExprTree → Tokens → To
   disjunction_sound = chain_sound (level_at R inside 8) (IsConjunction E inside) conjunction_sound 9
 
   choice_sound : (test : ExprTree) (a ts : Tokens) (y : ExprTree × Tokens) → IsDisjunction E inside test a
-      (k.Symbol s.Question ∷ ts) → choice_of R inside test ts ≡ Some y → IsConditional E inside y.0 a y.1
-  unfolding choice_of
+      (k.Symbol s.Question ∷ ts) → ternary_of R inside test ts ≡ Some y → IsConditional E inside y.0 a y.1
+  unfolding ternary_of
   choice_sound test a ts y spelt h =
       ⊎_elim
       (λ m.

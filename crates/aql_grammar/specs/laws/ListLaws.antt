@@ -14,7 +14,7 @@ use Rattle.aql_grammar.specs.laws.Steps.{Sound, Complete, Shrinks, bind_some, so
 use Rattle.aql_grammar.specs.laws.Steps.{if_cases, expect_some, bind_here, if_true, if_false, eat_then}
 use Rattle.aql_grammar.specs.laws.Steps.{eat_else, expect_then, Refuses, not_first}
 
--- what is read behind what was found
+-- what is read after what was found
 pub record More {A : Type 0} (found : List A) (P : List A → Tokens → Tokens → Type 0) (ts : Tokens)
     (y : List A × Tokens) : Type 0 where
   pub xs : List A

@@ -1,4 +1,4 @@
--- Operators: what is read is spelt so, what is spelt is read, and what may stand behind an operand.
+-- Operators: what is read is spelt so, what is spelt is read, and what may stand after an operand.
 use Rattle.std.proofs.Common.{◌≡◌, ℕ, ◌<◌, true, false, [], ◌∷◌}
 use Rattle.std.proofs.Common.{Some, ⊎_elim, refl, ap, subst}
 use Rattle.std.proofs.Common.{arith}
@@ -15,14 +15,14 @@ use Rattle.aql_grammar.specs.Kinds.{Tokens}
 use Rattle.aql_grammar.specs.Operators.{IsOperator, IsComparison, IsQuantifier, IsUnaryOperator}
 use Rattle.aql_grammar.specs.Clauses.{IsDirection}
 use Rattle.aql_grammar.specs.Input.{head, next, sees}
-use Rattle.aql_grammar.specs.Reader.{operator, operator_ahead, behind, comparison, begins_comparison}
-use Rattle.aql_grammar.specs.Reader.{quantifier, unary_at, way, rank, at_level, begins_step}
+use Rattle.aql_grammar.specs.Reader.{operator, operator_ahead, after_operator, comparison, begins_comparison}
+use Rattle.aql_grammar.specs.Reader.{quantifier, unary_at, traversal_direction, rank, at_level, begins_step}
 use Rattle.aql_grammar.specs.laws.Steps.{Sound, Shrinks, done, if_cases, not_seen}
 
 -- ---- back
 
 operator_spelt : (ts : Tokens) (y : BinOp × Tokens) → operator ts ≡ Some y → IsOperator (rank ts) y.0 ts y.1
-unfolding operator operator_ahead behind rank
+unfolding operator operator_ahead after_operator rank
 operator_spelt [] y h = absurd (cc)
 operator_spelt (k.Number n ∷ ts) y h = absurd (cc)
 operator_spelt (k.Word v ∷ ts) y h = absurd (cc)
@@ -64,35 +64,37 @@ pub operator_sound : (level : ℕ) (ts : Tokens) (y : BinOp × Tokens) → rank 
     → IsOperator level y.0 ts y.1
 operator_sound level ts y e h = subst (λ l. IsOperator l y.0 ts y.1) e (operator_spelt ts y h)
 
-compared : (ts : Tokens) (y : BinOp × Tokens) → begins_comparison ts ≡ true → operator ts ≡ Some y
+comparison_spelt : (ts : Tokens) (y : BinOp × Tokens) → begins_comparison ts ≡ true → operator ts ≡ Some y
     → IsComparison y.0 ts y.1
-unfolding operator operator_ahead behind begins_comparison
-compared [] y b h = absurd (cc)
-compared (k.Number n ∷ ts) y b h = absurd (cc)
-compared (k.Word v ∷ ts) y b h = absurd (cc)
-compared (k.Quoted v ∷ ts) y b h = absurd (cc)
-compared (k.Text v ∷ ts) y b h = absurd (cc)
-compared (k.Symbol s.Less ∷ ts) y b h = done IsComparison _ _ ts y h IsComparison.less
-compared (k.Symbol s.LessOrEqual ∷ ts) y b h = done IsComparison _ _ ts y h IsComparison.less_equal
-compared (k.Symbol s.Greater ∷ ts) y b h = done IsComparison _ _ ts y h IsComparison.greater
-compared (k.Symbol s.GreaterOrEqual ∷ ts) y b h = done IsComparison _ _ ts y h IsComparison.greater_equal
-compared (k.Symbol s.Equal ∷ ts) y b h = done IsComparison _ _ ts y h IsComparison.equal
-compared (k.Symbol s.NotEqual ∷ ts) y b h = done IsComparison _ _ ts y h IsComparison.not_equal
-compared (k.Symbol _ ∷ ts) y b h = absurd (cc)
-compared (k.Keyword w.In ∷ ts) y b h = done IsComparison _ _ ts y h IsComparison.is_in
-compared (k.Keyword w.Not ∷ []) y b h = absurd (cc)
-compared (k.Keyword w.Not ∷ k.Keyword w.In ∷ ts) y b h = done IsComparison _ _ ts y h IsComparison.not_in
-compared (k.Keyword w.Not ∷ k.Keyword _ ∷ ts) y b h = absurd (cc)
-compared (k.Keyword w.Not ∷ k.Number n ∷ ts) y b h = absurd (cc)
-compared (k.Keyword w.Not ∷ k.Word v ∷ ts) y b h = absurd (cc)
-compared (k.Keyword w.Not ∷ k.Quoted v ∷ ts) y b h = absurd (cc)
-compared (k.Keyword w.Not ∷ k.Text v ∷ ts) y b h = absurd (cc)
-compared (k.Keyword w.Not ∷ k.Symbol v ∷ ts) y b h = absurd (cc)
-compared (k.Keyword _ ∷ ts) y b h = absurd (cc)
+unfolding operator operator_ahead after_operator begins_comparison
+comparison_spelt [] y b h = absurd (cc)
+comparison_spelt (k.Number n ∷ ts) y b h = absurd (cc)
+comparison_spelt (k.Word v ∷ ts) y b h = absurd (cc)
+comparison_spelt (k.Quoted v ∷ ts) y b h = absurd (cc)
+comparison_spelt (k.Text v ∷ ts) y b h = absurd (cc)
+comparison_spelt (k.Symbol s.Less ∷ ts) y b h = done IsComparison _ _ ts y h IsComparison.less
+comparison_spelt (k.Symbol s.LessOrEqual ∷ ts) y b h = done IsComparison _ _ ts y h IsComparison.less_equal
+comparison_spelt (k.Symbol s.Greater ∷ ts) y b h = done IsComparison _ _ ts y h IsComparison.greater
+comparison_spelt (k.Symbol s.GreaterOrEqual ∷ ts) y b h =
+    done IsComparison _ _ ts y h IsComparison.greater_equal
+comparison_spelt (k.Symbol s.Equal ∷ ts) y b h = done IsComparison _ _ ts y h IsComparison.equal
+comparison_spelt (k.Symbol s.NotEqual ∷ ts) y b h = done IsComparison _ _ ts y h IsComparison.not_equal
+comparison_spelt (k.Symbol _ ∷ ts) y b h = absurd (cc)
+comparison_spelt (k.Keyword w.In ∷ ts) y b h = done IsComparison _ _ ts y h IsComparison.is_in
+comparison_spelt (k.Keyword w.Not ∷ []) y b h = absurd (cc)
+comparison_spelt (k.Keyword w.Not ∷ k.Keyword w.In ∷ ts) y b h =
+    done IsComparison _ _ ts y h IsComparison.not_in
+comparison_spelt (k.Keyword w.Not ∷ k.Keyword _ ∷ ts) y b h = absurd (cc)
+comparison_spelt (k.Keyword w.Not ∷ k.Number n ∷ ts) y b h = absurd (cc)
+comparison_spelt (k.Keyword w.Not ∷ k.Word v ∷ ts) y b h = absurd (cc)
+comparison_spelt (k.Keyword w.Not ∷ k.Quoted v ∷ ts) y b h = absurd (cc)
+comparison_spelt (k.Keyword w.Not ∷ k.Text v ∷ ts) y b h = absurd (cc)
+comparison_spelt (k.Keyword w.Not ∷ k.Symbol v ∷ ts) y b h = absurd (cc)
+comparison_spelt (k.Keyword _ ∷ ts) y b h = absurd (cc)
 
 pub comparison_sound : Sound comparison IsComparison
 unfolding comparison
-comparison_sound ts y h = ⊎_elim (λ m. compared ts y m.0 m.1) (λ m. absurd (let e = m.1 in cc))
+comparison_sound ts y h = ⊎_elim (λ m. comparison_spelt ts y m.0 m.1) (λ m. absurd (let e = m.1 in cc))
     (if_cases (begins_comparison ts) _ _ ts y h)
 
 pub quantifier_sound : Sound quantifier IsQuantifier
@@ -108,18 +110,18 @@ quantifier_sound (k.Quoted v ∷ ts) y h = absurd (cc)
 quantifier_sound (k.Text v ∷ ts) y h = absurd (cc)
 quantifier_sound (k.Symbol v ∷ ts) y h = absurd (cc)
 
-pub way_sound : Sound way IsDirection
-unfolding way
-way_sound [] y h = absurd (cc)
-way_sound (k.Keyword w.Outbound ∷ ts) y h = done IsDirection _ _ ts y h IsDirection.outbound
-way_sound (k.Keyword w.Inbound ∷ ts) y h = done IsDirection _ _ ts y h IsDirection.inbound
-way_sound (k.Keyword w.Any ∷ ts) y h = done IsDirection _ _ ts y h IsDirection.any
-way_sound (k.Keyword _ ∷ ts) y h = absurd (cc)
-way_sound (k.Number n ∷ ts) y h = absurd (cc)
-way_sound (k.Word v ∷ ts) y h = absurd (cc)
-way_sound (k.Quoted v ∷ ts) y h = absurd (cc)
-way_sound (k.Text v ∷ ts) y h = absurd (cc)
-way_sound (k.Symbol v ∷ ts) y h = absurd (cc)
+pub traversal_direction_sound : Sound traversal_direction IsDirection
+unfolding traversal_direction
+traversal_direction_sound [] y h = absurd (cc)
+traversal_direction_sound (k.Keyword w.Outbound ∷ ts) y h = done IsDirection _ _ ts y h IsDirection.outbound
+traversal_direction_sound (k.Keyword w.Inbound ∷ ts) y h = done IsDirection _ _ ts y h IsDirection.inbound
+traversal_direction_sound (k.Keyword w.Any ∷ ts) y h = done IsDirection _ _ ts y h IsDirection.any
+traversal_direction_sound (k.Keyword _ ∷ ts) y h = absurd (cc)
+traversal_direction_sound (k.Number n ∷ ts) y h = absurd (cc)
+traversal_direction_sound (k.Word v ∷ ts) y h = absurd (cc)
+traversal_direction_sound (k.Quoted v ∷ ts) y h = absurd (cc)
+traversal_direction_sound (k.Text v ∷ ts) y h = absurd (cc)
+traversal_direction_sound (k.Symbol v ∷ ts) y h = absurd (cc)
 
 pub unary_sound : (ts : Tokens) (o : UnaryOp) → unary_at (head ts) ≡ Some o → IsUnaryOperator o ts (next ts)
 unary_sound [] o h = absurd (cc)
@@ -142,7 +144,7 @@ unary_sound (k.Text v ∷ ts) o h = absurd (cc)
 
 pub operator_read : (level : ℕ) (o : BinOp) (a b : Tokens) → IsOperator level o a b → (rank a ≡ level)
     × (operator a ≡ Some (o, b))
-unfolding operator operator_ahead behind rank
+unfolding operator operator_ahead after_operator rank
 operator_read level o a b IsOperator.times = (refl, refl)
 operator_read level o a b IsOperator.divided = (refl, refl)
 operator_read level o a b IsOperator.remainder = (refl, refl)
@@ -186,7 +188,7 @@ operator_shrinks level o a b IsOperator.or_word = omega arith
 
 pub comparison_read : (o : BinOp) (a b : Tokens) → IsComparison o a b → (begins_comparison a ≡ true)
     × (comparison a ≡ Some (o, b))
-unfolding comparison begins_comparison operator operator_ahead behind
+unfolding comparison begins_comparison operator operator_ahead after_operator
 comparison_read o a b IsComparison.equal = (refl, refl)
 comparison_read o a b IsComparison.not_equal = (refl, refl)
 comparison_read o a b IsComparison.less = (refl, refl)
@@ -218,16 +220,17 @@ quantifier_shrinks q a b IsQuantifier.all = omega arith
 quantifier_shrinks q a b IsQuantifier.any = omega arith
 quantifier_shrinks q a b IsQuantifier.none = omega arith
 
-pub way_read : (d : Direction) (a b : Tokens) → IsDirection d a b → way a ≡ Some (d, b)
-unfolding way
-way_read d a b IsDirection.outbound = refl
-way_read d a b IsDirection.inbound = refl
-way_read d a b IsDirection.any = refl
+pub traversal_direction_read : (d : Direction) (a b : Tokens) → IsDirection d a b
+    → traversal_direction a ≡ Some (d, b)
+unfolding traversal_direction
+traversal_direction_read d a b IsDirection.outbound = refl
+traversal_direction_read d a b IsDirection.inbound = refl
+traversal_direction_read d a b IsDirection.any = refl
 
-pub way_shrinks : Shrinks IsDirection
-way_shrinks d a b IsDirection.outbound = omega arith
-way_shrinks d a b IsDirection.inbound = omega arith
-way_shrinks d a b IsDirection.any = omega arith
+pub traversal_direction_shrinks : Shrinks IsDirection
+traversal_direction_shrinks d a b IsDirection.outbound = omega arith
+traversal_direction_shrinks d a b IsDirection.inbound = omega arith
+traversal_direction_shrinks d a b IsDirection.any = omega arith
 
 pub unary_read : (o : UnaryOp) (a b : Tokens) → IsUnaryOperator o a b → (unary_at (head a) ≡ Some o)
     × (next a ≡ b)
@@ -242,12 +245,12 @@ unary_shrinks o a b IsUnaryOperator.minus = omega arith
 unary_shrinks o a b IsUnaryOperator.not_sign = omega arith
 unary_shrinks o a b IsUnaryOperator.not_word = omega arith
 
--- ---- what may stand behind an operand of a level
+-- ---- what may stand after an operand of a level
 
 abbrev pub Follow : ℕ → Tokens → Type 0
 Follow level ts = level < rank ts
 
--- behind a whole expression
+-- after a whole expression
 abbrev pub Ends : Tokens → Type 0
 Ends ts = 10 < rank ts
 

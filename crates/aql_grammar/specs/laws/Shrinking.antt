@@ -10,7 +10,7 @@ use Rattle.aql_tree.specs.View.{AggregatePart, IntoPart}
 use Rattle.aql_grammar.specs.Kinds.{Tokens}
 use Rattle.aql_grammar.specs.Spelling.{IsName, IsOptional, AreAny}
 use Rattle.aql_grammar.specs.Objects.{IsVariable, IsKey, IsMember, IsObject}
-use Rattle.aql_grammar.specs.Clauses.{AreWalkNames, IsDepth, IsAssigned, IsLet, IsSortKey, IsAggregate}
+use Rattle.aql_grammar.specs.Clauses.{AreTraversalNames, IsDepth, IsAssigned, IsLet, IsSortKey, IsAggregate}
 use Rattle.aql_grammar.specs.Clauses.{IsInto, AreAggregates, IsTail, IsPrune, AreOptions, IsClause}
 use Rattle.aql_grammar.specs.Clauses.{AreClauses, IsDistinct, IsQuery}
 use Rattle.aql_grammar.specs.Expressions.{IsArgument, IsPrimary, IsElementFilter, IsElementReturn, IsStep}
@@ -21,7 +21,7 @@ use Rattle.aql_grammar.specs.Tree.{IsExpr}
 use Rattle.aql_grammar.specs.laws.Steps.{Shrinks, Falls, name_shrinks, word_shrinks}
 use Rattle.aql_grammar.specs.laws.ListLaws.{separated_shrinks, many_falls, items_fall}
 use Rattle.aql_grammar.specs.laws.OperatorLaws.{operator_shrinks, comparison_shrinks, quantifier_shrinks}
-use Rattle.aql_grammar.specs.laws.OperatorLaws.{unary_shrinks, way_shrinks}
+use Rattle.aql_grammar.specs.laws.OperatorLaws.{unary_shrinks, traversal_direction_shrinks}
 
 pub variable_shrinks : (inside : Bool) (v : List ℕ) (x : ExprTree) (a b : Tokens)
     → IsVariable inside v x a b → length b < length a
@@ -40,18 +40,18 @@ optional_falls : {A : Type 0} (P : A → Tokens → Tokens → Type 0) → Shrin
 optional_falls P shrinks xs a b IsOptional.none = omega arith
 optional_falls P shrinks xs a b (IsOptional.some {x = x} h) = let i = shrinks x a b h in omega arith
 
-pub walk_names_shrink : Shrinks AreWalkNames
-walk_names_shrink n a b (AreWalkNames.vertex {v = v} h) = name_shrinks v a b h
-walk_names_shrink n a b (AreWalkNames.edge {v = v} {x = x} {b = c} h g) =
+pub traversal_names_shrink : Shrinks AreTraversalNames
+traversal_names_shrink n a b (AreTraversalNames.vertex {v = v} h) = name_shrinks v a b h
+traversal_names_shrink n a b (AreTraversalNames.edge {v = v} {x = x} {b = c} h g) =
     let i = name_shrinks v a (k.Symbol s.Comma ∷ c) h in let j = name_shrinks x c b g in omega arith
-walk_names_shrink n a b (AreWalkNames.path {v = v} {x = x} {p = p} {b = c} {c = d} h g f) =
+traversal_names_shrink n a b (AreTraversalNames.path {v = v} {x = x} {p = p} {b = c} {c = d} h g f) =
     let i = name_shrinks v a (k.Symbol s.Comma ∷ c) h in let j = name_shrinks x c (k.Symbol s.Comma ∷ d) g
     in let l = name_shrinks p d b f in omega arith
 
-pub depth_falls : (m n : ℕ) (a b : Tokens) → IsDepth m n a b → length b ≤ length a
-depth_falls m n a b IsDepth.unsaid = omega arith
-depth_falls m n a b IsDepth.exact = omega arith
-depth_falls m n a b IsDepth.between = omega arith
+pub traversal_depth_falls : (m n : ℕ) (a b : Tokens) → IsDepth m n a b → length b ≤ length a
+traversal_depth_falls m n a b IsDepth.unsaid = omega arith
+traversal_depth_falls m n a b IsDepth.exact = omega arith
+traversal_depth_falls m n a b IsDepth.between = omega arith
 
 pub distinct_falls : Falls IsDistinct
 distinct_falls d a b IsDistinct.plain = omega arith
@@ -71,8 +71,8 @@ module _ (E : Bool → ExprTree → Tokens → Tokens → Type 0) (shrinks : (in
   object_shrinks ms a b (IsObject.object {a = c} h) = let i = items_fall (IsMember E inside) member_shrinks
       ms c (k.Symbol s.CloseBrace ∷ b) h in omega arith
 
-  pub assigned_shrinks : Shrinks (IsAssigned E inside)
-  assigned_shrinks l a b (IsAssigned.assigned {v = v} {x = x} {b = c} h g) =
+  pub assignment_shrinks : Shrinks (IsAssigned E inside)
+  assignment_shrinks l a b (IsAssigned.assigned {v = v} {x = x} {b = c} h g) =
       let i = name_shrinks v a (k.Symbol s.Assign ∷ c) h in let j = shrinks inside x c b g in omega arith
 
   pub let_shrinks : Shrinks (IsLet E inside)
@@ -131,8 +131,8 @@ module _ (E : Bool → ExprTree → Tokens → Tokens → Type 0) (shrinks : (in
   clause_shrinks cs a b (IsClause.for_paths {names = names} {least = m} {greatest = n} {way = way}
       {start = start} {edges = edges} {prune = p} {ms = ms} {a = a'} {b = b'} {c = c'} {d = d'} {f = f'}
       {g = g'} {h = h'} hn hd hw hs he hp ho) =
-      let i = walk_names_shrink names a' (k.Keyword w.In ∷ b') hn in let j = depth_falls m n b' c' hd in let
-      l = way_shrinks way c' d' hw in
+      let i = traversal_names_shrink names a' (k.Keyword w.In ∷ b') hn in let j =
+      traversal_depth_falls m n b' c' hd in let l = traversal_direction_shrinks way c' d' hw in
       let q = shrinks inside start d' f' hs in let r = separated_shrinks IsName name_shrinks edges f' g' he
       in
       let t = prune_falls p g' h' hp in let u = options_fall ms h' b ho in omega arith
@@ -144,7 +144,7 @@ module _ (E : Bool → ExprTree → Tokens → Tokens → Type 0) (shrinks : (in
   clause_shrinks cs a b IsClause.limit = omega arith
   clause_shrinks cs a b IsClause.limit_from = omega arith
   clause_shrinks cs a b (IsClause.collect {ls = ls} {gs = gs} {into = i} {a = d} {b = c} h g said) =
-      let j = any_falls (IsAssigned E inside) assigned_shrinks ls d c h in let l = tail_falls gs i c b g in
+      let j = any_falls (IsAssigned E inside) assignment_shrinks ls d c h in let l = tail_falls gs i c b g in
       omega arith
 
   pub clauses_fall : Falls (AreClauses E inside)

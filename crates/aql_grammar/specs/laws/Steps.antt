@@ -21,7 +21,7 @@ use Rattle.aql_grammar.specs.Input.{name, natural}
 abbrev pub Sound : {A : Type 0} → Parser A → (A → Tokens → Tokens → Type 0) → Type 0
 Sound {A} R P = (ts : Tokens) (y : A × Tokens) → R ts ≡ Some y → P y.0 ts y.1
 
--- what is spelt is read, where what stands behind it allows that
+-- what is spelt is read, where what stands after it allows that
 abbrev pub Complete : {A : Type 0} → Parser A → (A → Tokens → Tokens → Type 0) → (Tokens → Type 0) → ℕ
     → Type 0
 Complete {A} R P F bound = (x : A) (a b : Tokens) → length a ≤ bound → P x a b → F b → R a ≡ Some (x, b)
@@ -34,7 +34,7 @@ Shrinks {A} P = (x : A) (a b : Tokens) → P x a b → length b < length a
 abbrev pub Falls : {A : Type 0} → (A → Tokens → Tokens → Type 0) → Type 0
 Falls {A} P = (x : A) (a b : Tokens) → P x a b → length b ≤ length a
 
--- anything may stand behind
+-- anything may stand after
 abbrev pub Always : Tokens → Type 0
 Always ts = Unit {0}
 

@@ -1,8 +1,0 @@
-use Rattle.std.proofs.Common.{map, ◌≡◌, ◌-◌}
-use Rattle.aql_grammar.specs.Reader.{expr, clauses, clauses_from}
-use Rattle.aql_tree.specs.View.{clause_tree}
-use Rattle.aql_clauses.proofs.parts.Queries.clauses.Given as goal
-
-abbrev pub invariant-loop-turn : goal.invariant-loop-turn
-invariant-loop-turn g l = clauses (expr l.self.rules.depth) l.self.rules.inside l.fn.tokens
-    ≡ clauses_from (expr l.self.rules.depth) l.self.rules.inside (l._turn-end - l._turn) (map clause_tree l.found) l.tokens

@@ -1,9 +1,0 @@
-use Rattle.std.proofs.Common.{map, ◌≡◌, ◌-◌}
-use Rattle.aql_grammar.specs.Input.{separated, separated_from}
-use Rattle.aql_grammar.specs.Reader.{expr, argument}
-use Rattle.aql_tree.specs.View.{tree}
-use Rattle.aql_operators.proofs.expressions.Expressions.argument_list.Given as goal
-
-abbrev pub invariant-loop-turn : goal.invariant-loop-turn
-invariant-loop-turn g l = separated (argument (expr l.self.queries.rules.depth) l.self.queries.rules.inside) l.fn.tokens
-    ≡ separated_from (argument (expr l.self.queries.rules.depth) l.self.queries.rules.inside) (l._turn-end - l._turn) (map tree l.found) l.tokens

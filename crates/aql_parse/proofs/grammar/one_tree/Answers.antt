@@ -1,5 +1,0 @@
-use Rattle.aql_grammar.specs.laws.TreeLaws.{one_tree}
-use Rattle.aql_parse.proofs.grammar.one_tree.Goals as goal
-
-pub returns : goal.returns
-returns c = one_tree

@@ -1,6 +1,0 @@
-//! How deep the traversals of a query go.
-#![tactic(auto)]
-
-mod depths;
-
-pub use depths::walks_within;
