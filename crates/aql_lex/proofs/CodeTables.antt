@@ -45,7 +45,7 @@ has_keyword keyword = (place_of (name_of keyword) keywords, ltb-true _ _ refl, r
 
 -- the table KEYWORDS of the code has the keywords with their names
 pub keyword_table : IsTable name_of keywords
-keyword_table = record { spelled = each_spelled name_of keywords keywords_spelled; whole = has_keyword }
+keyword_table = record { correct = each_spelled name_of keywords keywords_spelled; complete = has_keyword }
 
 -- ---- symbols
 
@@ -60,4 +60,4 @@ has_symbol symbol = (place_of (spelling_of symbol) symbols, ltb-true _ _ refl, r
 
 -- the table SYMBOLS of the code has the symbols with their spellings
 pub symbol_table : IsTable spelling_of symbols
-symbol_table = record { spelled = each_spelled spelling_of symbols symbols_spelled; whole = has_symbol }
+symbol_table = record { correct = each_spelled spelling_of symbols symbols_spelled; complete = has_symbol }

@@ -45,13 +45,13 @@ module _ {Meant : Type 0} (spelling : Meant → List ℕ) (lines : List (Bor (Li
   spelled_at i d within =
       let long = same_length in
       subst (λ line. line.0 ≡ spelling line.1) (line_at i d (d.0.now, d.1) within)
-      (table.spelled i (d.0.now, d.1) (omega arith))
+      (table.correct i (d.0.now, d.1) (omega arith))
 
   -- the line of what it stands for
   pub line_of : (meant : Meant) (d : Bor (List ℕ) × Meant)
       → (i : ℕ) × ((i < length lines) × ((get_or lines i d).0.now ≡ spelling meant))
   line_of meant d =
-      let found = table.whole meant in
+      let found = table.complete meant in
       let long = same_length in
       let within : found.0 < length lines = omega (arith, found.1) in
       let same = sym (line_at found.0 d (spelling meant, meant) within) ∙ found.2 in
@@ -63,7 +63,7 @@ pub keyword_none : (lines : List (Bor (List ℕ) × Keyword)) → IsTable name_o
     → map to_ascii_lowercase (get_or lines i d).0.now ≢ map to_ascii_lowercase word)
     → (keyword : Keyword) → IsReserved word keyword → ⊥
 keyword_none [] table word n all none keyword h =
-    let within = (table.whole keyword).1 in absurd (omega arith)
+    let within = (table.complete keyword).1 in absurd (omega arith)
 keyword_none (line ∷ lines) table word n all none keyword h =
     let found = line_of name_of (line ∷ lines) table keyword line in
     let within = found.1.0 in
@@ -74,7 +74,7 @@ pub symbol_none : (lines : List (Bor (List ℕ) × Symbol)) → IsTable spelling
     → ((i : ℕ) (d : Bor (List ℕ) × Symbol) (rest : List ℕ) → i < n → text ≢ (get_or lines i d).0.now ++ rest)
     → NoSymbol text
 symbol_none [] table text n all none symbol rest e =
-    let within = (table.whole symbol).1 in absurd (omega arith)
+    let within = (table.complete symbol).1 in absurd (omega arith)
 symbol_none (line ∷ lines) table text n all none symbol rest e =
     let found = line_of spelling_of (line ∷ lines) table symbol line in
     let within = found.1.0 in

@@ -49,8 +49,8 @@ lines_of {Meant} lines =
 
 -- each line of the table has the spelling of what it stands for, and nothing is without a line
 pub record IsTable {Meant : Type 0} (spelling : Meant → List ℕ) (lines : List (List ℕ × Meant)) : Type 0 where
-  pub spelled : All (λ line. line.0 ≡ spelling line.1) lines
-  pub whole : (meant : Meant) → Contains lines (spelling meant, meant)
+  pub correct : All (λ line. line.0 ≡ spelling line.1) lines
+  pub complete : (meant : Meant) → Contains lines (spelling meant, meant)
 
 -- no spelling of the table is longer than one before it
 abbrev pub longer_first : {Meant : Type 0} → List (List ℕ × Meant) → Bool

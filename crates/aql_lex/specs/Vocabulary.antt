@@ -58,7 +58,7 @@ name_of keyword.With = codes "WITH"
 abbrev pub IsReserved : List ℕ → Keyword → Type 0
 IsReserved word reserved = map to_ascii_lowercase (name_of reserved) ≡ map to_ascii_lowercase word
 
--- the spelling of a symbol, the longer ones first
+-- the spelling of a symbol
 unfoldable pub spelling_of : Symbol → List ℕ
 spelling_of symbol.Equal = codes "=="
 spelling_of symbol.NotEqual = codes "!="
