@@ -1,5 +1,5 @@
 -- Looking a name up: the code's table has every function once, in the order of their names.
-use Rattle.std.proofs.Common.{◌≡◌, ◌∙◌, refl, sym, ap, subst, ℕ, zero, suc, ◌+◌, ◌<◌, ◌≤◌, ◌⊎◌, inl, inr, List, [], ◌∷◌, length, get_or, map, Bool, true, false, true≢false, cond, not, ◌&&◌, ◌||◌, Option, Some, None, Result, Ok, Err, arith, add-one}
+use Rattle.std.proofs.Common.{◌≡◌, ◌∙◌, refl, sym, ap, subst, ℕ, zero, suc, ◌<◌, ◌≤◌, ◌⊎◌, inl, inr, List, [], ◌∷◌, length, get_or, map, Bool, true, false, true≢false, cond, not, ◌&&◌, ◌||◌, Some, None, Result, Ok, Err, arith, add-one}
 use Rattle.std.specs.Prelude.{find, bytes_eq, IsSortedBy, MatchResult}
 use Rattle.std.specs.Ordering.{nat_cmp, is_lt, is_eq, ordering_index}
 use Rattle.std.specs.declared.cmp.Ordering.{Ordering}
