@@ -36,7 +36,8 @@ below_lifts s t u h k = by (is_below s t) refl
     by false e = absurd (let f = below_order.chain u s t k e in cc)
 
 -- two values put among others, in either order
-both : (s t : Tree) (us : List Tree) (b : Bool) → is_below t s ≡ b → (c : Bool) → is_below s t ≡ c → cond b (t ∷ s ∷ us) (s ∷ t ∷ us) ≡ cond c (s ∷ t ∷ us) (t ∷ s ∷ us)
+both : (s t : Tree) (us : List Tree) (b : Bool) → is_below t s ≡ b → (c : Bool) → is_below s t ≡ c
+    → cond b (t ∷ s ∷ us) (s ∷ t ∷ us) ≡ cond c (s ∷ t ∷ us) (t ∷ s ∷ us)
 both s t us true p true q = absurd (let e = below_order.one_way t s p in cc)
 both s t us true p false q = refl
 both s t us false p true q = refl
@@ -46,7 +47,8 @@ swapped : (s t : Tree) (us : List Tree) → among s (among t us) ≡ among t (am
 swapped s t [] = both s t [] _ refl _ refl
 swapped s t (u ∷ us) = by (is_below u t) refl (is_below u s) refl (swapped s t us)
   where
-    by : (b : Bool) → is_below u t ≡ b → (c : Bool) → is_below u s ≡ c → among s (among t us) ≡ among t (among s us)
+    by : (b : Bool) → is_below u t ≡ b → (c : Bool) → is_below u s ≡ c
+        → among s (among t us) ≡ among t (among s us)
         → among s (cond b (u ∷ among t us) (t ∷ u ∷ us)) ≡ among t (cond c (u ∷ among s us) (s ∷ u ∷ us))
     by true p true q ih = rw p (rw q (ap (λ l. u ∷ l) ih))
     by true p false q ih = rw q (rw (below_lifts s t u p q) (rw p refl))
@@ -60,13 +62,18 @@ same_ascending (flip x y xs) = swapped x y (ascending xs)
 same_ascending (chain s t) = same_ascending s ∙ same_ascending t
 
 abbrev pub Rises : List Value → Type 0
-Rises vs = (k : ℕ) (d : Value) → k + 1 < length vs → is_below (tree_of (get_or vs (suc k) d)) (tree_of (get_or vs k d)) ≡ false
+Rises vs = (k : ℕ) (d : Value) → k + 1 < length vs
+    → is_below (tree_of (get_or vs (suc k) d)) (tree_of (get_or vs k d)) ≡ false
 
 pub kept : (vs : List Value) → Rises vs → ascending (trees_in vs) ≡ trees_in vs
 kept [] h = refl
 kept (v ∷ []) h = refl
 kept (v ∷ w ∷ ws) h = ap (among (tree_of v)) (kept (w ∷ ws) (λ k d l. h (suc k) d (omega arith)))
-    ∙ ap (λ b. cond b (tree_of w ∷ among (tree_of v) (trees_in ws)) (trees_in (v ∷ w ∷ ws))) (h 0 v (omega arith))
+    ∙ ap (λ b. cond b (tree_of w ∷ among (tree_of v) (trees_in ws)) (trees_in (v ∷ w ∷ ws)))
+    (h 0 v (omega arith))
 
-pub sorted_is : (vs ws : List Value) → IsPermutation vs ws → IsSorted (on tree_of compare) ws → trees_in ws ≡ ascending (trees_in vs)
-sorted_is vs ws p s = sym (same_ascending (shuffled _ _ (IsPermutation-map tree_of vs ws p)) ∙ kept ws (λ k d l. subst (λ n. is_below (tree_of (get_or ws n d)) (tree_of (get_or ws k d)) ≡ false) (add-one k) (s k d (omega arith) l)))
+pub sorted_is : (vs ws : List Value) → IsPermutation vs ws → IsSorted (on tree_of compare) ws
+    → trees_in ws ≡ ascending (trees_in vs)
+sorted_is vs ws p s = sym (same_ascending (shuffled _ _ (IsPermutation-map tree_of vs ws p))
+    ∙ kept ws (λ k d l. subst (λ n. is_below (tree_of (get_or ws n d)) (tree_of (get_or ws k d)) ≡ false)
+    (add-one k) (s k d (omega arith) l)))

@@ -33,16 +33,20 @@ same_flip s t = ap is_eq (compare_total.antisymm s t) ∙ turned (compare t s)
 abbrev pub noted : List Tree → Tree → List Tree
 noted ks t = cond (is_in ks t) ks (ks ++ t ∷ [])
 
-pub any_tree : (v : Value) (ks : List Value) → list_any (λ k. is_eq (compare (tree_of v) (tree_of k))) ks ≡ is_in (trees_in ks) (tree_of v)
+pub any_tree : (v : Value) (ks : List Value) → list_any (λ k. is_eq (compare (tree_of v) (tree_of k))) ks
+    ≡ is_in (trees_in ks) (tree_of v)
 any_tree v [] = refl
 any_tree v (k ∷ ks) = ap (λ b. is_eq (compare (tree_of v) (tree_of k)) || b) (any_tree v ks)
 
-either : (b : Bool) (ks : List Value) (v : Value) → trees_in (cond b ks (ks ++ v ∷ [])) ≡ cond b (trees_in ks) (trees_in ks ++ tree_of v ∷ [])
+either : (b : Bool) (ks : List Value) (v : Value) → trees_in (cond b ks (ks ++ v ∷ []))
+    ≡ cond b (trees_in ks) (trees_in ks ++ tree_of v ∷ [])
 either true ks v = refl
 either false ks v = map-append tree_of ks (v ∷ [])
 
-pub keys_noted : (ks : List Value) (v : Value) → trees_in (insert_key (on tree_of (eq_by_cmp compare)) ks v) ≡ noted (trees_in ks) (tree_of v)
-keys_noted ks v = either _ ks v ∙ ap (λ b. cond b (trees_in ks) (trees_in ks ++ tree_of v ∷ [])) (any_tree v ks)
+pub keys_noted : (ks : List Value) (v : Value) → trees_in (insert_key (on tree_of (eq_by_cmp compare)) ks v)
+    ≡ noted (trees_in ks) (tree_of v)
+keys_noted ks v = either _ ks v ∙ ap (λ b. cond b (trees_in ks) (trees_in ks ++ tree_of v ∷ []))
+    (any_tree v ks)
 
 abbrev others : Tree → List Tree → List Tree
 others u ts = filter (λ x. not (same u x)) ts
@@ -61,14 +65,17 @@ pub in_firsts : (ts : List Tree) (t : Tree) → is_in (firsts ts) t ≡ is_in ts
 in_firsts [] t = refl
 in_firsts (u ∷ us) t = by (same t u) refl (in_firsts us t)
   where
-    by : (d : Bool) → same t u ≡ d → is_in (firsts us) t ≡ is_in us t → d || is_in (others u (firsts us)) t ≡ d || is_in us t
+    by : (d : Bool) → same t u ≡ d → is_in (firsts us) t ≡ is_in us t
+        → d || is_in (others u (firsts us)) t ≡ d || is_in us t
     by true q ih = refl
     by false q ih = in_others u t (same_flip u t ∙ q) (firsts us) ∙ ih
 
-others_push : (u t : Tree) (d : Bool) → same u t ≡ d → (ts : List Tree) → others u (ts ++ t ∷ []) ≡ cond d (others u ts) (others u ts ++ t ∷ [])
+others_push : (u t : Tree) (d : Bool) → same u t ≡ d → (ts : List Tree)
+    → others u (ts ++ t ∷ []) ≡ cond d (others u ts) (others u ts ++ t ∷ [])
 others_push u t d e ts = filter-append (λ x. not (same u x)) ts (t ∷ []) ∙ by d e
   where
-    by : (d : Bool) → same u t ≡ d → others u ts ++ cond (not (same u t)) (t ∷ []) [] ≡ cond d (others u ts) (others u ts ++ t ∷ [])
+    by : (d : Bool) → same u t ≡ d → others u ts ++ cond (not (same u t)) (t ∷ []) []
+        ≡ cond d (others u ts) (others u ts ++ t ∷ [])
     by true e = rw e (append-nil (others u ts))
     by false e = rw e refl
 
@@ -76,11 +83,13 @@ noted_others : (u t : Tree) (xs : List Tree) → u ∷ others u (noted xs t) ≡
 noted_others u t xs = by (same u t) refl (is_in xs t) refl
   where
     by : (d : Bool) → same u t ≡ d → (b : Bool) → is_in xs t ≡ b
-        → u ∷ others u (cond b xs (xs ++ t ∷ [])) ≡ cond (same t u || is_in (others u xs) t) (u ∷ others u xs) ((u ∷ others u xs) ++ t ∷ [])
+        → u ∷ others u (cond b xs (xs ++ t ∷ [])) ≡ cond (same t u || is_in (others u xs) t)
+        (u ∷ others u xs) ((u ∷ others u xs) ++ t ∷ [])
     by true p true q = rw (same_flip t u ∙ p) refl
     by true p false q = rw (same_flip t u ∙ p) (ap (λ l. u ∷ l) (others_push u t true p xs))
     by false p true q = rw (same_flip t u ∙ p) (rw (in_others u t p xs ∙ q) refl)
-    by false p false q = rw (same_flip t u ∙ p) (rw (in_others u t p xs ∙ q) (ap (λ l. u ∷ l) (others_push u t false p xs)))
+    by false p false q = rw (same_flip t u ∙ p) (rw (in_others u t p xs
+        ∙ q) (ap (λ l. u ∷ l) (others_push u t false p xs)))
 
 pub firsts_push : (ts : List Tree) (t : Tree) → firsts (ts ++ t ∷ []) ≡ noted (firsts ts) t
 firsts_push [] t = refl
@@ -105,9 +114,12 @@ sift_no b c e d f = subst (λ x. cond c x (not x) ≡ false) f (by b c e)
     by false false e = absurd (true≢false e)
 
 -- the values sifted so far
-pub sift_more : (p : Tree → Bool) (xs : List Value) (i : ℕ) (v : Value) (out : List Tree) → trees_in (take (i + 1) xs) ≡ trees_in (take i xs) ++ tree_of v ∷ []
-    → out ≡ filter p (trees_in (take i xs)) → cond (p (tree_of v)) (out ++ tree_of v ∷ []) out ≡ filter p (trees_in (take (i + 1) xs))
-sift_more p xs i v out e f = rw e (rw f (sym (filter-append p (trees_in (take i xs)) (tree_of v ∷ []) ∙ by (p (tree_of v)) (filter p (trees_in (take i xs))))))
+pub sift_more : (p : Tree → Bool) (xs : List Value) (i : ℕ) (v : Value) (out : List Tree)
+    → trees_in (take (i + 1) xs) ≡ trees_in (take i xs) ++ tree_of v ∷ []
+    → out ≡ filter p (trees_in (take i xs)) → cond (p (tree_of v)) (out ++ tree_of v ∷ []) out
+    ≡ filter p (trees_in (take (i + 1) xs))
+sift_more p xs i v out e f = rw e (rw f (sym (filter-append p (trees_in (take i xs)) (tree_of v ∷ [])
+    ∙ by (p (tree_of v)) (filter p (trees_in (take i xs))))))
   where
     by : (b : Bool) (l : List Tree) → l ++ cond b (tree_of v ∷ []) [] ≡ cond b (l ++ tree_of v ∷ []) l
     by true l = refl
@@ -119,7 +131,8 @@ is_in_push [] x t = or_false (same t x)
     or_false : (b : Bool) → b || false ≡ b
     or_false true = refl
     or_false false = refl
-is_in_push (u ∷ us) x t = ap (λ b. same t u || b) (is_in_push us x t) ∙ grouped (same t u) (is_in us t) (same t x)
+is_in_push (u ∷ us) x t = ap (λ b. same t u || b) (is_in_push us x t)
+    ∙ grouped (same t u) (is_in us t) (same t x)
   where
     grouped : (a b c : Bool) → a || (b || c) ≡ (a || b) || c
     grouped true b c = refl
@@ -130,11 +143,14 @@ pub seen_more : (ks out : List Tree) (x : Tree) → ((t : Tree) → is_in ks t �
     → (t : Tree) → is_in (added true ks x) t ≡ is_in (added true out x) t
 seen_more ks out x h t = by (is_in ks x) (h x)
   where
-    by : (b : Bool) → b ≡ is_in out x → is_in (cond b ks (ks ++ x ∷ [])) t ≡ is_in (cond (is_in out x) out (out ++ x ∷ [])) t
+    by : (b : Bool) → b ≡ is_in out x → is_in (cond b ks (ks ++ x ∷ [])) t
+        ≡ is_in (cond (is_in out x) out (out ++ x ∷ [])) t
     by true p = rw (sym p) (h t)
     by false p = rw (sym p) (is_in_push ks x t ∙ ap (λ b. b || same t x) (h t) ∙ sym (is_in_push out x t))
 
 -- `contains` of a slice
-pub held : (v : Value) (vs : List Value) → list_any (λ y. on tree_of (eq_by_cmp compare) y v) vs ≡ is_in (trees_in vs) (tree_of v)
+pub held : (v : Value) (vs : List Value) → list_any (λ y. on tree_of (eq_by_cmp compare) y v) vs
+    ≡ is_in (trees_in vs) (tree_of v)
 held v [] = refl
-held v (x ∷ xs) = ap (λ b. b || list_any (λ y. on tree_of (eq_by_cmp compare) y v) xs) (same_flip (tree_of x) (tree_of v)) ∙ ap (λ b. same (tree_of v) (tree_of x) || b) (held v xs)
+held v (x ∷ xs) = ap (λ b. b || list_any (λ y. on tree_of (eq_by_cmp compare) y v) xs)
+    (same_flip (tree_of x) (tree_of v)) ∙ ap (λ b. same (tree_of v) (tree_of x) || b) (held v xs)

@@ -5,25 +5,27 @@ use Rattle.aql_value.specs.declared.values.Value.TheVariants.{Null, Bool, Num, T
 use Rattle.aql_value.specs.Tree.{Tree, array, array_of}
 use Rattle.aql_value.specs.View.{tree_of, trees_in}
 use Rattle.aql_func.specs.Lists.{flat, flat_value}
-use Rattle.aql_func.proofs.Listed.{listed}
+use Rattle.aql_value.specs.laws.Lists.{trees_list-array_of}
 
 pub flat_each : (d : ℕ) (ts us : List Tree) → flat d (ts ++ us) ≡ flat d ts ++ flat d us
 flat_each d [] us = refl
-flat_each d (t ∷ ts) us = ap (λ l. flat_value d t ++ l) (flat_each d ts us) ∙ sym (append_assoc (flat_value d t) (flat d ts) (flat d us))
+flat_each d (t ∷ ts) us = ap (λ l. flat_value d t ++ l) (flat_each d ts us)
+    ∙ sym (append_assoc (flat_value d t) (flat d ts) (flat d us))
 
 -- an array is opened by one level
 pub flat_array : (d : ℕ) (ts : List Tree) → 0 < d → flat d (array (array_of ts) ∷ []) ≡ flat (d - 1) ts
 flat_array zero ts h = absurd (omega arith)
 flat_array (suc d) ts h =
     let e : suc d - 1 ≡ d = omega arith in
-    rw e (append-nil _ ∙ ap (flat d) (listed ts))
+    rw e (append-nil _ ∙ ap (flat d) (trees_list-array_of ts))
 
 pub flat_none : (d : ℕ) (t : Tree) → d ≤ 0 → flat d (t ∷ []) ≡ t ∷ []
 flat_none zero t h = refl
 flat_none (suc d) t h = absurd (omega arith)
 
 -- what is no array stays
-pub flat_alone : (d : ℕ) (v : Value) → ((x : List Tree) → v ≡ ListOf x → ⊥) → flat d (tree_of v ∷ []) ≡ tree_of v ∷ []
+pub flat_alone : (d : ℕ) (v : Value) → ((x : List Tree) → v ≡ ListOf x → ⊥)
+    → flat d (tree_of v ∷ []) ≡ tree_of v ∷ []
 flat_alone zero v h = refl
 flat_alone (suc d) Null h = refl
 flat_alone (suc d) (Bool b) h = refl
@@ -32,8 +34,10 @@ flat_alone (suc d) (Text t) h = refl
 flat_alone (suc d) (ListOf ts) h = absurd (h ts refl)
 flat_alone (suc d) (Object fs) h = refl
 
-pub flat_more : (d : ℕ) (vs : List Value) (i : ℕ) (v : Value) (base out more : List Tree) → trees_in (take (i + 1) vs) ≡ trees_in (take i vs) ++ tree_of v ∷ []
-    → out ≡ base ++ flat d (trees_in (take i vs)) → more ≡ out ++ flat d (tree_of v ∷ []) → more ≡ base ++ flat d (trees_in (take (i + 1) vs))
+pub flat_more : (d : ℕ) (vs : List Value) (i : ℕ) (v : Value) (base out more : List Tree)
+    → trees_in (take (i + 1) vs) ≡ trees_in (take i vs) ++ tree_of v ∷ []
+    → out ≡ base ++ flat d (trees_in (take i vs)) → more ≡ out ++ flat d (tree_of v ∷ [])
+    → more ≡ base ++ flat d (trees_in (take (i + 1) vs))
 flat_more d vs i v base out more e f g =
     g ∙ ap (λ l. l ++ flat d (tree_of v ∷ [])) f ∙ append_assoc base _ _
     ∙ ap (λ l. base ++ l) (sym (flat_each d (trees_in (take i vs)) (tree_of v ∷ [])) ∙ ap (flat d) (sym e))

@@ -1,6 +1,5 @@
 pub mod Found
 pub mod Steps
-pub mod Listed
 pub mod Shuffles
 pub mod Ascending
 pub mod Firsts

@@ -19,6 +19,8 @@ pub trees_counted : (vs : List Value) → length (trees_in vs) ≡ length vs
 trees_counted [] = refl
 trees_counted (v ∷ vs) = ap suc (trees_counted vs)
 
-pub kept_up_to : (k : ℤ) (vs : List Value) → trees_in (take (up_to_place (length vs) k) vs) ≡ up_to k (trees_in vs)
+pub kept_up_to : (k : ℤ) (vs : List Value) → trees_in (take (up_to_place (length vs) k) vs)
+    ≡ up_to k (trees_in vs)
 kept_up_to (pos k) vs = trees_taken k vs
-kept_up_to (negsuc k) vs = trees_taken (length vs - (k + 1)) vs ∙ ap (λ n. take (n - (k + 1)) (trees_in vs)) (sym (trees_counted vs))
+kept_up_to (negsuc k) vs = trees_taken (length vs - (k + 1)) vs
+    ∙ ap (λ n. take (n - (k + 1)) (trees_in vs)) (sym (trees_counted vs))

@@ -36,11 +36,14 @@ run_row ps (c ∷ cs) =
 
 pub one_row : (ps : List Piece) (cs : List ℕ) → shifted one cs (row_of ps cs) ≡ row_of (one ∷ ps) cs
 one_row ps [] = refl
-one_row ps (c ∷ cs) = ap (λ b. b ∷ shifted one cs (row_of ps cs)) (row_head_of ps cs) ∙ ap (λ l. fits ps cs ∷ l) (one_row ps cs)
+one_row ps (c ∷ cs) = ap (λ b. b ∷ shifted one cs (row_of ps cs)) (row_head_of ps cs)
+    ∙ ap (λ l. fits ps cs ∷ l) (one_row ps cs)
 
-pub this_row : (d : ℕ) (ps : List Piece) (cs : List ℕ) → shifted (this d) cs (row_of ps cs) ≡ row_of (this d ∷ ps) cs
+pub this_row : (d : ℕ) (ps : List Piece) (cs : List ℕ)
+    → shifted (this d) cs (row_of ps cs) ≡ row_of (this d ∷ ps) cs
 this_row d ps [] = refl
-this_row d ps (c ∷ cs) = ap (λ b. (takes (this d) c && b) ∷ shifted (this d) cs (row_of ps cs)) (row_head_of ps cs) ∙ ap (λ l. (takes (this d) c && fits ps cs) ∷ l) (this_row d ps cs)
+this_row d ps (c ∷ cs) = ap (λ b. (takes (this d) c && b) ∷ shifted (this d) cs (row_of ps cs))
+    (row_head_of ps cs) ∙ ap (λ l. (takes (this d) c && fits ps cs) ∷ l) (this_row d ps cs)
 
 -- a list with an element isn't empty
 abbrev is_some_list : List Bool → Bool
@@ -59,8 +62,10 @@ ors_last (b ∷ c ∷ bs) zero h = absurd (omega arith)
 ors_last (b ∷ c ∷ bs) (suc at) h = ors_last (c ∷ bs) at (omega arith)
 
 -- one more answer of a run
-pub ors_more : (row old : List Bool) (at : ℕ) (x y : Bool) → suc at < length row → x ≡ get_or row at x → y ≡ get_or row (suc at) y
-    → take (suc at) row ≡ take (suc at) old → drop (suc at) row ≡ ors (drop (suc at) old) → drop at (set row at (x || y)) ≡ ors (drop at old)
+pub ors_more : (row old : List Bool) (at : ℕ) (x y : Bool) → suc at < length row → x ≡ get_or row at x
+    → y ≡ get_or row (suc at) y
+    → take (suc at) row ≡ take (suc at) old → drop (suc at) row ≡ ors (drop (suc at) old)
+    → drop at (set row at (x || y)) ≡ ors (drop at old)
 ors_more [] old at x y l p q f h = absurd (omega arith)
 ors_more (r ∷ []) old zero x y l p q f h = absurd (omega arith)
 ors_more (r ∷ []) old (suc at) x y l p q f h = absurd (omega arith)
@@ -73,7 +78,8 @@ ors_more (r ∷ s ∷ rs) (o ∷ os) (suc at) x y l p q f h =
     let t : take (suc at) (s ∷ rs) ≡ take (suc at) os = cc in
     ors_more (s ∷ rs) os at x y (omega arith) p q t h
 
-pub front_kept : (row old : List Bool) (at : ℕ) (x : Bool) → take (suc at) row ≡ take (suc at) old → take at (set row at x) ≡ take at old
+pub front_kept : (row old : List Bool) (at : ℕ) (x : Bool) → take (suc at) row ≡ take (suc at) old
+    → take at (set row at x) ≡ take at old
 front_kept row old zero x h = refl
 front_kept [] [] (suc at) x h = refl
 front_kept [] (o ∷ os) (suc at) x h = absurd (true≢false (nothing o (sym h)))
@@ -93,7 +99,8 @@ pub ors_counted : (bs : List Bool) → length (ors bs) ≡ length bs
 ors_counted [] = refl
 ors_counted (b ∷ bs) = ap suc (ors_counted bs)
 
-pub shifted_counted : (p : Piece) (cs : List ℕ) (bs : List Bool) → length bs ≡ length cs + 1 → length (shifted p cs bs) ≡ length bs
+pub shifted_counted : (p : Piece) (cs : List ℕ) (bs : List Bool) → length bs ≡ length cs + 1
+    → length (shifted p cs bs) ≡ length bs
 shifted_counted p [] bs h = sym h
 shifted_counted p (c ∷ cs) [] h = absurd (omega arith)
 shifted_counted p (c ∷ cs) (b ∷ bs) h = ap suc (shifted_counted p cs bs (omega arith))

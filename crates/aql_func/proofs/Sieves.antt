@@ -17,13 +17,16 @@ both_tests p q [] = refl
 both_tests p q (t ∷ ts) = by (p t) (both_tests p q ts)
   where
     by : (b : Bool) → filter q (filter p ts) ≡ filter (λ t. p t && q t) ts
-        → filter q (cond b (t ∷ filter p ts) (filter p ts)) ≡ cond (b && q t) (t ∷ filter (λ t. p t && q t) ts) (filter (λ t. p t && q t) ts)
+        → filter q (cond b (t ∷ filter p ts) (filter p ts)) ≡ cond (b && q t)
+        (t ∷ filter (λ t. p t && q t) ts) (filter (λ t. p t && q t) ts)
     by true h = ap (λ l. cond (q t) (t ∷ l) l) h
     by false h = h
 
-pub alike_tests : {A : Type 0} (p q : A → Bool) → ((t : A) → p t ≡ q t) → (ts : List A) → filter p ts ≡ filter q ts
+pub alike_tests : {A : Type 0} (p q : A → Bool) → ((t : A) → p t ≡ q t) → (ts : List A)
+    → filter p ts ≡ filter q ts
 alike_tests p q h [] = refl
-alike_tests p q h (t ∷ ts) = ap (λ b. cond b (t ∷ filter p ts) (filter p ts)) (h t) ∙ ap (λ l. cond (q t) (t ∷ l) l) (alike_tests p q h ts)
+alike_tests p q h (t ∷ ts) = ap (λ b. cond b (t ∷ filter p ts) (filter p ts)) (h t)
+    ∙ ap (λ l. cond (q t) (t ∷ l) l) (alike_tests p q h ts)
 
 -- the distinct values of a list sift as the list does
 pub sift_firsts : (present : Bool) (us ts : List Tree) → sift present (firsts us) ts ≡ sift present us ts
@@ -31,7 +34,8 @@ sift_firsts present us ts = alike_tests _ _ (λ t. ap (λ b. cond present b (not
 
 pub sieve_all : (others : List (List Tree)) (ts : List Tree) → sieve true others ts ≡ in_all others ts
 sieve_all [] ts = sym (all_kept ts)
-sieve_all (us ∷ others) ts = sieve_all others (sift true us ts) ∙ both_tests (is_in us) (λ t. list_all (λ us. is_in us t) others) ts
+sieve_all (us ∷ others) ts = sieve_all others (sift true us ts)
+    ∙ both_tests (is_in us) (λ t. list_all (λ us. is_in us t) others) ts
 
 neither : (a b : Bool) → not a && not b ≡ not (a || b)
 neither true b = refl
@@ -44,13 +48,15 @@ sieve_none (us ∷ others) ts =
     ∙ both_tests (λ t. not (is_in us t)) (λ t. not (list_any (λ us. is_in us t) others)) ts
     ∙ alike_tests _ _ (λ t. neither (is_in us t) (list_any (λ us. is_in us t) others)) ts
 
-pub gathered_push : (lists : List (List Tree)) (ts : List Tree) → flat_map (λ (l : List Tree). l) (lists ++ ts ∷ []) ≡ flat_map (λ (l : List Tree). l) lists ++ ts
+pub gathered_push : (lists : List (List Tree)) (ts : List Tree)
+    → flat_map (λ (l : List Tree). l) (lists ++ ts ∷ []) ≡ flat_map (λ (l : List Tree). l) lists ++ ts
 gathered_push [] ts = nil ts
   where
     nil : (l : List Tree) → l ++ [] ≡ l
     nil [] = refl
     nil (x ∷ xs) = ap (λ r. x ∷ r) (nil xs)
-gathered_push (l ∷ lists) ts = ap (λ r. l ++ r) (gathered_push lists ts) ∙ sym (assoc l (flat_map (λ (l : List Tree). l) lists) ts)
+gathered_push (l ∷ lists) ts = ap (λ r. l ++ r) (gathered_push lists ts)
+    ∙ sym (assoc l (flat_map (λ (l : List Tree). l) lists) ts)
   where
     assoc : (a b c : List Tree) → (a ++ b) ++ c ≡ a ++ (b ++ c)
     assoc [] b c = refl

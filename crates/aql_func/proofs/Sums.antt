@@ -20,7 +20,8 @@ or_false false = refl
 
 pub bad_push : (ts : List Tree) (t : Tree) → list_any is_bad (ts ++ t ∷ []) ≡ list_any is_bad ts || is_bad t
 bad_push [] t = or_false (is_bad t)
-bad_push (u ∷ us) t = ap (λ b. is_bad u || b) (bad_push us t) ∙ grouped (is_bad u) (list_any is_bad us) (is_bad t)
+bad_push (u ∷ us) t = ap (λ b. is_bad u || b) (bad_push us t)
+    ∙ grouped (is_bad u) (list_any is_bad us) (is_bad t)
   where
     grouped : (a b c : Bool) → a || (b || c) ≡ (a || b) || c
     grouped true b c = refl
@@ -38,15 +39,19 @@ or_true : (b : Bool) → b || true ≡ true
 or_true true = refl
 or_true false = refl
 
-pub bad_at : (vs : List Value) (i : ℕ) (d : Value) → i < length vs → is_bad (tree_of (get_or vs i d)) ≡ true → list_any is_bad (trees_in vs) ≡ true
+pub bad_at : (vs : List Value) (i : ℕ) (d : Value) → i < length vs → is_bad (tree_of (get_or vs i d)) ≡ true
+    → list_any is_bad (trees_in vs) ≡ true
 bad_at [] i d h e = absurd (omega arith)
 bad_at (v ∷ vs) zero d h e = ap (λ b. b || list_any is_bad (trees_in vs)) e
-bad_at (v ∷ vs) (suc i) d h e = ap (λ b. is_bad (tree_of v) || b) (bad_at vs i d (omega arith) e) ∙ or_true (is_bad (tree_of v))
+bad_at (v ∷ vs) (suc i) d h e = ap (λ b. is_bad (tree_of v) || b) (bad_at vs i d (omega arith) e)
+    ∙ or_true (is_bad (tree_of v))
 
 pub spoilt : (ts : List Tree) → list_any is_bad ts ≡ true → null ≡ sum_of ts
-spoilt ts h = sym (ap (λ b. cond b null (whole (exact_sum ts))) (ap (λ b. is_null (count_of ts) || b) h ∙ or_true (is_null (count_of ts))))
+spoilt ts h = sym (ap (λ b. cond b null (whole (exact_sum ts))) (ap (λ b. is_null (count_of ts) || b) h
+    ∙ or_true (is_null (count_of ts))))
 
 -- the sum of k + 1 numbers of 64 bits is within this bound
-pub wider : (z n : ℤ) (k : ℕ) → neg_ℤ (pos (2 ^ 63)) ≤ℤ n → n ≤ℤ pos (2 ^ 63) → neg_ℤ (pos (2 ^ 63 * k)) ≤ℤ z → z ≤ℤ pos (2 ^ 63 * k)
+pub wider : (z n : ℤ) (k : ℕ) → neg_ℤ (pos (2 ^ 63)) ≤ℤ n → n ≤ℤ pos (2 ^ 63) → neg_ℤ (pos (2 ^ 63 * k)) ≤ℤ z
+    → z ≤ℤ pos (2 ^ 63 * k)
     → (neg_ℤ (pos (2 ^ 63 * (k + 1))) ≤ℤ (z +ℤ n)) × ((z +ℤ n) ≤ℤ pos (2 ^ 63 * (k + 1)))
 wider z n k a b c d = (omega (arith, ints), omega (arith, ints))

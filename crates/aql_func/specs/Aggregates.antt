@@ -1,5 +1,6 @@
--- The aggregates of COLLECT (the chapter of the AQL manual on COLLECT): what each is of the list of its members'
--- values, as a whole; what a part of the members hands on as its state; and the value from the states of all parts.
+-- The aggregates of COLLECT (the chapter of the AQL manual on COLLECT): what each is of the list of its
+-- members' values, as a whole; what a part of the members hands on as its state; and the value from the
+-- states of all parts.
 use Rattle.std.specs.Prelude.{ℕ, ℤ, pos, ◌+ℤ◌, ◌*ℤ◌, ◌^◌, List, [], ◌∷◌, Bool, true, false, cond, not, ◌||◌, filter, flat_map, map, length, codes, fold, Option, Some, None, unwrap_or, option_map, find}
 use Rattle.std.specs.Int.{int_div_euclid, int_rem_euclid}
 use Rattle.std.specs.List.{list_any}
@@ -112,10 +113,14 @@ part_at place state = at_place (elements state) place
 abbrev pub state_sum : Tree → ℤ
 state_sum s = to_number (part_at (pos 2) s) *ℤ pos (2 ^ 63) +ℤ to_number (part_at (pos 3) s)
 
+-- whether the counts of the states are out of range, or one of the parts has a bad value
+abbrev pub is_spoilt : List Tree → Bool
+is_spoilt states = is_null (counts_joined (map (part_at (pos 0)) states))
+    || list_any (λ s. truth (part_at (pos 1) s)) states
+
 abbrev pub sums_joined : List Tree → Tree
 sums_joined states =
-    cond (is_null (counts_joined (map (part_at (pos 0)) states)) || list_any (λ s. truth (part_at (pos 1) s)) states)
-    null (whole (fold (λ z s. z +ℤ state_sum s) (pos 0) states))
+    cond (is_spoilt states) null (whole (fold (λ z s. z +ℤ state_sum s) (pos 0) states))
 
 -- the aggregate's value from the states of all parts
 abbrev pub joined : Aggregate → List Tree → Tree

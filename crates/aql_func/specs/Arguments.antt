@@ -1,10 +1,9 @@
--- What a function makes of its arguments (the chapter of the AQL manual on functions): one that was left out,
--- one that has to be an array or an object, and a sole array that stands for its elements.
-use Rattle.std.specs.Prelude.{ℕ, List, [], ◌∷◌, Bool, true, false, cond, map, Option, None, Some, unwrap_or, slice_get}
+-- What a function makes of its arguments (the chapter of the AQL manual on functions): one that has to be an
+-- array or an object, and a sole array that stands for its elements.
+use Rattle.std.specs.Prelude.{ℕ, List, [], ◌∷◌, Bool, true, false, cond, map, unwrap_or, slice_get}
 use Rattle.std.specs.List.{list_all}
 use Rattle.aql_value.specs.Tree.{Tree, null, array, object}
 use Rattle.aql_value.specs.Parts.{elements, attributes}
-use Rattle.aql_value.specs.Truth.{truth}
 
 -- the argument at a place, null where it was left out
 abbrev pub argument : List Tree → ℕ → Tree
@@ -39,8 +38,3 @@ abbrev pub spread : List Tree → List Tree
 spread [] = []
 spread (t ∷ []) = opened t
 spread (t ∷ u ∷ ts) = t ∷ u ∷ ts
-
--- whether an argument was given, and is true-like
-abbrev pub is_set : Option Tree → Bool
-is_set None = false
-is_set (Some t) = truth t

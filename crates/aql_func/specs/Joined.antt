@@ -1,4 +1,4 @@
--- A text put behind others, with the separator between where there are others; for private clauses.
+-- A text put after others, with the separator between where there are others; for private clauses.
 use Rattle.std.specs.Prelude.{ℕ, List, ◌++◌, Bool, true, false}
 
 abbrev pub with_part : Bool → List ℕ → List ℕ → List ℕ → List ℕ

@@ -1,5 +1,6 @@
--- The operator LIKE (AQL fundamentals, Operators): `_` stands for one character, `%` for any run of characters,
--- and a backslash before `_`, `%` or a backslash for that character itself. Any other backslash is itself.
+-- The operator LIKE (AQL fundamentals, Operators): `_` stands for one character, `%` for any run of
+-- characters, and a backslash before `_`, `%` or a backslash for that character itself. Any other backslash
+-- is itself.
 use Rattle.std.specs.Prelude.{ℕ, List, [], ◌∷◌, Bool, true, false, cond, ◌&&◌, ◌||◌, ◌==◌, chars}
 use Rattle.std.specs.List.{list_any}
 use Rattle.aql_value.specs.Tree.{Tree, text}

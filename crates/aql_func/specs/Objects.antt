@@ -1,5 +1,5 @@
--- Objects: attributes that are set, kept or left out, and the parts of an id (the chapter of the AQL manual on
--- document and object functions).
+-- Objects: attributes that are set, kept or left out, and the parts of an id (the chapter of the AQL manual
+-- on document and object functions).
 use Rattle.std.specs.Prelude.{ℕ, List, [], ◌∷◌, Bool, cond, not, ◌&&◌, ◌==◌, filter, flat_map, fold, length, codes, Option, None, Some, unwrap_or, option_map}
 use Rattle.std.specs.List.{list_any, list_all, before_first, after_first}
 use Rattle.aql_value.specs.Tree.{Tree, null, text, object}

@@ -1,5 +1,5 @@
--- The operators (AQL fundamentals, Operators). Arithmetic is exact over numbers of 64 bits and null where it has
--- no such number; comparisons follow the order of all values; `&&` and `||` give one of their two sides.
+-- The operators (AQL fundamentals, Operators). Arithmetic is exact over numbers of 64 bits and null where it
+-- has no such number; comparisons follow the order of all values; `&&` and `||` give one of their two sides.
 use Rattle.std.specs.Prelude.{ℕ, zero, suc, ℤ, pos, negsuc, ◌+ℤ◌, ◌-ℤ◌, ◌*ℤ◌, neg_ℤ, int_div, int_rem, int_le, unsigned_abs, ◌+◌, List, [], ◌∷◌, cond, not, nat_le}
 use Rattle.std.specs.Ordering.{int_eq}
 use Rattle.aql_value.specs.Tree.{Tree, null, boolean, number}

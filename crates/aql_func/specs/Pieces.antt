@@ -18,7 +18,7 @@ abbrev pub or_head : Bool → List Bool → Bool
 or_head b [] = b
 or_head b (c ∷ cs) = b || c
 
--- each answer, or one behind it
+-- each answer, or a later one
 abbrev pub ors : List Bool → List Bool
 ors [] = []
 ors (b ∷ bs) = or_head b (ors bs) ∷ ors bs
@@ -32,7 +32,7 @@ abbrev pub head_of : List Bool → Bool
 head_of [] = false
 head_of (b ∷ bs) = b
 
--- the answers behind one more piece that takes one character
+-- the answers with one more piece in front that takes one character
 abbrev pub shifted : Piece → List ℕ → List Bool → List Bool
 shifted p [] bs = false ∷ []
 shifted p (c ∷ cs) [] = false ∷ []

@@ -1,4 +1,5 @@
--- How many elements of a list are kept where a negative number leaves out that many at the end; for private clauses.
+-- How many elements of a list are kept where a negative number leaves out that many at the end; for private
+-- clauses.
 use Rattle.std.specs.Prelude.{ℕ, ℤ, pos, negsuc, ◌+◌, ◌-◌}
 
 abbrev pub up_to_place : ℕ → ℤ → ℕ

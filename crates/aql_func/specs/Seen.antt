@@ -1,4 +1,4 @@
--- An argument that may have been left out, as the definitions see it.
+-- An argument that may be left out, as the definitions see it.
 use Rattle.std.specs.Prelude.{Option, option_map}
 use Rattle.std.specs.Borrow.{Bor}
 use Rattle.aql_value.specs.Tree.{Tree}

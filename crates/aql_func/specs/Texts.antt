@@ -14,7 +14,7 @@ by_characters f s = encode_utf8_all (f (chars s))
 abbrev pub substring : ℤ → Option Tree → List ℕ → List ℕ
 substring start count s = by_characters (λ cs. at_most count (drop (place_from (length cs) start) cs)) s
 
--- all that stands behind some start of the list, the list itself first
+-- what is left of the list after each of its starts, the list itself first
 abbrev pub suffixes : List ℕ → List (List ℕ)
 suffixes [] = [] ∷ []
 suffixes (c ∷ cs) = (c ∷ cs) ∷ suffixes cs
@@ -30,7 +30,8 @@ abbrev pub onto_first : ℕ → List (List ℕ) → List (List ℕ)
 onto_first c [] = (c ∷ []) ∷ []
 onto_first c (p ∷ ps) = (c ∷ p) ∷ ps
 
--- the parts of s between the occurrences of u, the leftmost first; `passed` bytes belong to the last one still
+-- the parts of s between the occurrences of u, the leftmost first; the first `passed` bytes belong to the
+-- occurrence before s
 abbrev pub parts_after : ℕ → List ℕ → List ℕ → List (List ℕ)
 parts_after passed u [] = [] ∷ []
 parts_after zero u (c ∷ cs) = cond (begins_with (c ∷ cs) u)
@@ -42,7 +43,7 @@ abbrev pub parts_of : List ℕ → List ℕ → List (List ℕ)
 parts_of [] s = map encode_utf8 (chars s)
 parts_of (c ∷ u) s = parts_after 0 (c ∷ u) s
 
--- texts one behind another, with the separator between
+-- texts one after another, with the separator between
 abbrev pub joined_by : List ℕ → List (List ℕ) → List ℕ
 joined_by separator [] = []
 joined_by separator (s ∷ []) = s

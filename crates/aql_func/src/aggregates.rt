@@ -7,29 +7,35 @@ ghost use Rattle.aql_func.specs.Functions.{call};
 ghost use Rattle.aql_func.specs.Seen.{given};
 
 use crate::FuncName;
-use crate::arguments::{array_at, is_null};
+use crate::arguments::{array, is_null};
 use aql_value::{Items, OutOfMemory, Value, cmp, copy};
 use std::alloc::Global;
 
 pub(crate) fn min(alloc: Global, args: &Items) -> Result<Value, OutOfMemory>
     ensures { IfOk result (λ v. tree_of v ≡ call FuncName.Min args.now) }
 {
-    match array_at(args, 0) {
+    let [any_array] = args.as_slice() else {
+        return Ok(Value::Null);
+    };
+    match array(any_array) {
         None => Ok(Value::Null),
-        Some(list) => copied_or_null(alloc, least(list.as_slice())),
+        Some(list) => copy_or_null(alloc, minimum(list.as_slice())),
     }
 }
 
 pub(crate) fn max(alloc: Global, args: &Items) -> Result<Value, OutOfMemory>
     ensures { IfOk result (λ v. tree_of v ≡ call FuncName.Max args.now) }
 {
-    match array_at(args, 0) {
+    let [any_array] = args.as_slice() else {
+        return Ok(Value::Null);
+    };
+    match array(any_array) {
         None => Ok(Value::Null),
-        Some(list) => copied_or_null(alloc, greatest(list.as_slice())),
+        Some(list) => copy_or_null(alloc, maximum(list.as_slice())),
     }
 }
 
-fn copied_or_null(alloc: Global, value: Option<&Value>) -> Result<Value, OutOfMemory>
+fn copy_or_null(alloc: Global, value: Option<&Value>) -> Result<Value, OutOfMemory>
     ensures { IfOk result (λ v. tree_of v ≡ unwrap_or (given value.entry) null) }
 {
     match value {
@@ -39,7 +45,7 @@ fn copied_or_null(alloc: Global, value: Option<&Value>) -> Result<Value, OutOfMe
 }
 
 // The least of the values that aren't null.
-fn least(values: &[Value]) -> Option<&Value>
+fn minimum(values: &[Value]) -> Option<&Value>
     ensures { given result ≡ spec.best spec.lesser (trees_in values.now) }
 {
     let mut best = None;
@@ -52,7 +58,7 @@ fn least(values: &[Value]) -> Option<&Value>
 }
 
 // The greatest of the values that aren't null.
-fn greatest(values: &[Value]) -> Option<&Value>
+fn maximum(values: &[Value]) -> Option<&Value>
     ensures { given result ≡ spec.best spec.greater (trees_in values.now) }
 {
     let mut best = None;
@@ -99,7 +105,10 @@ fn greater<'a>(value: &'a Value, best: Option<&'a Value>) -> Option<&'a Value>
 pub(crate) fn sum(args: &Items) -> Value
     ensures { tree_of result ≡ call FuncName.Sum args.now }
 {
-    match array_at(args, 0) {
+    let [any_array] = args.as_slice() else {
+        return Value::Null;
+    };
+    match array(any_array) {
         None => Value::Null,
         Some(list) => sum_of(list.as_slice()),
     }

@@ -1,31 +1,27 @@
-ghost use Rattle.std.specs.Prelude.{◌≡◌, IfOk, IsTrue, length};
+ghost use Rattle.std.specs.Prelude.{◌≡◌, IfOk};
 ghost use Rattle.aql_value.specs.View.{tree_of};
 ghost use Rattle.aql_func.specs.Functions as spec;
-ghost use Rattle.aql_func.specs.Names.{allows};
 
-use crate::arguments::number_at;
 use crate::{FuncName, aggregates, arrays, objects, sets, texts, values};
 use aql_value::{Items, OutOfMemory, Value};
 use std::alloc::Global;
 
-/// The value of a function of these arguments (the chapters of the AQL manual on functions), as
-/// many as its arity allows.
+/// The value of a function of these arguments (the chapters of the AQL manual on functions).
 pub fn call(alloc: Global, f: FuncName, args: &Items) -> Result<Value, OutOfMemory>
-    requires { IsTrue (allows f (length args.now)) }
     ensures { IfOk result (λ v. tree_of v ≡ spec.call f args.now) }
 {
     match f {
-        FuncName::IsNull => Ok(values::has_type(args, "null")),
-        FuncName::IsBool => Ok(values::has_type(args, "bool")),
-        FuncName::IsNumber => Ok(values::has_type(args, "number")),
-        FuncName::IsString => Ok(values::has_type(args, "string")),
-        FuncName::IsArray => Ok(values::has_type(args, "array")),
-        FuncName::IsObject => Ok(values::has_type(args, "object")),
+        FuncName::IsNull => Ok(values::is_null(args)),
+        FuncName::IsBool => Ok(values::is_bool(args)),
+        FuncName::IsNumber => Ok(values::is_number(args)),
+        FuncName::IsString => Ok(values::is_string(args)),
+        FuncName::IsArray => Ok(values::is_array(args)),
+        FuncName::IsObject => Ok(values::is_object(args)),
         FuncName::Typename => values::typename(alloc, args),
         FuncName::ToBool => Ok(values::bool_of(args)),
-        FuncName::ToNumber => Ok(Value::Num(number_at(args, 0))),
+        FuncName::ToNumber => Ok(values::number_of(args)),
         FuncName::ToString => values::string_of(alloc, args),
-        FuncName::ToArray => values::array_of_value(alloc, args),
+        FuncName::ToArray => values::array_of(alloc, args),
         FuncName::NotNull => values::not_null(alloc, args),
         FuncName::Abs => Ok(values::abs(args)),
         FuncName::Min => aggregates::min(alloc, args),
@@ -35,7 +31,7 @@ pub fn call(alloc: Global, f: FuncName, args: &Items) -> Result<Value, OutOfMemo
         FuncName::Concat => texts::concat(alloc, args),
         FuncName::ConcatSeparator => texts::concat_separator(alloc, args),
         FuncName::Length => values::length(alloc, args),
-        FuncName::Count => values::length(alloc, args),
+        FuncName::Count => values::count(alloc, args),
         FuncName::Substring => texts::substring(alloc, args),
         FuncName::Left => texts::left(alloc, args),
         FuncName::Right => texts::right(alloc, args),
@@ -54,7 +50,7 @@ pub fn call(alloc: Global, f: FuncName, args: &Items) -> Result<Value, OutOfMemo
         FuncName::SortedUnique => arrays::sorted_unique(alloc, args),
         FuncName::CountDistinct => arrays::count_distinct(alloc, args),
         FuncName::Flatten => arrays::flatten(alloc, args),
-        FuncName::Slice => arrays::sliced(alloc, args),
+        FuncName::Slice => arrays::slice_of(alloc, args),
         FuncName::Intersection => sets::intersection(alloc, args),
         FuncName::Minus => sets::minus(alloc, args),
         FuncName::Union => sets::union(alloc, args),

@@ -24,7 +24,7 @@ pub(crate) fn array_of(alloc: Global, values: Vec<Value>) -> Result<Items, OutOf
 }
 
 // An array of equal values.
-pub(crate) fn copied(alloc: Global, values: &[Value]) -> Result<Items, OutOfMemory>
+pub(crate) fn copy_all(alloc: Global, values: &[Value]) -> Result<Items, OutOfMemory>
     ensures { IfOk result (λ w. w ≡ trees_in values.now) }
 {
     let mut out = Vec::new(alloc);
@@ -83,7 +83,7 @@ pub(crate) fn firsts(alloc: Global, values: &[Value]) -> Result<Vec<Value>, OutO
     Ok(out)
 }
 
-pub(crate) fn distinct(alloc: Global, values: &[Value]) -> Result<Items, OutOfMemory>
+pub(crate) fn distinct_values(alloc: Global, values: &[Value]) -> Result<Items, OutOfMemory>
     ensures { IfOk result (λ w. w ≡ spec.distinct (trees_in values.now)) }
 {
     let mut out = firsts(alloc, values)?;
@@ -91,7 +91,7 @@ pub(crate) fn distinct(alloc: Global, values: &[Value]) -> Result<Items, OutOfMe
     array_of(alloc, out)
 }
 
-pub(crate) fn sorted(alloc: Global, values: &[Value]) -> Result<Items, OutOfMemory>
+pub(crate) fn copy_sorted(alloc: Global, values: &[Value]) -> Result<Items, OutOfMemory>
     ensures { IfOk result (λ w. w ≡ spec.ascending (trees_in values.now)) }
 {
     let mut out = Vec::new(alloc);
@@ -101,7 +101,7 @@ pub(crate) fn sorted(alloc: Global, values: &[Value]) -> Result<Items, OutOfMemo
 }
 
 // The values that are in the other list, where `present` says so, and else those that are not.
-pub(crate) fn sifted(
+pub(crate) fn sift(
     alloc: Global,
     values: &[Value],
     other: &[Value],
@@ -111,10 +111,10 @@ pub(crate) fn sifted(
         (λ w. trees_in w.items ≡ sift present (trees_in other.now) (trees_in values.now)) }
 {
     let set = distinct_set(alloc, other)?;
-    sifted_by(alloc, values, &set, present)
+    sift_by(alloc, values, &set, present)
 }
 
-fn sifted_by(
+fn sift_by(
     alloc: Global,
     values: &[Value],
     set: &IndexSet<Value>,
@@ -162,7 +162,7 @@ pub(crate) fn front<T>(items: &[T], count: usize) -> &[T]
     }
 }
 
-pub(crate) fn behind<T>(items: &[T], start: usize) -> &[T]
+pub(crate) fn rest_from<T>(items: &[T], start: usize) -> &[T]
     ensures { result.now ≡ drop start items.now }
 {
     if start < items.len() {
@@ -184,7 +184,7 @@ pub(crate) fn at_most<'a, T>(items: &'a [T], count: Option<&Value>) -> &'a [T]
 pub(crate) fn last_of<T>(items: &[T], count: usize) -> &[T]
     ensures { result.now ≡ spec.last_of count items.now }
 {
-    behind(items, items.len().saturating_sub(count))
+    rest_from(items, items.len().saturating_sub(count))
 }
 
 fn up_to(values: &[Value], count: i64) -> &[Value]
@@ -205,7 +205,7 @@ fn places_up_to(size: usize, count: i64) -> usize
 pub(crate) fn slice<'a>(values: &'a [Value], start: i64, count: Option<&Value>) -> &'a [Value]
     ensures { trees_in result.now ≡ spec.slice start (given count.entry) (trees_in values.now) }
 {
-    let rest = behind(values, place_from(values.len(), start));
+    let rest = rest_from(values, place_from(values.len(), start));
     match count {
         Some(count) => up_to(rest, to_number(count)),
         None => rest,
@@ -230,7 +230,7 @@ fn flatten_into(
     Ok(())
 }
 
-pub(crate) fn flat(alloc: Global, values: &[Value], depth: usize) -> Result<Items, OutOfMemory>
+pub(crate) fn flat_copy(alloc: Global, values: &[Value], depth: usize) -> Result<Items, OutOfMemory>
     ensures { IfOk result (λ w. w ≡ spec.flat depth (trees_in values.now)) }
 {
     let mut out = Items::new(alloc);
@@ -238,30 +238,28 @@ pub(crate) fn flat(alloc: Global, values: &[Value], depth: usize) -> Result<Item
     Ok(out)
 }
 
-// `more` added to the list, one by one.
-pub(crate) fn all_added(
-    alloc: Global,
-    values: &[Value],
-    more: Vec<Value>,
-) -> Result<Items, OutOfMemory>
-    ensures { IfOk result (λ w. w ≡ spec.all_added false (trees_in values.now) (trees_in more.items)) }
+// Copies of `more` added to the list, one by one.
+pub(crate) fn add_all(alloc: Global, values: &[Value], more: &[Value]) -> Result<Items, OutOfMemory>
+    ensures { IfOk result
+        (λ w. w ≡ spec.all_added false (trees_in values.now) (trees_in more.now)) }
 {
-    let mut out = copied(alloc, values)?;
+    let mut out = copy_all(alloc, values)?;
     for value in more {
-        out.push(value)?;
+        out.push(copy(alloc, value)?)?;
     }
     Ok(out)
 }
 
-// `more` added to the list, one by one, where the list doesn't have it.
-pub(crate) fn all_added_once(
+// Copies of `more` added to the list, one by one, where the list doesn't have it.
+pub(crate) fn add_all_once(
     alloc: Global,
     values: &[Value],
     more: &[Value],
 ) -> Result<Items, OutOfMemory>
-    ensures { IfOk result (λ w. w ≡ spec.all_added true (trees_in values.now) (trees_in more.now)) }
+    ensures { IfOk result
+        (λ w. w ≡ spec.all_added true (trees_in values.now) (trees_in more.now)) }
 {
-    let mut out = copied(alloc, values)?;
+    let mut out = copy_all(alloc, values)?;
     let mut seen = distinct_set(alloc, values)?;
     for value in more {
         add_once(alloc, value, &mut seen, &mut out)?;

@@ -1,7 +1,11 @@
-ghost use Rattle.std.specs.Prelude.{◌≡◌, find};
-ghost use Rattle.aql_func.specs.Names.{is_named, looked_up, signature};
+ghost use Rattle.std.specs.Cmp.Lexicographic.{slice_cmp};
+ghost use Rattle.std.specs.Ordering.{nat_cmp};
+ghost use Rattle.std.specs.Prelude.{◌≡◌};
+ghost use Rattle.std.specs.Str.{str_to_ascii_lowercase};
+ghost use Rattle.aql_func.specs.Names.{looked_up, signature};
 
 use crate::signatures::{Arity, table};
+use std::cmp::Ordering;
 
 /// A function of the language (the chapter of the AQL manual on functions).
 #[derive(Clone, Copy, Debug, PartialEq, Eq)]
@@ -59,58 +63,59 @@ pub enum FuncName {
     ParseIdentifier,
 }
 
+// All functions, in the order of their names.
 const FUNCTIONS: [FuncName; 51] = [
-    FuncName::IsNull,
-    FuncName::IsBool,
-    FuncName::IsNumber,
-    FuncName::IsString,
+    FuncName::Abs,
+    FuncName::Append,
+    FuncName::Attributes,
+    FuncName::Concat,
+    FuncName::ConcatSeparator,
+    FuncName::Contains,
+    FuncName::Count,
+    FuncName::CountDistinct,
+    FuncName::First,
+    FuncName::Flatten,
+    FuncName::Has,
+    FuncName::Intersection,
     FuncName::IsArray,
+    FuncName::IsBool,
+    FuncName::IsNull,
+    FuncName::IsNumber,
     FuncName::IsObject,
-    FuncName::Typename,
+    FuncName::IsString,
+    FuncName::Keep,
+    FuncName::Last,
+    FuncName::Left,
+    FuncName::Length,
+    FuncName::Max,
+    FuncName::Merge,
+    FuncName::Min,
+    FuncName::Minus,
+    FuncName::NotNull,
+    FuncName::Nth,
+    FuncName::ParseIdentifier,
+    FuncName::Position,
+    FuncName::Push,
+    FuncName::Range,
+    FuncName::Reverse,
+    FuncName::Right,
+    FuncName::Slice,
+    FuncName::Sorted,
+    FuncName::SortedUnique,
+    FuncName::Split,
+    FuncName::StartsWith,
+    FuncName::Substring,
+    FuncName::Sum,
+    FuncName::ToArray,
     FuncName::ToBool,
     FuncName::ToNumber,
     FuncName::ToString,
-    FuncName::ToArray,
-    FuncName::NotNull,
-    FuncName::Abs,
-    FuncName::Min,
-    FuncName::Max,
-    FuncName::Sum,
-    FuncName::Range,
-    FuncName::Concat,
-    FuncName::ConcatSeparator,
-    FuncName::Length,
-    FuncName::Count,
-    FuncName::Substring,
-    FuncName::Left,
-    FuncName::Right,
-    FuncName::Contains,
-    FuncName::StartsWith,
-    FuncName::Split,
-    FuncName::Reverse,
-    FuncName::First,
-    FuncName::Last,
-    FuncName::Nth,
-    FuncName::Position,
-    FuncName::Push,
-    FuncName::Append,
-    FuncName::Unique,
-    FuncName::Sorted,
-    FuncName::SortedUnique,
-    FuncName::CountDistinct,
-    FuncName::Flatten,
-    FuncName::Slice,
-    FuncName::Intersection,
-    FuncName::Minus,
+    FuncName::Typename,
     FuncName::Union,
     FuncName::UnionDistinct,
-    FuncName::Attributes,
-    FuncName::Values,
-    FuncName::Has,
-    FuncName::Merge,
+    FuncName::Unique,
     FuncName::Unset,
-    FuncName::Keep,
-    FuncName::ParseIdentifier,
+    FuncName::Values,
 ];
 
 /// The function of a name, in any letter case of its ASCII letters; `None` exactly where no
@@ -118,18 +123,27 @@ const FUNCTIONS: [FuncName; 51] = [
 pub fn lookup(name: &str) -> Option<FuncName>
     ensures { result ≡ looked_up name.now }
 {
-    first_named(&FUNCTIONS, name)
+    match FUNCTIONS.binary_search_by(|f| compare_name(*f, name)) {
+        Ok(place) => Some(FUNCTIONS[place]),
+        Err(_) => None,
+    }
 }
 
-fn first_named(functions: &[FuncName], name: &str) -> Option<FuncName>
-    ensures { result ≡ find (is_named name.now) functions.now }
+// How the name of a function compares with a text in any letter case of their ASCII letters.
+fn compare_name(f: FuncName, name: &str) -> Ordering
+    ensures { result ≡ slice_cmp nat_cmp (str_to_ascii_lowercase (signature f).name)
+        (str_to_ascii_lowercase name.now) }
 {
-    for f in functions {
-        if table(*f).name.eq_ignore_ascii_case(name) {
-            return Some(*f);
-        }
-    }
-    None
+    compare(table(f).name, name)
+}
+
+// How two texts compare in any letter case of their ASCII letters.
+fn compare(a: &str, b: &str) -> Ordering
+    ensures { result
+        ≡ slice_cmp nat_cmp (str_to_ascii_lowercase a.now) (str_to_ascii_lowercase b.now) }
+{
+    let b = b.bytes().map(|byte| byte.to_ascii_lowercase());
+    a.bytes().map(|byte| byte.to_ascii_lowercase()).cmp(b)
 }
 
 /// How many arguments a function takes.

@@ -12,10 +12,12 @@ ghost use Rattle.aql_func.specs.Functions.{call};
 ghost use Rattle.aql_func.specs.Objects as spec;
 
 use crate::FuncName;
-use crate::arguments::{object, object_at, opened_value, text_at};
-use crate::lists::{append, behind, distinct_set};
+use crate::arguments::{object, opened_value};
+use crate::lists::{append, distinct_set};
 use crate::texts::{push_text, spread};
-use aql_value::{Items, Member, Members, OutOfMemory, Text, Value, copy, recall_well_formed};
+use aql_value::{
+    Items, Member, Members, OutOfMemory, Text, Value, copy, recall_well_formed, to_text,
+};
 use indexmap::IndexSet;
 use std::alloc::Global;
 
@@ -42,7 +44,10 @@ fn names_of(alloc: Global, members: &Members) -> Result<Items, OutOfMemory>
 pub(crate) fn attributes(alloc: Global, args: &Items) -> Result<Value, OutOfMemory>
     ensures { IfOk result (λ v. tree_of v ≡ call FuncName.Attributes args.now) }
 {
-    match object_at(args, 0) {
+    let [document] = args.as_slice() else {
+        return Ok(Value::Null);
+    };
+    match object(document) {
         None => Ok(Value::Null),
         Some(members) => Ok(Value::List(names_of(alloc, members)?)),
     }
@@ -51,7 +56,10 @@ pub(crate) fn attributes(alloc: Global, args: &Items) -> Result<Value, OutOfMemo
 pub(crate) fn values(alloc: Global, args: &Items) -> Result<Value, OutOfMemory>
     ensures { IfOk result (λ v. tree_of v ≡ call FuncName.Values args.now) }
 {
-    match object_at(args, 0) {
+    let [document] = args.as_slice() else {
+        return Ok(Value::Null);
+    };
+    match object(document) {
         None => Ok(Value::Null),
         Some(members) => Ok(Value::List(values_of(alloc, members)?)),
     }
@@ -60,8 +68,11 @@ pub(crate) fn values(alloc: Global, args: &Items) -> Result<Value, OutOfMemory>
 pub(crate) fn has(alloc: Global, args: &Items) -> Result<Value, OutOfMemory>
     ensures { IfOk result (λ v. tree_of v ≡ call FuncName.Has args.now) }
 {
-    let name = text_at(alloc, args, 1)?;
-    match object_at(args, 0) {
+    let [document, name] = args.as_slice() else {
+        return Ok(Value::Null);
+    };
+    let name = to_text(alloc, name)?;
+    match object(document) {
         None => Ok(Value::Null),
         Some(members) => Ok(Value::Bool(has_attribute(members, name.as_str()))),
     }
@@ -94,10 +105,10 @@ fn set_copy(alloc: Global, out: &mut Members, member: &Member) -> Result<(), Out
 pub(crate) fn merge(alloc: Global, args: &Items) -> Result<Value, OutOfMemory>
     ensures { IfOk result (λ v. tree_of v ≡ call FuncName.Merge args.now) }
 {
-    merged(alloc, spread(args.as_slice()))
+    merge_all(alloc, spread(args.as_slice()))
 }
 
-fn merged(alloc: Global, values: &[Value]) -> Result<Value, OutOfMemory>
+fn merge_all(alloc: Global, values: &[Value]) -> Result<Value, OutOfMemory>
     ensures { IfOk result (λ v. tree_of v ≡ spec.merged (trees_in values.now)) }
 {
     let mut out = Members::new(alloc);
@@ -113,29 +124,25 @@ fn merged(alloc: Global, values: &[Value]) -> Result<Value, OutOfMemory>
 pub(crate) fn unset(alloc: Global, args: &Items) -> Result<Value, OutOfMemory>
     ensures { IfOk result (λ v. tree_of v ≡ call FuncName.Unset args.now) }
 {
-    match args.get(0) {
-        Some(value) => {
-            let names = named(alloc, behind(args.as_slice(), 1))?;
-            chosen(alloc, value, &names, false)
-        }
-        None => Ok(Value::Null),
-    }
+    let [document, names @ ..] = args.as_slice() else {
+        return Ok(Value::Null);
+    };
+    let names = sought_names(alloc, names)?;
+    choose(alloc, document, &names, false)
 }
 
 pub(crate) fn keep(alloc: Global, args: &Items) -> Result<Value, OutOfMemory>
     ensures { IfOk result (λ v. tree_of v ≡ call FuncName.Keep args.now) }
 {
-    match args.get(0) {
-        Some(value) => {
-            let names = named(alloc, behind(args.as_slice(), 1))?;
-            chosen(alloc, value, &names, true)
-        }
-        None => Ok(Value::Null),
-    }
+    let [document, names @ ..] = args.as_slice() else {
+        return Ok(Value::Null);
+    };
+    let names = sought_names(alloc, names)?;
+    choose(alloc, document, &names, true)
 }
 
 // The values among which an attribute's name is sought: the arguments, with arrays opened.
-fn named(alloc: Global, args: &[Value]) -> Result<Vec<Value>, OutOfMemory>
+fn sought_names(alloc: Global, args: &[Value]) -> Result<Vec<Value>, OutOfMemory>
     ensures { IfOk result (λ w. trees_in w.items ≡ flat_map opened (trees_in args.now)) }
 {
     let mut out = Vec::new(alloc);
@@ -146,7 +153,7 @@ fn named(alloc: Global, args: &[Value]) -> Result<Vec<Value>, OutOfMemory>
 }
 
 // The attributes whose names are among these values, where `present` says so, and else the others.
-fn chosen(
+fn choose(
     alloc: Global,
     value: &Value,
     names: &[Value],
@@ -157,14 +164,14 @@ fn chosen(
 {
     recall_well_formed(value);
     match value {
-        Value::Object(members) => Ok(Value::Object(chosen_members(
+        Value::Object(members) => Ok(Value::Object(choose_members(
             alloc, members, names, present,
         )?)),
         _ => Ok(Value::Null),
     }
 }
 
-fn chosen_members(
+fn choose_members(
     alloc: Global,
     members: &Members,
     names: &[Value],
@@ -205,25 +212,25 @@ fn is_among(alloc: Global, names: &IndexSet<Value>, name: &Text) -> Result<bool,
 pub(crate) fn parse_identifier(alloc: Global, args: &Items) -> Result<Value, OutOfMemory>
     ensures { IfOk result (λ v. tree_of v ≡ call FuncName.ParseIdentifier args.now) }
 {
-    match args.get(0) {
-        Some(value) => parsed(alloc, value),
-        None => Ok(Value::Null),
-    }
+    let [value] = args.as_slice() else {
+        return Ok(Value::Null);
+    };
+    parse_id(alloc, value)
 }
 
-fn parsed(alloc: Global, value: &Value) -> Result<Value, OutOfMemory>
+fn parse_id(alloc: Global, value: &Value) -> Result<Value, OutOfMemory>
     ensures { IfOk result (λ v. tree_of v ≡ spec.parsed_identifier (tree_of value.now)) }
 {
     match value {
         Value::Object(members) => match members.value("_id") {
-            Some(id) => parsed_text(alloc, id),
+            Some(id) => parse_id_text(alloc, id),
             None => Ok(Value::Null),
         },
-        _ => parsed_text(alloc, value),
+        _ => parse_id_text(alloc, value),
     }
 }
 
-fn parsed_text(alloc: Global, value: &Value) -> Result<Value, OutOfMemory>
+fn parse_id_text(alloc: Global, value: &Value) -> Result<Value, OutOfMemory>
     ensures { IfOk result (λ v. tree_of v ≡ spec.identified (spec.id_of_text (tree_of value.now))) }
 {
     match value {

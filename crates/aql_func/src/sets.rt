@@ -12,7 +12,7 @@ ghost use Rattle.aql_func.specs.Sifted.{sieve};
 
 use crate::FuncName;
 use crate::arguments::{array, is_array};
-use crate::lists::{append, array_of, distinct, sifted};
+use crate::lists::{append, array_of, distinct_values, sift};
 use aql_value::{Items, OutOfMemory, Value};
 use std::alloc::Global;
 
@@ -40,18 +40,18 @@ fn elements(value: &Value) -> &[Value]
 pub(crate) fn intersection(alloc: Global, args: &Items) -> Result<Value, OutOfMemory>
     ensures { IfOk result (λ v. tree_of v ≡ call FuncName.Intersection args.now) }
 {
-    sieved(alloc, args.as_slice(), true)
+    sieve_all(alloc, args.as_slice(), true)
 }
 
 pub(crate) fn minus(alloc: Global, args: &Items) -> Result<Value, OutOfMemory>
     ensures { IfOk result (λ v. tree_of v ≡ call FuncName.Minus args.now) }
 {
-    sieved(alloc, args.as_slice(), false)
+    sieve_all(alloc, args.as_slice(), false)
 }
 
 // The distinct elements of the first array that are in all the others, where `present` says so, and
 // else those that are in none of them.
-fn sieved(alloc: Global, args: &[Value], present: bool) -> Result<Value, OutOfMemory>
+fn sieve_all(alloc: Global, args: &[Value], present: bool) -> Result<Value, OutOfMemory>
     ensures { IfOk result (λ v. tree_of v ≡ of_lists (trees_in args.now)
         (λ lists. list (spec.distinct (sieve present (drop 1 lists) (head lists))))) }
 {
@@ -61,13 +61,13 @@ fn sieved(alloc: Global, args: &[Value], present: bool) -> Result<Value, OutOfMe
     match args.split_first() {
         None => Ok(Value::List(Items::new(alloc))),
         Some((first, others)) => {
-            let left = sieved_through(alloc, elements(first), others, present)?;
-            distinct(alloc, &left).map(Value::List)
+            let left = sieve_through(alloc, elements(first), others, present)?;
+            distinct_values(alloc, &left).map(Value::List)
         }
     }
 }
 
-fn sieved_through(
+fn sieve_through(
     alloc: Global,
     values: &[Value],
     others: &[Value],
@@ -79,7 +79,7 @@ fn sieved_through(
     let mut left = Vec::new(alloc);
     append(alloc, &mut left, values)?;
     for other in others {
-        left = sifted(alloc, &left, elements(other), present)?;
+        left = sift(alloc, &left, elements(other), present)?;
     }
     Ok(left)
 }
@@ -91,7 +91,7 @@ pub(crate) fn union(alloc: Global, args: &Items) -> Result<Value, OutOfMemory>
     if !all_arrays(lists) {
         return Ok(Value::Null);
     }
-    let out = gathered(alloc, lists)?;
+    let out = gather(alloc, lists)?;
     array_of(alloc, out).map(Value::List)
 }
 
@@ -102,12 +102,12 @@ pub(crate) fn union_distinct(alloc: Global, args: &Items) -> Result<Value, OutOf
     if !all_arrays(lists) {
         return Ok(Value::Null);
     }
-    let out = gathered(alloc, lists)?;
-    distinct(alloc, &out).map(Value::List)
+    let out = gather(alloc, lists)?;
+    distinct_values(alloc, &out).map(Value::List)
 }
 
 // The elements of all the arrays, in order.
-fn gathered(alloc: Global, lists: &[Value]) -> Result<Vec<Value>, OutOfMemory>
+fn gather(alloc: Global, lists: &[Value]) -> Result<Vec<Value>, OutOfMemory>
     ensures { IfOk result (λ w. trees_in w.items
         ≡ flat_map (λ ts. ts) (map parts.elements (trees_in lists.now))) }
 {

@@ -1,16 +1,19 @@
 // Functions of texts. Lengths and places count characters.
 ghost use Rattle.std.specs.Prelude.{[], ◌++◌, ◌<◌, ◌∷◌, ◌≡◌, chars, encode_utf8_all, IfOk, length, map, OnOk, string_bytes};
+ghost use Rattle.aql_value.specs.Convert.{to_number, to_text};
 ghost use Rattle.aql_value.specs.Tree.{text};
 ghost use Rattle.aql_value.specs.View.{tree_of, trees_in};
 ghost use Rattle.aql_func.specs.Arguments as given_args;
 ghost use Rattle.aql_func.specs.Functions.{call, concatenated};
 ghost use Rattle.aql_func.specs.Joined.{with_part};
+ghost use Rattle.aql_func.specs.Seen.{given};
+ghost use Rattle.aql_func.specs.Texts as spec;
 ghost use Rattle.aql_func.specs.Texts.{begins_with, occurs_in, parts_of};
 
 use crate::FuncName;
-use crate::arguments::{array, is_null, number_at, text_at};
-use crate::lists::{at_most, behind, front, how_many, last_of, place_from};
-use aql_value::{Items, OutOfMemory, Text, Value, to_text};
+use crate::arguments::{array, is_null};
+use crate::lists::{at_most, front, how_many, last_of, place_from, rest_from};
+use aql_value::{Items, OutOfMemory, Text, Value, to_number, to_text};
 use std::alloc::Global;
 
 pub(crate) fn characters(alloc: Global, s: &str) -> Result<Vec<char>, OutOfMemory>
@@ -33,36 +36,61 @@ pub(crate) fn text_of(alloc: Global, characters: &[char]) -> Result<Text, OutOfM
 pub(crate) fn substring(alloc: Global, args: &Items) -> Result<Value, OutOfMemory>
     ensures { IfOk result (λ v. tree_of v ≡ call FuncName.Substring args.now) }
 {
-    let text = text_at(alloc, args, 0)?;
+    match args.as_slice() {
+        [value, offset] => part(alloc, value, offset, None),
+        [value, offset, count] => part(alloc, value, offset, Some(count)),
+        _ => Ok(Value::Null),
+    }
+}
+
+fn part(
+    alloc: Global,
+    value: &Value,
+    offset: &Value,
+    count: Option<&Value>,
+) -> Result<Value, OutOfMemory>
+    ensures { IfOk result (λ v. tree_of v ≡ text (spec.substring (to_number (tree_of offset.now))
+        (given count.entry) (to_text (tree_of value.now)))) }
+{
+    let text = to_text(alloc, value)?;
     let characters = characters(alloc, text.as_str())?;
-    let start = place_from(characters.len(), number_at(args, 1));
-    let part = at_most(behind(&characters, start), args.get(2));
+    let start = place_from(characters.len(), to_number(offset));
+    let part = at_most(rest_from(&characters, start), count);
     text_of(alloc, part).map(Value::Text)
 }
 
 pub(crate) fn left(alloc: Global, args: &Items) -> Result<Value, OutOfMemory>
     ensures { IfOk result (λ v. tree_of v ≡ call FuncName.Left args.now) }
 {
-    let text = text_at(alloc, args, 0)?;
+    let [value, n] = args.as_slice() else {
+        return Ok(Value::Null);
+    };
+    let text = to_text(alloc, value)?;
     let characters = characters(alloc, text.as_str())?;
-    let part = front(&characters, how_many(number_at(args, 1)));
+    let part = front(&characters, how_many(to_number(n)));
     text_of(alloc, part).map(Value::Text)
 }
 
 pub(crate) fn right(alloc: Global, args: &Items) -> Result<Value, OutOfMemory>
     ensures { IfOk result (λ v. tree_of v ≡ call FuncName.Right args.now) }
 {
-    let text = text_at(alloc, args, 0)?;
+    let [value, n] = args.as_slice() else {
+        return Ok(Value::Null);
+    };
+    let text = to_text(alloc, value)?;
     let characters = characters(alloc, text.as_str())?;
-    let part = last_of(&characters, how_many(number_at(args, 1)));
+    let part = last_of(&characters, how_many(to_number(n)));
     text_of(alloc, part).map(Value::Text)
 }
 
 pub(crate) fn contains(alloc: Global, args: &Items) -> Result<Value, OutOfMemory>
     ensures { IfOk result (λ v. tree_of v ≡ call FuncName.Contains args.now) }
 {
-    let text = text_at(alloc, args, 0)?;
-    let part = text_at(alloc, args, 1)?;
+    let [value, part] = args.as_slice() else {
+        return Ok(Value::Null);
+    };
+    let text = to_text(alloc, value)?;
+    let part = to_text(alloc, part)?;
     Ok(Value::Bool(has(text.as_str(), part.as_str())))
 }
 
@@ -75,8 +103,11 @@ fn has(s: &str, part: &str) -> bool
 pub(crate) fn starts_with(alloc: Global, args: &Items) -> Result<Value, OutOfMemory>
     ensures { IfOk result (λ v. tree_of v ≡ call FuncName.StartsWith args.now) }
 {
-    let text = text_at(alloc, args, 0)?;
-    let front = text_at(alloc, args, 1)?;
+    let [value, prefix] = args.as_slice() else {
+        return Ok(Value::Null);
+    };
+    let text = to_text(alloc, value)?;
+    let front = to_text(alloc, prefix)?;
     Ok(Value::Bool(begins(text.as_str(), front.as_str())))
 }
 
@@ -89,8 +120,11 @@ fn begins(s: &str, front: &str) -> bool
 pub(crate) fn split(alloc: Global, args: &Items) -> Result<Value, OutOfMemory>
     ensures { IfOk result (λ v. tree_of v ≡ call FuncName.Split args.now) }
 {
-    let text = text_at(alloc, args, 0)?;
-    let separator = text_at(alloc, args, 1)?;
+    let [value, separator] = args.as_slice() else {
+        return Ok(Value::Null);
+    };
+    let text = to_text(alloc, value)?;
+    let separator = to_text(alloc, separator)?;
     parts(alloc, text.as_str(), separator.as_str()).map(Value::List)
 }
 
@@ -139,15 +173,17 @@ pub(crate) fn push_text(alloc: Global, out: &mut Items, part: &str) -> Result<()
 pub(crate) fn concat(alloc: Global, args: &Items) -> Result<Value, OutOfMemory>
     ensures { IfOk result (λ v. tree_of v ≡ call FuncName.Concat args.now) }
 {
-    joined(alloc, "", spread(args.as_slice()))
+    join(alloc, "", spread(args.as_slice()))
 }
 
 pub(crate) fn concat_separator(alloc: Global, args: &Items) -> Result<Value, OutOfMemory>
     ensures { IfOk result (λ v. tree_of v ≡ call FuncName.ConcatSeparator args.now) }
 {
-    let separator = text_at(alloc, args, 0)?;
-    let values = spread(behind(args.as_slice(), 1));
-    joined(alloc, separator.as_str(), values)
+    let [separator, values @ ..] = args.as_slice() else {
+        return Ok(Value::Null);
+    };
+    let separator = to_text(alloc, separator)?;
+    join(alloc, separator.as_str(), spread(values))
 }
 
 // A sole array stands for its elements.
@@ -165,7 +201,7 @@ pub(crate) fn spread(args: &[Value]) -> &[Value]
 }
 
 // The texts of all that aren't null, with the separator between.
-fn joined(alloc: Global, separator: &str, values: &[Value]) -> Result<Value, OutOfMemory>
+fn join(alloc: Global, separator: &str, values: &[Value]) -> Result<Value, OutOfMemory>
     ensures { IfOk result (λ v. tree_of v ≡ concatenated separator.now (trees_in values.now)) }
 {
     let mut out = String::new(alloc);
@@ -180,14 +216,15 @@ fn joined(alloc: Global, separator: &str, values: &[Value]) -> Result<Value, Out
     Text::new(alloc, &out).map(Value::Text)
 }
 
-// Puts a text at the end, behind the separator where something was put before.
+// Puts a text at the end, after the separator where something was put before.
 fn push_part(
     out: &mut String,
     started: bool,
     separator: &str,
     part: &str,
 ) -> Result<(), OutOfMemory>
-    ensures { OnOk result (string_bytes out.new ≡ with_part started separator.now (string_bytes out.old) part.now) }
+    ensures { OnOk result (string_bytes out.new
+        ≡ with_part started separator.now (string_bytes out.old) part.now) }
 {
     if started {
         out.push_str(separator)?;

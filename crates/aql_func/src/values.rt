@@ -4,19 +4,17 @@ ghost use Rattle.aql_value.specs.Convert as convert;
 ghost use Rattle.aql_value.specs.Convert.{whole};
 ghost use Rattle.aql_value.specs.Parts.{list};
 ghost use Rattle.aql_value.specs.View.{tree_of, trees_in};
-ghost use Rattle.aql_func.specs.Arguments as given_args;
 ghost use Rattle.aql_func.specs.Functions as spec;
 ghost use Rattle.aql_func.specs.Functions.{call};
 ghost use Rattle.aql_func.specs.Texts.{by_characters};
 
-use crate::FuncName;
-use crate::arguments::{is_null, number_at, text_at};
-use crate::arithmetic::{absolute, count};
-use crate::lists::copied;
+use crate::arithmetic::absolute;
+use crate::lists::copy_all;
 use crate::objects::values_of;
 use crate::ranges::range;
 use crate::texts::{characters, text_of};
-use aql_value::{Items, OutOfMemory, Text, Value, copy, to_text, truthy};
+use crate::{FuncName, arguments, arithmetic};
+use aql_value::{Items, OutOfMemory, Text, Value, copy, to_number, to_text, truthy};
 use std::alloc::Global;
 
 fn type_name(value: &Value) -> &'static str
@@ -32,65 +30,125 @@ fn type_name(value: &Value) -> &'static str
     }
 }
 
-fn type_at(args: &Items, at: usize) -> &'static str
-    ensures { result.now ≡ spec.type_name (given_args.argument args.now at) }
+fn has_type(value: &Value, name: &str) -> Value
+    ensures { tree_of result ≡ spec.has_type name.now (tree_of value.now) }
 {
-    match args.get(at) {
-        Some(value) => type_name(value),
-        None => "null",
-    }
+    Value::Bool(type_name(value) == name)
 }
 
-pub(crate) fn has_type(args: &Items, name: &str) -> Value
-    ensures { tree_of result ≡ spec.has_type name.now (given_args.argument args.now 0) }
+pub(crate) fn is_null(args: &Items) -> Value
+    ensures { tree_of result ≡ call FuncName.IsNull args.now }
 {
-    Value::Bool(type_at(args, 0) == name)
+    let [value] = args.as_slice() else {
+        return Value::Null;
+    };
+    has_type(value, "null")
+}
+
+pub(crate) fn is_bool(args: &Items) -> Value
+    ensures { tree_of result ≡ call FuncName.IsBool args.now }
+{
+    let [value] = args.as_slice() else {
+        return Value::Null;
+    };
+    has_type(value, "bool")
+}
+
+pub(crate) fn is_number(args: &Items) -> Value
+    ensures { tree_of result ≡ call FuncName.IsNumber args.now }
+{
+    let [value] = args.as_slice() else {
+        return Value::Null;
+    };
+    has_type(value, "number")
+}
+
+pub(crate) fn is_string(args: &Items) -> Value
+    ensures { tree_of result ≡ call FuncName.IsString args.now }
+{
+    let [value] = args.as_slice() else {
+        return Value::Null;
+    };
+    has_type(value, "string")
+}
+
+pub(crate) fn is_array(args: &Items) -> Value
+    ensures { tree_of result ≡ call FuncName.IsArray args.now }
+{
+    let [value] = args.as_slice() else {
+        return Value::Null;
+    };
+    has_type(value, "array")
+}
+
+pub(crate) fn is_object(args: &Items) -> Value
+    ensures { tree_of result ≡ call FuncName.IsObject args.now }
+{
+    let [value] = args.as_slice() else {
+        return Value::Null;
+    };
+    has_type(value, "object")
 }
 
 pub(crate) fn typename(alloc: Global, args: &Items) -> Result<Value, OutOfMemory>
     ensures { IfOk result (λ v. tree_of v ≡ call FuncName.Typename args.now) }
 {
-    Text::new(alloc, type_at(args, 0)).map(Value::Text)
+    let [value] = args.as_slice() else {
+        return Ok(Value::Null);
+    };
+    Text::new(alloc, type_name(value)).map(Value::Text)
 }
 
 pub(crate) fn bool_of(args: &Items) -> Value
     ensures { tree_of result ≡ call FuncName.ToBool args.now }
 {
-    match args.get(0) {
-        Some(value) => Value::Bool(truthy(value)),
-        None => Value::Bool(false),
-    }
+    let [value] = args.as_slice() else {
+        return Value::Null;
+    };
+    Value::Bool(truthy(value))
+}
+
+pub(crate) fn number_of(args: &Items) -> Value
+    ensures { tree_of result ≡ call FuncName.ToNumber args.now }
+{
+    let [value] = args.as_slice() else {
+        return Value::Null;
+    };
+    Value::Num(to_number(value))
 }
 
 pub(crate) fn string_of(alloc: Global, args: &Items) -> Result<Value, OutOfMemory>
     ensures { IfOk result (λ v. tree_of v ≡ call FuncName.ToString args.now) }
 {
-    text_at(alloc, args, 0).map(Value::Text)
+    let [value] = args.as_slice() else {
+        return Ok(Value::Null);
+    };
+    to_text(alloc, value).map(Value::Text)
 }
 
-pub(crate) fn array_of_value(alloc: Global, args: &Items) -> Result<Value, OutOfMemory>
+pub(crate) fn array_of(alloc: Global, args: &Items) -> Result<Value, OutOfMemory>
     ensures { IfOk result (λ v. tree_of v ≡ call FuncName.ToArray args.now) }
 {
-    match args.get(0) {
-        Some(value) => opened(alloc, value).map(Value::List),
-        None => Ok(Value::List(Items::new(alloc))),
-    }
+    let [value] = args.as_slice() else {
+        return Ok(Value::Null);
+    };
+    elements_of(alloc, value).map(Value::List)
 }
 
-fn opened(alloc: Global, value: &Value) -> Result<Items, OutOfMemory>
+fn elements_of(alloc: Global, value: &Value) -> Result<Items, OutOfMemory>
     ensures { IfOk result (λ w. list w ≡ spec.to_array (tree_of value.now)) }
 {
     match value {
         Value::Null => Ok(Items::new(alloc)),
-        Value::List(list) => copied(alloc, list.as_slice()),
+        Value::List(list) => copy_all(alloc, list.as_slice()),
         Value::Object(members) => values_of(alloc, members),
-        Value::Bool(_) => only(alloc, value),
-        Value::Num(_) => only(alloc, value),
-        Value::Text(_) => only(alloc, value),
+        Value::Bool(_) => array_of_one(alloc, value),
+        Value::Num(_) => array_of_one(alloc, value),
+        Value::Text(_) => array_of_one(alloc, value),
     }
 }
 
-fn only(alloc: Global, value: &Value) -> Result<Items, OutOfMemory>
+fn array_of_one(alloc: Global, value: &Value) -> Result<Items, OutOfMemory>
     ensures { IfOk result (λ w. w ≡ tree_of value.now ∷ []) }
 {
     let mut out = Items::new(alloc);
@@ -102,7 +160,7 @@ pub(crate) fn not_null(alloc: Global, args: &Items) -> Result<Value, OutOfMemory
     ensures { IfOk result (λ v. tree_of v ≡ call FuncName.NotNull args.now) }
 {
     for value in args.as_slice() {
-        if !is_null(value) {
+        if !arguments::is_null(value) {
             return copy(alloc, value);
         }
     }
@@ -112,22 +170,37 @@ pub(crate) fn not_null(alloc: Global, args: &Items) -> Result<Value, OutOfMemory
 pub(crate) fn abs(args: &Items) -> Value
     ensures { tree_of result ≡ call FuncName.Abs args.now }
 {
-    absolute(number_at(args, 0))
+    let [value] = args.as_slice() else {
+        return Value::Null;
+    };
+    absolute(to_number(value))
 }
 
 pub(crate) fn range_of(alloc: Global, args: &Items) -> Result<Value, OutOfMemory>
     ensures { IfOk result (λ v. tree_of v ≡ call FuncName.Range args.now) }
 {
-    range(alloc, number_at(args, 0), number_at(args, 1))
+    let [start, stop] = args.as_slice() else {
+        return Ok(Value::Null);
+    };
+    range(alloc, to_number(start), to_number(stop))
 }
 
 pub(crate) fn length(alloc: Global, args: &Items) -> Result<Value, OutOfMemory>
-    ensures { IfOk result (λ v. tree_of v ≡ spec.length_of (given_args.argument args.now 0)) }
+    ensures { IfOk result (λ v. tree_of v ≡ call FuncName.Length args.now) }
 {
-    match args.get(0) {
-        Some(value) => length_of(alloc, value),
-        None => Ok(Value::Num(0)),
-    }
+    let [value] = args.as_slice() else {
+        return Ok(Value::Null);
+    };
+    length_of(alloc, value)
+}
+
+pub(crate) fn count(alloc: Global, args: &Items) -> Result<Value, OutOfMemory>
+    ensures { IfOk result (λ v. tree_of v ≡ call FuncName.Count args.now) }
+{
+    let [value] = args.as_slice() else {
+        return Ok(Value::Null);
+    };
+    length_of(alloc, value)
 }
 
 fn length_of(alloc: Global, value: &Value) -> Result<Value, OutOfMemory>
@@ -137,8 +210,8 @@ fn length_of(alloc: Global, value: &Value) -> Result<Value, OutOfMemory>
         Value::Null => Ok(Value::Num(0)),
         Value::Bool(true) => Ok(Value::Num(1)),
         Value::Bool(false) => Ok(Value::Num(0)),
-        Value::List(list) => Ok(count(list.len())),
-        Value::Object(members) => Ok(count(members.len())),
+        Value::List(list) => Ok(arithmetic::count(list.len())),
+        Value::Object(members) => Ok(arithmetic::count(members.len())),
         Value::Num(_) => characters_in(alloc, value),
         Value::Text(_) => characters_in(alloc, value),
     }
@@ -149,24 +222,24 @@ fn characters_in(alloc: Global, value: &Value) -> Result<Value, OutOfMemory>
         (λ v. tree_of v ≡ whole (pos (length (chars (convert.to_text (tree_of value.now)))))) }
 {
     let text = to_text(alloc, value)?;
-    Ok(count(characters(alloc, text.as_str())?.len()))
+    Ok(arithmetic::count(characters(alloc, text.as_str())?.len()))
 }
 
 pub(crate) fn reverse(alloc: Global, args: &Items) -> Result<Value, OutOfMemory>
     ensures { IfOk result (λ v. tree_of v ≡ call FuncName.Reverse args.now) }
 {
-    match args.get(0) {
-        Some(value) => reversed(alloc, value),
-        None => Ok(Value::Null),
-    }
+    let [value] = args.as_slice() else {
+        return Ok(Value::Null);
+    };
+    reverse_value(alloc, value)
 }
 
-fn reversed(alloc: Global, value: &Value) -> Result<Value, OutOfMemory>
+fn reverse_value(alloc: Global, value: &Value) -> Result<Value, OutOfMemory>
     ensures { IfOk result (λ v. tree_of v ≡ spec.reversed (tree_of value.now)) }
 {
     match value {
-        Value::List(list) => Ok(Value::List(reversed_values(alloc, list.as_slice())?)),
-        Value::Text(text) => Ok(Value::Text(reversed_text(alloc, text.as_str())?)),
+        Value::List(list) => Ok(Value::List(reverse_values(alloc, list.as_slice())?)),
+        Value::Text(text) => Ok(Value::Text(reverse_text(alloc, text.as_str())?)),
         Value::Null => Ok(Value::Null),
         Value::Bool(_) => Ok(Value::Null),
         Value::Num(_) => Ok(Value::Null),
@@ -174,7 +247,7 @@ fn reversed(alloc: Global, value: &Value) -> Result<Value, OutOfMemory>
     }
 }
 
-fn reversed_text(alloc: Global, s: &str) -> Result<Text, OutOfMemory>
+fn reverse_text(alloc: Global, s: &str) -> Result<Text, OutOfMemory>
     ensures { IfOk result (λ t. t ≡ by_characters reverse s.now) }
 {
     let mut characters = characters(alloc, s)?;
@@ -182,7 +255,7 @@ fn reversed_text(alloc: Global, s: &str) -> Result<Text, OutOfMemory>
     text_of(alloc, &characters)
 }
 
-fn reversed_values(alloc: Global, values: &[Value]) -> Result<Items, OutOfMemory>
+fn reverse_values(alloc: Global, values: &[Value]) -> Result<Items, OutOfMemory>
     ensures { IfOk result (λ w. w ≡ reverse (trees_in values.now)) }
 {
     let mut out = Items::new(alloc);

@@ -37,9 +37,13 @@ module _ (w : WalkShape) (es : List Tree) (pruned : Path → Bool) (start : List
   one_more T t s m i f e l r = record {
     holds_empty = inr m.holds_empty;
     built =
-        λ p. elim [ inl h ↦ inr (t, s, h, inr i, f, e) | inr h ↦ built_more (extended t s) p T (m.built p h) ];
+        λ p. elim [
+          | inl h ↦ inr (t, s, h, inr i, f, e)
+          | inr h ↦ built_more (extended t s) p T (m.built p h)
+        ];
     short = λ p. elim [
-      | inl h ↦ subst (λ (q : Path). length q.steps ≤ max) (sym h) (let k : length (extended t s).steps ≤ max =
+      | inl h ↦ subst (λ (q : Path). length q.steps ≤ max) (sym h)
+          (let k : length (extended t s).steps ≤ max =
           omega arith in k)
       | inr h ↦ m.short p h
     ];

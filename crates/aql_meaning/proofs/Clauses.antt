@@ -85,7 +85,8 @@ worked_clauses = record {
   };
   each_document = record {
     answer =
-        λ out h. in_any_order two [] (clauses (for "x" (var "c") ∷ [])) (dot (var "x") "_key") empty_row _ out refl
+        λ out h. in_any_order two [] (clauses (for "x" (var "c") ∷ []))
+        (dot (var "x") "_key") empty_row _ out refl
         (some_answer two keys_of_c empty_row).1 h;
   };
   true_like_kept = computed _ _ _ refl;

@@ -60,7 +60,8 @@ over_array db x e rows out m s h =
     ((vs : List Tree) × AllZip (Ev db e null) rows vs × (out ≡ with_elements x rows vs))
     (λ name. IsPermutation (with_documents x (documents_named db name) rows) out)) s h
 
-pub fixed_through : (db : Database) (cs : ClauseTrees) (start : Row) (vars : List Ident) → IsFixed cs start vars
+pub fixed_through : (db : Database) (cs : ClauseTrees) (start : Row) (vars : List Ident)
+    → IsFixed cs start vars
     → (rows out : List Row) → Through db cs start vars rows out → out ≡ fixed_rows cs rows
 fixed_through db no_clauses start vars f rows out h = h
 fixed_through db (clause_then (for_each x e) cs) start vars f rows out h =

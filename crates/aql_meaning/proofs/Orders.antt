@@ -54,7 +54,8 @@ EndsFree no_clauses start vars = ⊥
 EndsFree (clause_then c no_clauses) start vars = is_free c start vars ≡ true
 EndsFree (clause_then c (clause_then d cs)) start vars = EndsFree (clause_then d cs) start (vars_after c vars)
 
-through_free : (db : Database) (cs : ClauseTrees) (start : Row) (vars : List Ident) (rows out other : List Row)
+through_free : (db : Database) (cs : ClauseTrees) (start : Row) (vars : List Ident)
+    (rows out other : List Row)
     → EndsFree cs start vars → Through db cs start vars rows out → IsPermutation out other
     → Through db cs start vars rows other
 through_free db no_clauses start vars rows out other f h p = absurd f

@@ -1,6 +1,6 @@
 -- Lists that are no answers of queries without a traversal.
-use Rattle.std.proofs.Common.{◌≡◌, ◌∙◌, refl, sym, ap, ap₂, subst, inl, inr, ℕ, ◌<◌, ◌≤◌, List, [], ◌∷◌, map, length, Bool, true, false, true≢false, cond, arith}
-use Rattle.std.specs.Prelude.{pos, None, Some, codes, zip, filter, IsPermutation, IsSortedBy}
+use Rattle.std.proofs.Common.{◌≡◌, ◌∙◌, refl, sym, ap, ap₂, subst, inl, inr, List, [], ◌∷◌, map, length, Bool, true, true≢false, cond, arith}
+use Rattle.std.specs.Prelude.{pos, Some, codes, zip, IsSortedBy}
 use Rattle.std.specs.List.{AllZip}
 use Rattle.std.proofs.lemmas.List.{length-map}
 use Rattle.std.proofs.lemmas.List.Sorted.{IsPermutation-sym, length_permutation}
@@ -11,20 +11,19 @@ use Rattle.aql_value.specs.Convert.{whole}
 use Rattle.aql_value.specs.Database.{Database}
 use Rattle.aql_value.specs.laws.Lists.{trees_list-array_of}
 use Rattle.aql_func.specs.Arguments.{argument}
-use Rattle.aql_tree.specs.declared.syntax.Ident.{Ident}
 use Rattle.aql_tree.specs.declared.syntax.Ident.TheVariants.{Name}
 use Rattle.aql_tree.specs.Tree.{ExprTree, range_of, subquery, no_exprs, expr_then, ExprTrees}
 use Rattle.aql_tree.specs.View.{clauses}
 use Rattle.aql_tree.specs.Made as made
 use Rattle.aql_meaning.specs.Row.{Row, empty_row, bind}
-use Rattle.aql_meaning.specs.Clauses.{Keyed, comes_before, with_elements, with_documents, bound}
+use Rattle.aql_meaning.specs.Clauses.{Keyed, comes_before, with_elements, bound}
 use Rattle.aql_meaning.specs.Groups.{Member, members_of, Collected}
 use Rattle.aql_meaning.specs.Value.{value, values}
 use Rattle.aql_meaning.specs.Paths.{IsIn}
 use Rattle.aql_meaning.specs.Plain.{AllPlain}
 use Rattle.aql_meaning.specs.Meaning.{Ev, EvAll, Answer}
 use Rattle.aql_meaning.specs.laws.OneValue.{one_values}
-use Rattle.aql_meaning.specs.worked.Words.{num, str, document, int, var, dot, fn, for, returning}
+use Rattle.aql_meaning.specs.worked.Words.{num, str, document, int, var, dot, fn, for}
 use Rattle.aql_meaning.specs.worked.Expressions.{items}
 use Rattle.aql_meaning.specs.worked.Clauses.{a_and_b, two, first_key_of_a, one_subquery, keys_of_c, place}
 use Rattle.aql_meaning.specs.worked.Refuted.{downwards, group_length}
@@ -50,7 +49,8 @@ keyed db es p [] [] h k i = absurd i
 keyed db es p [] (ks ∷ keys) h k i = absurd h
 keyed db es p (row ∷ rows) [] h k i = absurd h
 keyed db es p (row ∷ rows) (ks ∷ keys) h k (inl e) =
-    ap (λ (l : Keyed). l.0) e ∙ (one_values db es p null row).1 ks h.0 ∙ ap (λ (l : Keyed). values es null l.1) (sym e)
+    ap (λ (l : Keyed). l.0) e ∙ (one_values db es p null row).1 ks h.0
+    ∙ ap (λ (l : Keyed). values es null l.1) (sym e)
 keyed db es p (row ∷ rows) (ks ∷ keys) h k (inr i) = keyed db es p rows keys h.1 k i
 
 abbrev x_alone : ExprTrees
@@ -74,7 +74,8 @@ not_sorted h =
     by (k ∷ l ∷ ks) each up e =
         let one = each k (inl refl) ∙ ap (λ v. v ∷ []) (sym (ap (λ vs. argument vs 0) e)) in
         let other = each l (inr (inl refl)) ∙ ap (λ v. v ∷ []) (sym (ap (λ vs. argument vs 1) e)) in
-        true≢false (sym (ap₂ (λ (v w : List Tree). comes_before (true ∷ []) (v, empty_row) (w, empty_row)) other one)
+        true≢false (sym (ap₂ (λ (v w : List Tree). comes_before (true ∷ []) (v, empty_row) (w, empty_row))
+        other one)
         ∙ up 0 k (omega arith) (omega arith))
 
 -- ---- documents of a collection
@@ -150,5 +151,6 @@ evaluated_again h = by h.2.1.0 h.2.1.1 h.2.1.2
         (values_at a_and_b one_to_three (tt, tt) h.2.0 h.2.2.1.0 h.2.2.1.1)) ∙ ap over e in
         let all = h.4 ∙ values_at a_and_b (place "x" 0) (tt, (tt, tt)) h.0 h.1 h.3 ∙ ap
         (map (value (place "x" 0) null)) rows in
-        differ (str "p") (str "q") refl refl (ap (λ vs. argument vs 0) all ∙ sym (ap (λ vs. argument vs 1) all))
+        differ (str "p") (str "q") refl refl (ap (λ vs. argument vs 0) all
+        ∙ sym (ap (λ vs. argument vs 1) all))
     by (u ∷ v ∷ us) k e = absurd k.1

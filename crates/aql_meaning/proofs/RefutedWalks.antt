@@ -1,10 +1,10 @@
 -- Lists that are no answers of traversals.
 use Rattle.std.proofs.Common.{◌≡◌, ◌∙◌, refl, sym, ap, ap₂, subst, inl, inr, ◌⊎◌, ◌<◌, ◌≤◌, ℕ, List, [], ◌∷◌, map, length, Bool, true, false, true≢false, ◌||◌, arith}
-use Rattle.std.specs.Prelude.{Option, None, codes, filter, nat_le, bytes_eq}
+use Rattle.std.specs.Prelude.{Option, None, codes, nat_le, bytes_eq}
 use Rattle.std.proofs.lemmas.List.Sorted.{IsPermutation-sym}
 use Rattle.std.proofs.lemmas.Slice.Eq.{bytes_eq-Decides}
 use Rattle.aql_value.specs.Tree.{Tree, null, text}
-use Rattle.aql_value.specs.Parts.{list, same}
+use Rattle.aql_value.specs.Parts.{same}
 use Rattle.aql_value.specs.Database.{Database}
 use Rattle.aql_tree.specs.declared.syntax.Direction.TheVariants.{Outbound}
 use Rattle.aql_tree.specs.Tree.{ExprTree, WalkShape}
@@ -26,7 +26,8 @@ use Rattle.aql_meaning.proofs.Walks.{raw_shape, shape, edges, holds, pruned, fro
 abbrev ring_shape : WalkShape
 ring_shape = (made.traversal vertex_alone 1 4 Outbound (txt "n/a") (codes "e" ∷ []) (at_key "c") []).0
 
-pub beyond_prune : Answer ring (returning (walk vertex_alone 1 4 Outbound "n/a" (at_key "c") [] ∷ []) key) empty_row
+pub beyond_prune : Answer ring
+    (returning (walk vertex_alone 1 4 Outbound "n/a" (at_key "c") [] ∷ []) key) empty_row
     (str "b" ∷ str "c" ∷ str "a" ∷ []) → ⊥
 beyond_prune h =
     let w = single_walk ring ring_shape (txt "n/a") (codes "e" ∷ []) (maybe (at_key "c"))

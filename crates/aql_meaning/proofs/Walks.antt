@@ -125,7 +125,8 @@ worked_walks = record {
       (returning (walk vertex_alone 1 4 Outbound "n/a" None each_vertex_once ∷ []) key) empty_row).1;
   from_an_object = computed _ _ _ refl;
   edges_counted = in_all_orders ring (walk all_three 0 1 Outbound "n/a" None []) edges_of_path _ refl
-      (some_answer ring (returning (walk all_three 0 1 Outbound "n/a" None [] ∷ []) edges_of_path) empty_row).1;
+      (some_answer ring
+      (returning (walk all_three 0 1 Outbound "n/a" None [] ∷ []) edges_of_path) empty_row).1;
   against_edges = in_all_orders diamond (walk vertex_alone 1 1 Inbound "n/d" None []) key _ refl
       (some_answer diamond (returning (walk vertex_alone 1 1 Inbound "n/d" None [] ∷ []) key) empty_row).1;
   both_ways = in_all_orders ring (walk vertex_alone 0 1 Any "n/a" None []) key _ refl

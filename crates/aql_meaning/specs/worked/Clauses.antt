@@ -111,7 +111,8 @@ pub record WorkedClauses : Type 0 where
       (num 2 ∷ num 1 ∷ [])
   -- FOR x IN c LIMIT 0 RETURN x, and LIMIT 2, 9223372036854775807
   pub none_taken : Answers two (returning (for "x" (var "c") ∷ limit 0 0 ∷ []) (var "x")) []
-  pub all_skipped : Answers two (returning (for "x" (var "c") ∷ limit 2 9223372036854775807 ∷ []) (var "x")) []
+  pub all_skipped : Answers two (returning (for "x" (var "c") ∷ limit 2 9223372036854775807 ∷ [])
+      (var "x")) []
   -- FOR x IN [1, 1, null, {}.a] RETURN DISTINCT x
   pub distinct_in_row_order : Answers []
       (made.query [] (for "x" (items (int 1 ∷ int 1 ∷ nothing ∷ dot (made.object []) "a" ∷ [])) ∷ []) true

@@ -38,7 +38,8 @@ pub record WorkedExpressions : Type 0 where
       (made.object (named (codes "a") (int 0) ∷ [])) ∷ []))
       (list (boolean true ∷ boolean true ∷ boolean true ∷ []))
   -- 10 - 3 - 2
-  pub from_the_left : Gives (made.linked (int 10) (made.link Sub (int 3)) (made.link Sub (int 2) ∷ [])) (num 5)
+  pub from_the_left : Gives (made.linked (int 10) (made.link Sub (int 3)) (made.link Sub (int 2) ∷ []))
+      (num 5)
   -- [1..3, 3..1, "abc" LIKE "a%", null || 5, 0 && 7, !""]
   pub ranges_and_logic : Gives
       (items (range_of (int 1) (int 3) ∷ range_of (int 3) (int 1) ∷ op (txt "abc") Like (txt "a%")

@@ -1,6 +1,5 @@
 -- Worked queries: lists that are no answers.
 use Rattle.std.specs.Prelude.{[], ◌∷◌, true, Some, None, codes}
-use Rattle.aql_value.specs.Parts.{list}
 use Rattle.aql_tree.specs.declared.syntax.Direction.TheVariants.{Outbound}
 use Rattle.aql_tree.specs.Tree.{QueryTree}
 use Rattle.aql_tree.specs.Made as made
@@ -34,7 +33,8 @@ pub record RefutedAnswers : Type 0 where
   -- LET x = (FOR a IN A LIMIT 1 RETURN a._key) FOR i IN 1..3 RETURN x[0]: the subquery is evaluated once
   pub evaluated_again : IsNoAnswer a_and_b one_subquery (str "p" ∷ str "q" ∷ str "p" ∷ [])
   -- FOR v IN 1..4 OUTBOUND "n/a" e PRUNE v._key == "c" RETURN v._key: there is no path after c
-  pub beyond_prune : IsNoAnswer ring (returning (walk vertex_alone 1 4 Outbound "n/a" (at_key "c") [] ∷ []) key)
+  pub beyond_prune : IsNoAnswer ring
+      (returning (walk vertex_alone 1 4 Outbound "n/a" (at_key "c") [] ∷ []) key)
       (str "b" ∷ str "c" ∷ str "a" ∷ [])
   -- the path by b to a vertex that one step from a reaches
   pub later_depth : IsNoAnswer shortcut (chosen_paths None) (path_ab ∷ path_abc ∷ [])

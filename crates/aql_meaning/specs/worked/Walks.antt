@@ -76,7 +76,8 @@ diamond =
     collection "n"
     (document "n/a" "a" [] ∷ document "n/b" "b" [] ∷ document "n/c" "c" [] ∷ document "n/d" "d" [] ∷ [])
     ∷ edge_collection "e"
-    (edge "e/1" "n/a" "n/b" ∷ edge "e/2" "n/a" "n/c" ∷ edge "e/3" "n/b" "n/d" ∷ edge "e/4" "n/c" "n/d" ∷ []) ∷ []
+    (edge "e/1" "n/a" "n/b" ∷ edge "e/2" "n/a" "n/c"
+    ∷ edge "e/3" "n/b" "n/d" ∷ edge "e/4" "n/c" "n/d" ∷ []) ∷ []
 
 -- a to b, b to c, a to c
 abbrev pub shortcut : Database
@@ -121,8 +122,8 @@ pub record WorkedWalks : Type 0 where
       (returning (walk vertex_alone 1 4 Outbound "n/a" (at_key "c") [] ∷ []) key)
       (str "b" ∷ str "c" ∷ [])
   -- FOR v IN 0..2 OUTBOUND "n/a" e PRUNE v._key == "a" RETURN v._key
-  pub pruned_at_once : Answers ring (returning (walk vertex_alone 0 2 Outbound "n/a" (at_key "a") [] ∷ []) key)
-      (str "a" ∷ [])
+  pub pruned_at_once : Answers ring
+      (returning (walk vertex_alone 0 2 Outbound "n/a" (at_key "a") [] ∷ []) key) (str "a" ∷ [])
   -- FOR v IN 1..4 OUTBOUND "n/a" e OPTIONS {uniqueVertices: "path"} RETURN v._key
   pub vertices_once : AnswersInAnyOrder ring
       (returning (walk vertex_alone 1 4 Outbound "n/a" None each_vertex_once ∷ []) key)

@@ -16,7 +16,9 @@ pub returns-in_default : goal.returns-in_default
 returns-in_default c =
     let vs = c.args.values.now in
     let v = c.value-item.result in
-    spoilt (trees_in vs) (bad_at vs c.loop-value.value-index v c.loop-value-test.true (ap (λ u. is_bad (tree_of u)) (sym c.value-item.is) ∙ spoils v c.in_default.not-Null c.in_default.not-Num))
+    spoilt (trees_in vs) (bad_at vs c.loop-value.value-index v c.loop-value-test.true
+    (ap (λ u. is_bad (tree_of u)) (sym c.value-item.is)
+    ∙ spoils v c.in_default.not-Null c.in_default.not-Num))
 
 pub loop-value-preserved : goal.loop-value-preserved
 loop-value-preserved c =
@@ -35,19 +37,31 @@ loop-value-preserved c =
           let t : new ≡ old +ℤ pos 0 = omega (arith, ints, w.total-is) in
           let b = wider old (pos 0) i (omega (arith, ints)) (omega (arith, ints)) inv.low inv.high in
           record {
-            sum = t ∙ ap (λ z. z +ℤ pos 0) inv.sum ∙ sym (s ∙ ap (λ u. exact_sum ts +ℤ to_number (tree_of u)) w.in-Null.is);
-            good = g ∙ ap (λ u. list_any is_bad ts || is_bad (tree_of u)) w.in-Null.is ∙ ap (λ b. b || false) inv.good;
+            sum = t ∙ ap (λ z. z +ℤ pos 0) inv.sum
+                ∙ sym (s ∙ ap (λ u. exact_sum ts +ℤ to_number (tree_of u)) w.in-Null.is);
+            good = g ∙ ap (λ u. list_any is_bad ts || is_bad (tree_of u)) w.in-Null.is
+                ∙ ap (λ b. b || false) inv.good;
             low = subst (λ z. neg_ℤ (pos (2 ^ 63 * (i + 1))) ≤ℤ z) (sym t) b.0;
             high = subst (λ z. z ≤ℤ pos (2 ^ 63 * (i + 1))) (sym t) b.1;
           }
       | in-Num w ↦
           let n = w.in-Num.n in
           let f : FitsSigned w64 n = search rules in
-          let t : new ≡ old +ℤ n = omega (arith, ints, w.total-is, w.from-total.ensures, f, inv.low, inv.high) in
+          let t : new ≡ old +ℤ n = omega (
+            arith,
+            ints,
+            w.total-is,
+            w.from-total.ensures,
+            f,
+            inv.low,
+            inv.high,
+          ) in
           let b = wider old n i (omega (arith, ints, f)) (omega (arith, ints, f)) inv.low inv.high in
           record {
-            sum = t ∙ ap (λ z. z +ℤ n) inv.sum ∙ sym (s ∙ ap (λ u. exact_sum ts +ℤ to_number (tree_of u)) w.in-Num.is);
-            good = g ∙ ap (λ u. list_any is_bad ts || is_bad (tree_of u)) w.in-Num.is ∙ ap (λ b. b || false) inv.good;
+            sum = t ∙ ap (λ z. z +ℤ n) inv.sum
+                ∙ sym (s ∙ ap (λ u. exact_sum ts +ℤ to_number (tree_of u)) w.in-Num.is);
+            good = g ∙ ap (λ u. list_any is_bad ts || is_bad (tree_of u)) w.in-Num.is
+                ∙ ap (λ b. b || false) inv.good;
             low = subst (λ z. neg_ℤ (pos (2 ^ 63 * (i + 1))) ≤ℤ z) (sym t) b.0;
             high = subst (λ z. z ≤ℤ pos (2 ^ 63 * (i + 1))) (sym t) b.1;
           }

@@ -13,4 +13,5 @@ returns c =
     let l : length row ≡ suc n = omega (arith, c.loop-at.invariant.len, c.requires) in
     let d = drop_all n c.args.text.now (omega arith) in
     last_set row n l ∙ sym (ap (λ cs. take n row ++ shifted p cs (drop n row)) d)
-    ∙ ap (λ k. take k row ++ shifted p (drop k c.args.text.now) (drop k row)) (sym e) ∙ c.loop-at.invariant.shifted
+    ∙ ap (λ k. take k row ++ shifted p (drop k c.args.text.now) (drop k row)) (sym e)
+    ∙ c.loop-at.invariant.shifted

@@ -7,7 +7,13 @@ pub loop-at-init : goal.loop-at-init
 loop-at-init c =
     let n = c.len-at.ensures in
     let r = c.requires in
-    record { inside = omega arith; len = refl; front = refl; back = ors_last c.args.row.now.items (c.len-at.result - 1) (omega arith) }
+    record {
+      inside = omega arith;
+      len = refl;
+      front = refl;
+      back =
+          ors_last c.args.row.now.items (c.len-at.result - 1) (omega arith);
+    }
 
 pub loop-at-preserved : goal.loop-at-preserved
 loop-at-preserved c =

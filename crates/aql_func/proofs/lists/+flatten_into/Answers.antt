@@ -10,14 +10,19 @@ pub loop-value-preserved : goal.loop-value-preserved
 loop-value-preserved t c =
     let d = c.args.depth in
     let x = c.value-item.result in
-    let more = flat_more d c.args.values.now c.loop-value.value-index x c.args.out.now c.loop-value.out c.match-value.out
-    (done c.args.values.now c.loop-value.value-index x c.loop-value-test.true c.value-item.is) c.loop-value.invariant in
+    let vs = c.args.values.now in
+    let i = c.loop-value.value-index in
+    let more = flat_more d vs i x c.args.out.now c.loop-value.out c.match-value.out
+    (done vs i x c.loop-value-test.true c.value-item.is) c.loop-value.invariant in
     more (elim c.match-value.branch [
       | in-List+in_ok-flatten_into-in-List w ↦
           w.out-is ∙ w.in_ok-flatten_into-in-List.ensures ∙ ap (λ l. c.loop-value.out ++ l)
-          (ap (flat (d - 1)) w.as_slice.ensures ∙ sym (flat_array d w.in-List.list w.if-depth-gt0.true) ∙ ap (λ v. flat d (tree_of v ∷ [])) (sym w.in-List.is))
+          (ap (flat (d - 1)) w.as_slice.ensures ∙ sym (flat_array d w.in-List.list w.if-depth-gt0.true)
+          ∙ ap (λ v. flat d (tree_of v ∷ [])) (sym w.in-List.is))
       | in_default+in_ok-copy-in_default+in_ok-push-in_default w ↦
-          w.out-is ∙ w.in_ok-push-in_default.ensures.ok ∙ ap (λ t. c.loop-value.out ++ t ∷ []) w.in_ok-copy-in_default.ensures ∙ ap (λ l. c.loop-value.out ++ l) (sym
+          w.out-is ∙ w.in_ok-push-in_default.ensures.ok
+          ∙ ap (λ t. c.loop-value.out ++ t ∷ []) w.in_ok-copy-in_default.ensures
+          ∙ ap (λ l. c.loop-value.out ++ l) (sym
           (elim w.in_default.branch [
             | in_default-via-in-List+else-depth-gt0 v ↦ flat_none d (tree_of x) v.if-depth-gt0.false
             | in_default-via-in_default v ↦ flat_alone d x v.in_default.not-List

@@ -7,7 +7,10 @@ use Rattle.aql_func.proofs.lists.distinct_set.Goals as goal
 
 pub loop-value-preserved : goal.loop-value-preserved
 loop-value-preserved c =
-    let before = take c.loop-value.value-index c.args.values.now in
+    let vs = c.args.values.now in
+    let before = take c.loop-value.value-index vs in
+    let one_more = done vs c.loop-value.value-index c.value-item.result c.loop-value-test.true
+    c.value-item.is in
     c.in_ok-note.ensures.keys
     ∙ ap (λ ks. noted ks (tree_of c.value-item.result)) c.loop-value.invariant
-    ∙ sym (ap firsts (done c.args.values.now c.loop-value.value-index c.value-item.result c.loop-value-test.true c.value-item.is) ∙ firsts_push (trees_in before) (tree_of c.value-item.result))
+    ∙ sym (ap firsts one_more ∙ firsts_push (trees_in before) (tree_of c.value-item.result))

@@ -12,7 +12,8 @@ pub returns-in-None : goal.returns-in-None
 returns-in-None c =
     let vs = c.args.values.now in
     let r : to_z w64 (of_z w64 c.args.start) ≡ c.args.start = search rules in
-    ap trees_in (c.behind-rest.ensures ∙ ap (λ n. drop n vs) (c.place_from.ensures ∙ ap (place_from (length vs)) r))
+    ap trees_in (c.rest_from-rest.ensures ∙ ap (λ n. drop n vs) (c.place_from.ensures
+    ∙ ap (place_from (length vs)) r))
     ∙ trees_dropped (place_from (length vs) c.args.start) vs
     ∙ ap (λ n. drop (place_from n c.args.start) (trees_in vs)) (sym (trees_counted vs))
     ∙ ap (λ o. slice c.args.start (given o) (trees_in vs)) (sym c.in-None.is)
@@ -21,10 +22,11 @@ pub returns-in-Some : goal.returns-in-Some
 returns-in-Some c =
     let vs = c.args.values.now in
     let r : to_z w64 (of_z w64 c.args.start) ≡ c.args.start = search rules in
-    let rest = ap trees_in (c.behind-rest.ensures ∙ ap (λ n. drop n vs) (c.place_from.ensures ∙ ap (place_from (length vs)) r))
+    let rest = ap trees_in (c.rest_from-rest.ensures ∙ ap (λ n. drop n vs) (c.place_from.ensures
+    ∙ ap (place_from (length vs)) r))
     ∙ trees_dropped (place_from (length vs) c.args.start) vs
     ∙ ap (λ n. drop (place_from n c.args.start) (trees_in vs)) (sym (trees_counted vs)) in
     let q : to_z w64 (of_z w64 c.to_number.result) ≡ c.to_number.result = search rules in
-    c.up_to.ensures ∙ ap (λ k. up_to k (trees_in c.behind-rest.result.now)) (q ∙ c.to_number.ensures)
+    c.up_to.ensures ∙ ap (λ k. up_to k (trees_in c.rest_from-rest.result.now)) (q ∙ c.to_number.ensures)
     ∙ ap (up_to (to_number (tree_of c.in-Some.count.now))) rest
     ∙ ap (λ o. slice c.args.start (given o) (trees_in vs)) (sym c.in-Some.is)

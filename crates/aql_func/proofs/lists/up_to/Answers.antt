@@ -10,4 +10,5 @@ pub returns : goal.returns
 returns c =
     let vs = c.args.values.now in
     let r : to_z w64 (of_z w64 c.args.count) ≡ c.args.count = search rules in
-    ap trees_in (c.front.ensures ∙ ap (λ n. take n vs) (c.places_up_to.ensures ∙ ap (up_to_place (length vs)) r)) ∙ kept_up_to c.args.count vs
+    ap trees_in (c.front.ensures ∙ ap (λ n. take n vs) (c.places_up_to.ensures
+    ∙ ap (up_to_place (length vs)) r)) ∙ kept_up_to c.args.count vs

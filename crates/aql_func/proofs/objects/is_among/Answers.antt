@@ -7,4 +7,5 @@ use Rattle.aql_func.proofs.Firsts.{any_tree}
 use Rattle.aql_func.proofs.objects.is_among.Goals as goal
 
 pub returns : goal.returns
-returns c = c.contains.ensures ∙ any_tree (Text c.in_ok-copy.field-0) c.args.names.now.keys ∙ ap (λ s. is_in (trees_in c.args.names.now.keys) (text s)) c.in_ok-copy.ensures
+returns c = c.contains.ensures ∙ any_tree (Text c.in_ok-copy.field-0) c.args.names.now.keys
+    ∙ ap (λ s. is_in (trees_in c.args.names.now.keys) (text s)) c.in_ok-copy.ensures

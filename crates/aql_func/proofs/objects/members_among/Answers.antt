@@ -18,12 +18,15 @@ loop-member-preserved c =
     let names = trees_in c.args.sought.now.keys in
     let out = c.loop-member.out in
     let p = λ (f : List ℕ × Tree). is_chosen c.args.present names f.0 in
-    let well = subst (λ fs. FieldsWellFormed (object_of fs)) (sym c.as_slice-member-items.ensures) c.requires in
+    let well = subst (λ fs. FieldsWellFormed (object_of fs))
+    (sym c.as_slice-member-items.ensures) c.requires in
     let g = chosen_more p ms i m out well c.loop-member-test.true c.member-item.is c.loop-member.invariant in
     let k = c.in_ok-is_among.ensures in
     let q = λ (b : Bool). λ (e : is_chosen c.args.present names m.name ≡ b).
-    subst (λ y. cond y (with_attribute m.name (tree_of m.value) out) out ≡ chosen_of c.args.present names (fields_in (take (i + 1) ms))) e g in
+    subst (λ y. cond y (with_attribute m.name (tree_of m.value) out) out
+    ≡ chosen_of c.args.present names (fields_in (take (i + 1) ms))) e g in
     elim c.if-branch-present.branch [
-      | then-branch-present+in_ok-set_copy w ↦ w.out-is ∙ w.in_ok-set_copy.ensures ∙ q true (sift_yes _ _ w.if-branch-present.true _ k)
+      | then-branch-present+in_ok-set_copy w ↦ w.out-is ∙ w.in_ok-set_copy.ensures
+          ∙ q true (sift_yes _ _ w.if-branch-present.true _ k)
       | else-branch-present w ↦ w.out-is ∙ q false (sift_no _ _ w.if-branch-present.false _ k)
     ]

@@ -5,4 +5,5 @@ use Rattle.aql_func.specs.Chosen.{chosen_of}
 use Rattle.aql_func.proofs.objects.members_among.Given as goal
 
 abbrev pub invariant-loop-member : goal.invariant-loop-member
-invariant-loop-member l = l.out ≡ chosen_of l.present (trees_in l.sought.keys) (fields_in (take l.member-index l.member-items))
+invariant-loop-member l = l.out ≡ chosen_of l.present (trees_in l.sought.keys)
+    (fields_in (take l.member-index l.member-items))

@@ -13,5 +13,7 @@ returns-else-contains-clause-found c =
     let g : (length c.in-Some.collection.now == 0) ≡ false = search rules in
     let h : (length c.in-Some.key.now == 0) ≡ false = search rules in
     let k : list_any is_slash c.in-Some.key.now ≡ false =
-    no_slash c.in-Some.key.now (λ k l e. true≢false (sym ((contains_char 47 c.in-Some.key.now c.contains.result c.contains.ensures.cases (omega arith)).1 k l e) ∙ c.if-contains.false)) in
+    no_slash c.in-Some.key.now (λ k l e. true≢false
+    (sym ((contains_char 47 c.in-Some.key.now c.contains.result c.contains.ensures.cases
+    (omega arith)).1 k l e) ∙ c.if-contains.false)) in
     sym (id_is id c.in-Some.collection.now c.in-Some.key.now p q g h k)

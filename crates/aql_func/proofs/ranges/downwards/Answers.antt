@@ -18,8 +18,11 @@ loop-next-preserved c =
     let r : more ≡ next +ℤ negsuc 0 = omega (arith, ints) in
     record {
       within = omega (arith, ints);
-      numbers = ap (λ o. o ++ numbers (negsuc 0) more (range_length more high)) c.in_ok-push.ensures.ok ∙ append_assoc c.loop-next.out _ _
-          ∙ ap (λ l. c.loop-next.out ++ l) (ap (λ z. number next ∷ numbers (negsuc 0) z (range_length z high)) r ∙ sym (next_down next high l)) ∙ c.loop-next.invariant.numbers;
+      numbers = ap (λ o. o ++ numbers (negsuc 0) more (range_length more high)) c.in_ok-push.ensures.ok
+          ∙ append_assoc c.loop-next.out _ _
+          ∙ ap (λ l. c.loop-next.out ++ l) (ap (λ z. number next
+          ∷ numbers (negsuc 0) z (range_length z high)) r ∙ sym (next_down next high l))
+          ∙ c.loop-next.invariant.numbers;
     }
 
 pub loop-next-smaller : goal.loop-next-smaller
@@ -32,5 +35,7 @@ returns c =
     let e : next ≡ high = omega (arith, ints) in
     let l : to_z w64 (of_z w64 c.args.low) ≡ c.args.low = omega (arith, ints) in
     let h : high ≡ c.args.high = omega (arith, ints) in
-    c.in_ok-push-2.ensures.ok ∙ ap (λ l. c.loop-next.out ++ l) (sym (last_number (negsuc 0) next high e)) ∙ c.loop-next.invariant.numbers
-    ∙ ap (λ z. numbers (negsuc 0) z (range_length z high)) l ∙ ap (λ z. numbers (negsuc 0) c.args.low (range_length c.args.low z)) h
+    c.in_ok-push-2.ensures.ok ∙ ap (λ l. c.loop-next.out ++ l) (sym (last_number (negsuc 0) next high e))
+    ∙ c.loop-next.invariant.numbers
+    ∙ ap (λ z. numbers (negsuc 0) z (range_length z high)) l
+    ∙ ap (λ z. numbers (negsuc 0) c.args.low (range_length c.args.low z)) h

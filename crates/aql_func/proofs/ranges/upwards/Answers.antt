@@ -18,8 +18,10 @@ loop-next-preserved c =
     let r : more ≡ next +ℤ pos 1 = omega (arith, ints) in
     record {
       within = omega (arith, ints);
-      numbers = ap (λ o. o ++ numbers (pos 1) more (range_length more high)) c.in_ok-push.ensures.ok ∙ append_assoc c.loop-next.out _ _
-          ∙ ap (λ l. c.loop-next.out ++ l) (ap (λ z. number next ∷ numbers (pos 1) z (range_length z high)) r ∙ sym (next_up next high l)) ∙ c.loop-next.invariant.numbers;
+      numbers = ap (λ o. o ++ numbers (pos 1) more (range_length more high)) c.in_ok-push.ensures.ok
+          ∙ append_assoc c.loop-next.out _ _
+          ∙ ap (λ l. c.loop-next.out ++ l) (ap (λ z. number next ∷ numbers (pos 1) z (range_length z high)) r
+          ∙ sym (next_up next high l)) ∙ c.loop-next.invariant.numbers;
     }
 
 pub loop-next-smaller : goal.loop-next-smaller
@@ -32,5 +34,7 @@ returns c =
     let e : next ≡ high = omega (arith, ints) in
     let l : to_z w64 (of_z w64 c.args.low) ≡ c.args.low = omega (arith, ints) in
     let h : high ≡ c.args.high = omega (arith, ints) in
-    c.in_ok-push-2.ensures.ok ∙ ap (λ l. c.loop-next.out ++ l) (sym (last_number (pos 1) next high e)) ∙ c.loop-next.invariant.numbers
-    ∙ ap (λ z. numbers (pos 1) z (range_length z high)) l ∙ ap (λ z. numbers (pos 1) c.args.low (range_length c.args.low z)) h
+    c.in_ok-push-2.ensures.ok ∙ ap (λ l. c.loop-next.out ++ l) (sym (last_number (pos 1) next high e))
+    ∙ c.loop-next.invariant.numbers
+    ∙ ap (λ z. numbers (pos 1) z (range_length z high)) l
+    ∙ ap (λ z. numbers (pos 1) c.args.low (range_length c.args.low z)) h

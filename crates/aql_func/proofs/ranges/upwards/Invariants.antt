@@ -6,7 +6,8 @@ use Rattle.aql_func.proofs.ranges.upwards.Given as goal
 abbrev pub invariant-loop-next : goal.invariant-loop-next
 invariant-loop-next l = record {
   within : l.next ≤ℤ l.high;
-  numbers : l.out ++ numbers (pos 1) l.next (range_length l.next l.high) ≡ numbers (pos 1) l.low (range_length l.low l.high);
+  numbers : l.out ++ numbers (pos 1) l.next (range_length l.next l.high)
+      ≡ numbers (pos 1) l.low (range_length l.low l.high);
 }
 
 abbrev pub decreases-loop-next : goal.decreases-loop-next

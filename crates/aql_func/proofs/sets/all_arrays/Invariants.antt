@@ -5,4 +5,5 @@ use Rattle.aql_func.specs.Arguments.{is_array}
 use Rattle.aql_func.proofs.sets.all_arrays.Given as goal
 
 abbrev pub invariant-loop-arg : goal.invariant-loop-arg
-invariant-loop-arg l = list_all is_array (trees_in (drop l.arg-index l.args)) ≡ list_all is_array (trees_in l.args)
+invariant-loop-arg l = list_all is_array (trees_in (drop l.arg-index l.args))
+    ≡ list_all is_array (trees_in l.args)

@@ -14,6 +14,7 @@ use Rattle.aql_func.proofs.sets.minus.Goals as goal
 pub returns : goal.returns
 returns c =
     let lists = map elements (trees_in c.as_slice.result.now) in
-    IfOk-weaker c.sieved.result _ _ (λ v gives. gives
-    ∙ ap (λ ts. cond (list_all is_array (trees_in c.as_slice.result.now)) (list (distinct ts)) null) (sieve_none (drop 1 lists) (head lists))
-    ∙ ap (call Minus) c.as_slice.ensures) c.sieved.ensures
+    IfOk-weaker c.sieve_all.result _ _ (λ v gives. gives
+    ∙ ap (λ ts. cond (list_all is_array (trees_in c.as_slice.result.now)) (list (distinct ts)) null)
+    (sieve_none (drop 1 lists) (head lists))
+    ∙ ap (call Minus) c.as_slice.ensures) c.sieve_all.ensures

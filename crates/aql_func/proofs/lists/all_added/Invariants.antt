@@ -1,7 +1,0 @@
-use Rattle.std.proofs.Common.{◌≡◌, false}
-use Rattle.aql_value.specs.View.{trees_in}
-use Rattle.aql_func.specs.Lists.{all_added}
-use Rattle.aql_func.proofs.lists.all_added.Given as goal
-
-abbrev pub invariant-loop-value : goal.invariant-loop-value
-invariant-loop-value l = all_added false l.out (trees_in l.value-iterator.rest.items) ≡ all_added false (trees_in l.values) (trees_in l.fn.more.items)

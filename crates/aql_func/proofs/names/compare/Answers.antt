@@ -1,0 +1,15 @@
+use Rattle.std.proofs.Common.{rules, ◌≡◌, refl}
+use Rattle.std.specs.Char.{to_ascii_lowercase}
+use Rattle.std.specs.Ordering.{nat_cmp}
+use Rattle.std.proofs.lemmas.Iterator.{YieldsList-from_map}
+use Rattle.std.proofs.lemmas.Iterator.Adapters.{YieldsList-from_bytes}
+use Rattle.std.proofs.lemmas.Iterator.Search.{cmp_from_yields_List}
+use Rattle.aql_func.proofs.names.compare.Goals as goal
+
+pub returns : goal.returns
+returns c = cmp_from_yields_List (λ x y. y ≡ x) _ nat_cmp _ c.cmp.ensures.ran
+    (YieldsList-from_map _ to_ascii_lowercase (YieldsList-from_bytes c.args.a.now cc) c.map.ensures.closure
+    (λ x r q called. search rules))
+    (λ it e. rw e (YieldsList-from_map _ to_ascii_lowercase (YieldsList-from_bytes c.args.b.now cc)
+    c.map-b.ensures.closure (λ x r q called. search rules)))
+    (λ x y. refl)

@@ -1,5 +1,0 @@
-use Rattle.std.proofs.Common.{rules}
-use Rattle.aql_func.proofs.sets.sieved.Goals as goal
-
-pub returns-in_ok-left-in-Some : goal.returns-in_ok-left-in-Some
-returns-in_ok-left-in-Some c = search rules
