@@ -1,20 +1,23 @@
 -- The keys of documents, as documents come and go.
-use Rattle.std.proofs.Common.{◌≡◌, ℕ, List, [], ◌∷◌, ◌++◌, Bool, true, false, cond, ◌||◌, Option, Some, None, refl, sym, ap, ◌∙◌, length, take, drop, bytes_eq, option_map, codes}
-use Rattle.std.specs.Prelude.{unwrap_or, MatchOption}
+use Rattle.std.proofs.Common.{◌≡◌, ℕ, List, [], ◌∷◌, ◌++◌, Bool, true, false, cond, ◌||◌, Option, Some, None, refl, sym, ap, ◌∙◌, length, take, drop, bytes_eq, option_map, codes, String, string_bytes, string_eq}
+use Rattle.std.specs.Prelude.{unwrap_or, MatchOption, Ok, Err, IfSome, if◌then◌else◌}
 use Rattle.std.specs.Str.Pattern.{FindsTextPrefix, StripsPrefix}
 use Rattle.std.specs.Borrow.{Bor}
+use Rattle.std.specs.HashSet.{HashSet, IsReordered, contains_text}
+use Rattle.std.proofs.lemmas.List.Sorted.{list_any-IsPermutation}
 use Rattle.std.proofs.lemmas.Slice.Eq.{bytes_eq-Decides}
 use Rattle.std.proofs.lemmas.Bool.{false_from_ne_true}
 use Rattle.std.proofs.lemmas.Bool.Decides.{same_from_decides}
 use Rattle.std.proofs.lemmas.List.Folds.{list_any-append}
 use Rattle.std.proofs.lemmas.List.{take-append-drop}
 use Rattle.std.proofs.Math.Seq.{take-append_seam}
-use Rattle.aql_value.specs.Tree.{Tree, null, text}
+use Rattle.aql_value.specs.Tree.{Tree, null, boolean, number, text, array, object}
 use Rattle.aql_value.specs.Attributes.{attribute, with_attribute}
 use Rattle.aql_value.specs.laws.Lists.{fields_list-object_of}
-use Rattle.aql_doc.specs.Keys.{behind, id_of}
+use Rattle.aql_doc.specs.Keys.{rest_after, id_of, is_key, is_text}
 use Rattle.aql_doc.specs.Taken.{key_of, bytes_of, has_key}
-use Rattle.aql_doc.specs.Documents.{filled}
+use Rattle.aql_doc.specs.Documents.{filled, key_given, id_beside}
+use Rattle.aql_doc.specs.declared.faults.DocFault.TheVariants.{BadKey, IdMismatch}
 use Rattle.aql_doc.proofs.Attributes.{attribute_same, attribute_other}
 
 -- a document has the key that it is given
@@ -49,45 +52,56 @@ has_key-append docs name key ms q =
     ∙ ap (λ b. has_key docs q || (b || false)) (swapped q key)
     ∙ or_flip (has_key docs q) (bytes_eq key q)
 
--- the set after the key was put in, at a key q
-pub put_in : (docs docs2 : List Tree) (doc : Tree) (name key own : List ℕ) (ms : List (List ℕ × Tree))
-    (q : List ℕ)
-    (o i : Bool) → own ≡ key → o ≡ has_key docs q → i ≡ cond (bytes_eq own q) true o
-    → doc ≡ filled name key ms
+-- room that is made in the set
+pub made_room : {Y S : Type 0} → (q : List ℕ) (s n : HashSet (String Y) S) → IsReordered string_eq s n
+    → contains_text n q ≡ contains_text s q
+made_room q s n r = sym (list_any-IsPermutation (λ k. bytes_eq q (string_bytes k)) s.keys n.keys r.0)
+
+-- the set after room was made in it and the key was put in, at a key q
+pub put_in : (docs docs2 : List Tree) (doc : Tree) (name key : List ℕ) (ms : List (List ℕ
+    × Tree)) (q : List ℕ)
+    (o r i : Bool) → o ≡ has_key docs q → r ≡ o → i ≡ cond (bytes_eq key q) true r → doc ≡ filled name key ms
     → docs2 ≡ docs ++ doc ∷ [] → i ≡ has_key docs2 q
-put_in docs docs2 doc name key own ms q o i e f g h j =
-    g ∙ ap (λ k. cond (bytes_eq k q) true o) e ∙ ap (cond (bytes_eq key q) true) f
+put_in docs docs2 doc name key ms q o r i f e g h j =
+    g ∙ ap (cond (bytes_eq key q) true) (e ∙ f)
     ∙ sym (ap (λ d. has_key d q) j ∙ ap (λ t. has_key (docs ++ t ∷ []) q) h
     ∙ has_key-append docs name key ms q)
 
--- a key put in and taken out again
-put_back : (docs : List Tree) (key q : List ℕ) (o i r : Bool) → has_key docs key ≡ false → o ≡ has_key docs q
-    → i ≡ cond (bytes_eq key q) true o → r ≡ cond (bytes_eq key q) false i → r ≡ has_key docs q
-put_back docs key q o i r free e f g =
-    elim (bytes_eq key q)
-    as (λ b. bytes_eq key q ≡ b → i ≡ cond b true o → r ≡ cond b false i → r ≡ has_key docs q) [
-      | true ↦ λ s f g. g ∙ sym free ∙ ap (has_key docs) ((bytes_eq-Decides key q).0 s)
-      | false ↦ λ s f g. g ∙ f ∙ e
-    ] refl f g
+key_of_id : (name s key : List ℕ) (id : Option Tree) → id_beside name s id ≡ Ok key → text s ≡ text key
+key_of_id name s key None e = cc
+key_of_id name s key (Some id) e =
+    elim (is_text (id_of name s) id) as (λ b. (if b then Ok s else Err IdMismatch) ≡ Ok key
+    → text s ≡ text key) [
+      | true ↦ λ e. cc
+      | false ↦ λ e. absurd (cc)
+    ] e
 
-pub taken_out : (docs docs2 : List Tree) (key own own2 q : List ℕ) (o i r : Bool) → own ≡ key → own2 ≡ key
-    → has_key docs key ≡ false → o ≡ has_key docs q → i ≡ cond (bytes_eq own q) true o
-    → r ≡ cond (bytes_eq own2 q) false i → docs2 ≡ docs → r ≡ has_key docs2 q
-taken_out docs docs2 key own own2 q o i r e e2 free f g h j =
-    put_back docs key q o i r free f (g ∙ ap (λ k. cond (bytes_eq k q) true o) e)
-    (h ∙ ap (λ k. cond (bytes_eq k q) false i) e2)
-    ∙ ap (λ d. has_key d q) (sym j)
+key_of_text : (name s key : List ℕ) (id : Option Tree) (b : Bool)
+    → (if b then id_beside name s id else Err BadKey) ≡ Ok key → text s ≡ text key
+key_of_text name s key id true e = key_of_id name s key id e
+key_of_text name s key id false e = absurd (cc)
 
-pub behind_is : (front s : List ℕ) (r : Option (Bor (List ℕ)))
+-- the key that a `_key` gives is its text
+pub key_is_there : (name key : List ℕ) (at id : Option Tree) → key_given name at id ≡ Ok key
+    → IfSome at (λ t. t ≡ text key)
+key_is_there name key None id e = tt
+key_is_there name key (Some (text s)) id e = key_of_text name s key id (is_key s) e
+key_is_there name key (Some null) id e = absurd (cc)
+key_is_there name key (Some (boolean b)) id e = absurd (cc)
+key_is_there name key (Some (number z)) id e = absurd (cc)
+key_is_there name key (Some (array ts)) id e = absurd (cc)
+key_is_there name key (Some (object fs)) id e = absurd (cc)
+
+pub rest_after_is : (front s : List ℕ) (r : Option (Bor (List ℕ)))
     → MatchOption r (FindsTextPrefix front s None) (λ x. StripsPrefix (FindsTextPrefix front) s x.now)
-    → option_map (λ x. x.now) r ≡ behind front s
-behind_is front s None h =
+    → option_map (λ x. x.now) r ≡ rest_after front s
+rest_after_is front s None h =
     let no_front : bytes_eq (take (length front) s) front ≡ false =
     false_from_ne_true _ (λ e. h (drop (length front) s)
     (sym (take-append-drop (length front) s)
     ∙ ap (λ f. f ++ drop (length front) s) ((bytes_eq-Decides _ _).0 e))) in
     rw no_front refl
-behind_is front s (Some x) h =
+rest_after_is front s (Some x) h =
     let at : h.0 ≡ length front = h.1.0 in
     let is_front : bytes_eq (take (length front) s) front ≡ true =
     (bytes_eq-Decides _ _).1 (ap (take (length front)) h.1.1 ∙ take-append_seam front _) in

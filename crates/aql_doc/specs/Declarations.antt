@@ -1,4 +1,5 @@
--- The catalog after a declaration of a collection or of a sorted index, or the first fault of the declaration.
+-- The catalog after a declaration of a collection or of a sorted index, or the first fault of the
+-- declaration.
 use Rattle.std.specs.Prelude.{suc, ℕ, List, [], ◌∷◌, ◌++◌, Bool, Option, Some, None, Result, Ok, Err, if◌then◌else◌, length, nat_lt, bytes_eq, is_some, option_map, slice_get, slice_set}
 use Rattle.std.specs.List.{list_any}
 use Rattle.std.specs.Cmp.Lexicographic.{pointwise}

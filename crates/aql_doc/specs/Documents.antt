@@ -1,11 +1,12 @@
--- The catalog after one more document, or the first fault of the document (AQL fundamentals, Accessing data from
--- collections; Graphs, edges). A document is held with its `_key` and its `_id`: where the key is missing it comes
--- from the id, and where the id is missing it comes from the key. An edge also has `_from` and `_to`.
+-- The catalog after one more document, or the first fault of the document (AQL fundamentals, Accessing data
+-- from collections; Graphs, edges). A document is held with its `_key` and its `_id`: where the key is
+-- missing it comes from the id, and where the id is missing it comes from the key. An edge also has `_from`
+-- and `_to`.
 use Rattle.std.specs.Prelude.{ℕ, List, [], ◌∷◌, ◌++◌, Bool, ◌&&◌, not, Option, Some, None, Result, Ok, Err, if◌then◌else◌, codes, nat_lt, slice_get}
 use Rattle.aql_value.specs.Tree.{Tree, text}
 use Rattle.aql_value.specs.Attributes.{attribute, with_attribute}
 use Rattle.aql_value.specs.Parts.{members_of, record_of}
-use Rattle.aql_doc.specs.Keys.{is_key, id_of, is_text, behind, is_end}
+use Rattle.aql_doc.specs.Keys.{is_key, id_of, is_text, rest_after, is_end}
 use Rattle.aql_doc.specs.Held.{Held, documents_in}
 use Rattle.aql_doc.specs.Taken.{has_key}
 use Rattle.aql_doc.specs.Declarations.{changed}
@@ -21,13 +22,13 @@ abbrev pub key_beside : List ℕ → Tree → Option Tree → Result (List ℕ) 
 key_beside name (text key) id = if is_key key then id_beside name key id else Err BadKey
 key_beside name t id = Err BadKey
 
--- the key behind the name and the slash of an id
+-- the key after the name and the slash of an id
 abbrev pub allowed : Option (List ℕ) → Result (List ℕ) DocFault
 allowed (Some key) = if is_key key then Ok key else Err IdMismatch
 allowed None = Err IdMismatch
 
 abbrev pub key_from_id : List ℕ → Tree → Result (List ℕ) DocFault
-key_from_id name (text id) = allowed (behind (id_of name []) id)
+key_from_id name (text id) = allowed (rest_after (id_of name []) id)
 key_from_id name t = Err IdMismatch
 
 -- the key that `_key` and `_id` give

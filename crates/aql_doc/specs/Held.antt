@@ -1,6 +1,6 @@
--- What a catalog holds: for each collection, in the order of declaration, how it was declared and its documents in
--- order (AQL fundamentals, Accessing data from collections). `database` leaves out what a query's answer cannot
--- depend on, shards and indexes.
+-- What a catalog holds: for each collection, in the order of declaration, how it was declared and its
+-- documents in order (AQL fundamentals, Accessing data from collections). `database` leaves out what a
+-- query's answer cannot depend on, shards and indexes.
 use Rattle.std.specs.Prelude.{ℕ, List, [], ◌∷◌, ◌+◌, Bool, length, map, refl, slice_get, option_map, unwrap_or}
 use Rattle.std.specs.Coded.{Coded, code_by, coded×, coded_ℕ, coded_list, coded_bool}
 use Rattle.aql_value.specs.Tree.{Tree, coded_bytes, coded_trees}

@@ -24,9 +24,9 @@ abbrev pub is_text : List ℕ → Tree → Bool
 is_text s (text t) = bytes_eq t s
 is_text s t = false
 
--- what stands behind a front, where it is one
-abbrev pub behind : List ℕ → List ℕ → Option (List ℕ)
-behind front s = if bytes_eq (take (length front) s) front then Some (drop (length front) s) else None
+-- what stands after a front, where it is one
+abbrev pub rest_after : List ℕ → List ℕ → Option (List ℕ)
+rest_after front s = if bytes_eq (take (length front) s) front then Some (drop (length front) s) else None
 
 abbrev pub is_slash : ℕ → Bool
 is_slash b = nat_eq b 47

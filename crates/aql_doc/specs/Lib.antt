@@ -3,4 +3,5 @@ pub mod Held
 pub mod Taken
 pub mod Meets
 pub mod Declarations
+pub mod Limits
 pub mod Documents

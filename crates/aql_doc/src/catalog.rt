@@ -3,6 +3,7 @@ ghost use Rattle.aql_value.specs.View.{tree_of};
 ghost use Rattle.aql_doc.specs.Held.{Held, documents_at};
 ghost use Rattle.aql_doc.specs.Declarations.{place_of, declared, indexed};
 ghost use Rattle.aql_doc.specs.Documents.{added};
+ghost use Rattle.aql_doc.specs.Limits.{IsDeclared, IsWithinLimits};
 ghost use Rattle.aql_doc.specs.Meets.{Refuses};
 ghost use Rattle.aql_doc.specs.declared.faults.CatalogFault.TheVariants.{Memory as NoMemory};
 
@@ -14,7 +15,10 @@ use std::alloc::Global;
 use std::marker::Model;
 
 /// The collections of a script, in the order of their declaration, and their documents. Contracts
-/// see the list of the collections, each with its declaration and its documents.
+/// see the list of the collections, each with its declaration and its documents. It keeps within
+/// the limits of `IsWithinLimits`: at most 64 collections and 200,000 documents in all; of each
+/// collection 1 to 32 shards, one to eight shard keys, and at most 16 sorted indexes over one to
+/// eight attributes each, no two alike.
 pub struct Catalog {
     collections: Vec<Collection>,
     total: u32,
@@ -30,9 +34,10 @@ impl Drop for Catalog {
 }
 
 impl Model for Catalog {
-    ghost use Rattle.std.specs.Prelude.{◌≡◌, ◌≤◌, List, length};
+    ghost use Rattle.std.specs.Prelude.{◌≡◌, List};
     ghost use Rattle.std.specs.Coded.{coded_list};
     ghost use Rattle.aql_doc.specs.Held.{Held, coded_held, documents_in};
+    ghost use Rattle.aql_doc.specs.Limits.{IsWithinLimits};
 
     ghost Value = { List Held };
 
@@ -41,7 +46,7 @@ impl Model for Catalog {
     ghost view = { λ c. c.collections.items };
 
     ghost invariant = { λ c. (c.total ≡ documents_in c.collections.items)
-        × (c.total ≤ 200000) × (length c.collections.items ≤ 64) };
+        × IsWithinLimits c.collections.items };
 }
 
 impl Catalog {
@@ -63,6 +68,13 @@ impl Catalog {
         self.collections.len()
     }
 
+    /// Recalls, for a proof, the limits that every catalog keeps.
+    pub fn recall_limits(&self)
+        ensures { IsWithinLimits self.now }
+    {
+        let _total = self.total;
+    }
+
     /// The number of the collection with a name; `None` exactly where there is none.
     pub fn find(&self, name: &str) -> Option<CollNo>
         ensures value { option_map (λ n. n.0) result ≡ place_of self.now name.now }
@@ -78,7 +90,6 @@ impl Catalog {
 
     /// Declares a collection without indexes and documents, with 1 to 32 shards and one to eight
     /// shard keys. What is refused leaves the catalog as it was.
-    #[tactic(auto, using(crate::proofs::Places::held_more))]
     pub fn declare(
         &mut self,
         alloc: Global,
@@ -109,9 +120,7 @@ impl Catalog {
             keys,
             indexes: IndexLists::new(alloc),
         };
-        if self.collections.push(Collection::new(alloc, info)).is_err() {
-            return Err(CatalogFault::Memory);
-        }
+        self.collections.push(Collection::new(alloc, info))?;
         Ok(CollNo(at as u32))
     }
 
@@ -177,8 +186,9 @@ impl Catalog {
 
     /// How a collection was declared; `None` exactly where it is not.
     pub fn info(&self, coll: CollNo) -> Option<&CollInfo>
-        ensures { option_map (λ i. i.now) result
+        ensures value { option_map (λ i. i.now) result
             ≡ option_map (λ (h : Held). h.info) (slice_get self.now coll.0) }
+        ensures limits { IfSome result (λ i. IsDeclared i.now) }
     {
         match self.collections.get(coll.0 as usize) {
             Some(collection) => Some(collection.info()),

@@ -1,19 +1,21 @@
 //! A collection, with the keys that its documents take.
 
-ghost use Rattle.std.specs.Prelude.{◌≡◌, ◌⊎◌, ◌++◌, ◌∷◌, ◌<◌, ◌≤◌, ◌+◌, [], length, IfOk, IfErr, OnOk, OnErr, Ok, Err, bytes_eq, false};
+ghost use Rattle.std.specs.Prelude.{◌≡◌, ◌⊎◌, ◌++◌, ◌∷◌, ◌<◌, ◌≤◌, ◌+◌, [], length, IfOk, IfErr, OnOk, OnErr, IfSome, Ok, Err, bytes_eq, codes, false, string_bytes};
+ghost use Rattle.aql_value.specs.Attributes.{attribute};
+ghost use Rattle.aql_value.specs.Tree.{object_of, text};
 ghost use Rattle.aql_value.specs.View.{tree_of};
+ghost use Rattle.aql_value.specs.WellFormed.{FieldsWellFormed};
 ghost use Rattle.aql_doc.specs.Taken.{has_key};
 ghost use Rattle.aql_doc.specs.Documents.{filled, with_members, with_document};
 ghost use Rattle.aql_doc.specs.Meets.{Refuses};
 ghost use Rattle.aql_doc.specs.Declarations.{are_same, has_index, with_index};
-ghost use Rattle.aql_doc.specs.declared.faults.DocFault.TheVariants.{Memory};
 ghost use Rattle.aql_doc.specs.declared.faults.CatalogFault.TheVariants.{Memory as NoMemory};
 
-use crate::document::{fill, lacks_ends, owned};
-use crate::keys::key_in;
+use crate::document::fill;
+use crate::keys::{has_ends, key_in};
 use crate::limits::{takes_document, takes_index};
 use crate::{CatalogFault, CollInfo, DocFault};
-use aql_value::{DocNo, Items, Members, Names, Text, Value};
+use aql_value::{DocNo, Items, Members, Names, OutOfMemory, Text, Value, recall_well_formed};
 use std::alloc::Global;
 use std::collections::HashSet;
 use std::marker::Model;
@@ -79,12 +81,6 @@ impl Collection {
         self.info.name.as_str() == name
     }
 
-    fn holds(&self, key: &Text) -> bool
-        ensures { result ≡ has_key self.now.documents key.now }
-    {
-        self.taken.contains(key.as_str())
-    }
-
     // Adds a document, where so many are held in all.
     pub(crate) fn add(&mut self, alloc: Global, total: u32, doc: Value) -> Result<DocNo, DocFault>
         requires { length self.old.documents ≤ total }
@@ -96,6 +92,7 @@ impl Collection {
         ensures err { IfErr result (λ e. Refuses e (with_document self.old total (tree_of doc))) }
         ensures unchanged { OnErr result (self.new ≡ self.old) }
     {
+        recall_well_formed(&doc);
         match doc.into_members() {
             Some(members) => self.add_object(alloc, total, members),
             None => Err(DocFault::NotObject),
@@ -103,7 +100,8 @@ impl Collection {
     }
 
     fn add_object(&mut self, alloc: Global, total: u32, members: Members) -> Result<DocNo, DocFault>
-        requires { length self.old.documents ≤ total }
+        requires few { length self.old.documents ≤ total }
+        requires names { FieldsWellFormed (object_of members) }
         ensures ok { IfOk result (λ n. (n.0 ≡ length self.old.documents)
             × (with_members self.old total members ≡ Ok self.new)) }
         ensures room { OnOk result ((total < 200000)
@@ -116,44 +114,46 @@ impl Collection {
             Ok(key) => key,
             Err(fault) => return Err(fault),
         };
-        if lacks_ends(self.info.edge, &members) {
+        if self.info.edge && !has_ends(&members) {
             return Err(DocFault::BadEdge);
         }
-        if self.holds(&key) {
+        if self.taken.contains(key) {
+            let key = Text::new(alloc, key)?;
             return Err(DocFault::DuplicateKey { key });
         }
         if !takes_document(total) {
             return Err(DocFault::TooMany);
         }
-        self.put(alloc, key, members)
+        let key = String::from_str(alloc, key)?;
+        match self.put(alloc, key, members) {
+            Ok(at) => Ok(at),
+            Err(_) => Err(DocFault::Memory),
+        }
     }
 
     // Holds a document under a key that is not taken.
-    fn put(&mut self, alloc: Global, key: Text, members: Members) -> Result<DocNo, DocFault>
-        requires free { has_key self.old.documents key ≡ false }
+    fn put(&mut self, alloc: Global, key: String, members: Members) -> Result<DocNo, OutOfMemory>
+        requires free { has_key self.old.documents (string_bytes key) ≡ false }
         requires few { length self.old.documents < 200000 }
+        requires names { FieldsWellFormed (object_of members) }
+        requires key { IfSome (attribute (codes "_key") members)
+            (λ t. t ≡ text (string_bytes key)) }
         ensures ok { IfOk result (λ n. (n.0 ≡ length self.old.documents)
             × (self.new ≡ record self.old {
-              documents = self.old.documents ++ filled self.old.info.name key members ∷ [];
+              documents = self.old.documents
+                  ++ filled self.old.info.name (string_bytes key) members ∷ [];
             })) }
-        ensures err { IfErr result (λ e. e ≡ Memory) }
         ensures unchanged { OnErr result (self.new ≡ self.old) }
     {
         let at = self.documents.len() as u32;
-        let Ok(filled) = fill(alloc, &self.info.name, &key, members) else {
-            return Err(DocFault::Memory);
-        };
-        let Ok(own) = owned(alloc, &key) else {
-            return Err(DocFault::Memory);
-        };
-        let Ok(_) = self.taken.insert(own) else {
-            return Err(DocFault::Memory);
-        };
-        let Ok(()) = self.documents.push(filled) else {
-            self.taken.remove(key.as_str());
-            return Err(DocFault::Memory);
-        };
-        Ok(DocNo(at))
+        let filled = fill(alloc, &self.info.name, key.as_str(), members)?;
+        self.taken.reserve(1)?;
+        self.documents.push(filled)?;
+        // There is room for the key.
+        match self.taken.insert(key) {
+            Ok(_) => Ok(DocNo(at)),
+            Err(_) => unreachable!(),
+        }
     }
 
     // Adds a sorted index; one that is there is kept once.
@@ -170,9 +170,7 @@ impl Collection {
         if !takes_index(self.info.indexes.len()) {
             return Err(CatalogFault::TooMany);
         }
-        if self.info.indexes.push(attributes).is_err() {
-            return Err(CatalogFault::Memory);
-        }
+        self.info.indexes.push(attributes)?;
         Ok(())
     }
 }

@@ -1,10 +1,13 @@
 //! The form in which a document is held.
 
-ghost use Rattle.std.specs.Prelude.{◌≡◌, ◌&&◌, IfOk, not, string_bytes};
+ghost use Rattle.std.specs.Prelude.{◌≡◌, IfOk, IfSome, codes};
+ghost use Rattle.aql_value.specs.Attributes.{attribute, with_attribute};
+ghost use Rattle.aql_value.specs.Tree.{object_of, text};
 ghost use Rattle.aql_value.specs.View.{tree_of};
-ghost use Rattle.aql_doc.specs.Documents.{has_ends, filled};
+ghost use Rattle.aql_value.specs.WellFormed.{FieldsWellFormed};
+ghost use Rattle.aql_doc.specs.Documents.{filled};
 
-use crate::keys::{has_ends, id_of};
+use crate::keys::id_of;
 use aql_value::{Members, OutOfMemory, Text, Value};
 use std::alloc::Global;
 
@@ -13,29 +16,32 @@ use std::alloc::Global;
 pub(crate) fn fill(
     alloc: Global,
     name: &Text,
-    key: &Text,
+    key: &str,
     members: Members,
 ) -> Result<Value, OutOfMemory>
+    requires names { FieldsWellFormed (object_of members) }
+    requires key { IfSome (attribute (codes "_key") members) (λ t. t ≡ text key.now) }
     ensures { IfOk result (λ v. tree_of v ≡ filled name.now key.now members) }
 {
-    let mut filled = members;
-    filled.set(Text::new(alloc, "_key")?, Value::Text(key.copy(alloc)?))?;
+    let mut filled = with_key(alloc, key, members)?;
     let id = id_of(alloc, name, key)?;
     filled.set(Text::new(alloc, "_id")?, Value::Text(id))?;
     Ok(Value::Object(filled))
 }
 
-pub(crate) fn lacks_ends(edge: bool, members: &Members) -> bool
-    ensures { result ≡ (edge && not (has_ends members.now)) }
+// The attributes with `_key`, which stays as it is where it is there.
+fn with_key(alloc: Global, key: &str, members: Members) -> Result<Members, OutOfMemory>
+    requires names { FieldsWellFormed (object_of members) }
+    requires key { IfSome (attribute (codes "_key") members) (λ t. t ≡ text key.now) }
+    ensures { IfOk result (λ ms. ms ≡ with_attribute (codes "_key") (text key.now) members) }
 {
-    edge && !has_ends(members)
-}
-
-// A string of its own with the text.
-pub(crate) fn owned(alloc: Global, text: &Text) -> Result<String, OutOfMemory>
-    ensures { IfOk result (λ s. string_bytes s ≡ text.now) }
-{
-    let mut own = String::new(alloc);
-    own.push_str(text.as_str())?;
-    Ok(own)
+    if members.value("_key").is_some() {
+        return Ok(members);
+    }
+    let mut keyed = members;
+    keyed.set(
+        Text::new(alloc, "_key")?,
+        Value::Text(Text::new(alloc, key)?),
+    )?;
+    Ok(keyed)
 }

@@ -1,5 +1,5 @@
 use aql_value::{OutOfMemory, Text};
-use std::alloc::AllocError;
+use std::alloc::{AllocError, AllocFailed};
 use thiserror::Error;
 
 /// Why a collection or an index is not declared. Where several hold, the first of these is
@@ -15,6 +15,28 @@ pub enum CatalogFault {
     /// Memory ran out.
     #[error("out of memory")]
     Memory,
+}
+
+impl From<OutOfMemory> for CatalogFault {
+    ghost use Rattle.std.specs.Prelude.{◌≡◌};
+    ghost use Rattle.aql_doc.specs.declared.faults.CatalogFault.TheVariants.{Memory};
+
+    ghost from_gives = { λ _ f. f ≡ Memory };
+
+    fn from(_: OutOfMemory) -> CatalogFault {
+        CatalogFault::Memory
+    }
+}
+
+impl<T: Drop> From<AllocFailed<T>> for CatalogFault {
+    ghost use Rattle.std.specs.Prelude.{◌≡◌};
+    ghost use Rattle.aql_doc.specs.declared.faults.CatalogFault.TheVariants.{Memory};
+
+    ghost from_gives = { λ _ f. f ≡ Memory };
+
+    fn from(_: AllocFailed<T>) -> CatalogFault {
+        CatalogFault::Memory
+    }
 }
 
 /// Why a document is not held. Where several hold, the first of these is answered.

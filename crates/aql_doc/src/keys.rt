@@ -1,21 +1,26 @@
 //! The keys of documents, their ids, and the ends of edges.
 
-ghost use Rattle.std.specs.Prelude.{◌≡◌, ◌∷◌, ◌++◌, IfOk, codes, count_by, nat_eq, option_map, slice_index, string_bytes};
+ghost use Rattle.std.specs.Prelude.{◌≡◌, ◌∷◌, ◌++◌, IfOk, codes, count_by, nat_eq, option_map};
 ghost use Rattle.std.specs.List.{list_all};
 ghost use Rattle.aql_value.specs.Tree.{Tree};
 ghost use Rattle.aql_value.specs.View.{tree_of};
 ghost use Rattle.aql_value.specs.Attributes.{attribute};
-ghost use Rattle.aql_doc.specs.Keys.{is_key, is_key_byte, is_slash, is_id, is_end, is_text, behind};
+ghost use Rattle.aql_doc.specs.Keys.{is_key, is_key_byte, is_slash, is_id, is_end, is_text, rest_after};
 ghost use Rattle.aql_doc.specs.Documents.{allowed, key_beside, key_from_id, key_given, has_ends};
-ghost use Rattle.aql_doc.specs.Meets.{Meets};
+ghost use Rattle.aql_doc.specs.Meets.{MeetsText};
 
 use crate::DocFault;
+use crate::limits::KEY_BYTES;
 use aql_value::{Members, OutOfMemory, Text, Value};
 use std::alloc::Global;
 
 // The key that `_key` and `_id` give in the collection of a name.
-pub(crate) fn key_in(alloc: Global, name: &Text, members: &Members) -> Result<Text, DocFault>
-    ensures { Meets result (key_given name.now
+pub(crate) fn key_in<'a>(
+    alloc: Global,
+    name: &Text,
+    members: &'a Members,
+) -> Result<&'a str, DocFault>
+    ensures { MeetsText result (key_given name.now
         (attribute (codes "_key") members.now) (attribute (codes "_id") members.now)) }
 {
     match members.value("_key") {
@@ -27,74 +32,74 @@ pub(crate) fn key_in(alloc: Global, name: &Text, members: &Members) -> Result<Te
     }
 }
 
-fn key_beside_id(
+fn key_beside_id<'a>(
     alloc: Global,
     name: &Text,
-    key: &Value,
+    key: &'a Value,
     id: Option<&Value>,
-) -> Result<Text, DocFault>
-    ensures { Meets result
+) -> Result<&'a str, DocFault>
+    ensures { MeetsText result
         (key_beside name.now (tree_of key.now) (option_map (λ v. tree_of v.now) id.entry)) }
 {
     let Value::Text(key) = key else {
         return Err(DocFault::BadKey);
     };
-    if !is_key(key.as_str().as_bytes()) {
+    let key = key.as_str();
+    if !is_key(key.as_bytes()) {
         return Err(DocFault::BadKey);
     }
     let Some(id) = id else {
-        return Ok(key.copy(alloc)?);
+        return Ok(key);
     };
     let wanted = id_of(alloc, name, key)?;
     if is_text(id, &wanted) {
-        Ok(key.copy(alloc)?)
+        Ok(key)
     } else {
         Err(DocFault::IdMismatch)
     }
 }
 
-// The key behind the collection's name and a slash.
-fn key_of_id(alloc: Global, name: &Text, id: &Value) -> Result<Text, DocFault>
-    ensures { Meets result (key_from_id name.now (tree_of id.now)) }
+// The key after the collection's name and a slash.
+fn key_of_id<'a>(alloc: Global, name: &Text, id: &'a Value) -> Result<&'a str, DocFault>
+    ensures { MeetsText result (key_from_id name.now (tree_of id.now)) }
 {
     match id {
         Value::Text(id) => {
-            let front = id_of(alloc, name, &Text::new(alloc, "")?)?;
-            allowed(alloc, behind(front.as_str(), id.as_str()))
+            let front = id_of(alloc, name, "")?;
+            allow(rest_after(front.as_str(), id.as_str()))
         }
         _ => Err(DocFault::IdMismatch),
     }
 }
 
-// What stands behind a front, where it is one.
-fn behind<'a>(front: &str, text: &'a str) -> Option<&'a str>
-    ensures { option_map (λ r. r.now) result ≡ behind front.now text.now }
+// What stands after a front, where it is one.
+fn rest_after<'a>(front: &str, text: &'a str) -> Option<&'a str>
+    ensures { option_map (λ r. r.now) result ≡ rest_after front.now text.now }
 {
     text.strip_prefix(front)
 }
 
-fn allowed(alloc: Global, key: Option<&str>) -> Result<Text, DocFault>
-    ensures { Meets result (allowed (option_map (λ r. r.now) key.entry)) }
+// The key, where it is one.
+fn allow(key: Option<&str>) -> Result<&str, DocFault>
+    ensures { MeetsText result (allowed (option_map (λ r. r.now) key.entry)) }
 {
     match key {
-        Some(key) => if is_key(key.as_bytes()) {
-            Ok(Text::new(alloc, key)?)
-        } else {
-            Err(DocFault::IdMismatch)
-        },
-        None => Err(DocFault::IdMismatch),
+        Some(key) if is_key(key.as_bytes()) => Ok(key),
+        _ => Err(DocFault::IdMismatch),
     }
 }
 
 // The name, a slash and the key.
-pub(crate) fn id_of(alloc: Global, name: &Text, key: &Text) -> Result<Text, OutOfMemory>
+pub(crate) fn id_of(alloc: Global, name: &Text, key: &str) -> Result<Text, OutOfMemory>
     ensures { IfOk result (λ id. id ≡ name.now ++ 47 ∷ key.now) }
 {
-    let mut id = String::new(alloc);
-    id.push_str(name.as_str())?;
+    let name = name.as_str();
+    let room = name.len().saturating_add(key.len()).saturating_add(1);
+    let mut id = String::with_capacity(alloc, room)?;
+    id.push_str(name)?;
     id.push('/')?;
-    id.push_str(key.as_str())?;
-    Text::new(alloc, id.as_str())
+    id.push_str(key)?;
+    Ok(Text::from(id))
 }
 
 fn is_text(value: &Value, text: &Text) -> bool
@@ -109,7 +114,7 @@ fn is_text(value: &Value, text: &Text) -> bool
 fn is_key(key: &[u8]) -> bool
     ensures { result ≡ is_key key.now }
 {
-    key.len() > 0 && key.len() < 255 && has_key_bytes(key)
+    !key.is_empty() && key.len() <= KEY_BYTES && has_key_bytes(key)
 }
 
 fn has_key_bytes(key: &[u8]) -> bool
@@ -145,18 +150,11 @@ fn is_end(value: Option<&Value>) -> bool
 fn is_id(id: &[u8]) -> bool
     ensures { result ≡ is_id id.now }
 {
-    slashes(id) == 1 && byte_at(id, 0) != b'/' && byte_at(id, id.len().saturating_sub(1)) != b'/'
+    slashes(id) == 1 && !id.starts_with(b"/") && !id.ends_with(b"/")
 }
 
 fn slashes(id: &[u8]) -> usize
     ensures { result ≡ count_by is_slash id.now }
 {
     id.iter().filter(|b| **b == b'/').count()
-}
-
-// The byte at a place, or 0 behind the end.
-fn byte_at(bytes: &[u8], at: usize) -> u8
-    ensures { result ≡ slice_index bytes.now at }
-{
-    bytes.get(at).copied().unwrap_or(0)
 }

@@ -11,6 +11,9 @@ const DOCUMENTS: u32 = 200_000;
 /// The most sorted indexes of a collection.
 const INDEXES: usize = 16;
 
+/// The most bytes of a document's key.
+pub(crate) const KEY_BYTES: usize = 254;
+
 /// Whether one more collection may stand beside `count` others.
 pub(crate) fn takes_collection(count: usize) -> bool
     ensures { result ≡ nat_lt count 64 }

@@ -330,29 +330,16 @@ fn set(alloc: Global, members: &mut Members, name: &str, number: i64) -> bool {
     }
 }
 
-fn is_entry(entry: Option<(&Text, &Value)>, name: &str, number: i64) -> bool {
-    match entry {
-        Some((found, value)) => is_name(Some(found), name) && is_number(Some(value), number),
-        None => false,
-    }
-}
-
-static MEMBERS: [(&str, i64); 4] = [("b", 1), ("a", 2), ("b", 3), ("c", 4)];
-
-static PLACES: [(usize, &str, i64); 3] = [(0, "a", 2), (1, "b", 3), (2, "c", 4)];
-
 fn stands_at(members: &Members, at: usize, name: &str, number: i64) -> bool {
     is_name(members.name(at), name)
         && is_number(members.value_at(at), number)
         && is_number(members.value(name), number)
-        && is_entry(members.entry(at), name, number)
 }
 
 fn ends_at(members: &Members, at: usize) -> bool {
     members.len() == at
         && members.name(at).is_none()
         && members.value_at(at).is_none()
-        && members.entry(at).is_none()
         && members.value("d").is_none()
 }
 

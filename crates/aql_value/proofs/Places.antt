@@ -64,7 +64,8 @@ each_below k (m ∷ es) (suc i) h f = (
 )
 
 starts : (k : List ℕ) (es : List Member) (i : ℕ) → i ≤ length es
-    → ((d : Member) → i < length es → BytesBelow k (get_or es i d).name) → StartsAbove k (drop i (fields_in es))
+    → ((d : Member) → i < length es → BytesBelow k (get_or es i d).name)
+    → StartsAbove k (drop i (fields_in es))
 starts k [] zero h f = tt
 starts k [] (suc i) h f = tt
 starts k (m ∷ es) zero h f = f m (omega arith)

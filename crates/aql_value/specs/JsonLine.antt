@@ -1,6 +1,6 @@
--- The value that a line of JSON writes, or the first fault of the line. `serde_json` reads no data from it; its
--- arrays and objects nest deeper than 64; it holds a number that is not whole. The last two are judged on the data
--- that `serde_json` reads.
+-- The value that a line of JSON writes, or the first fault of the line. `serde_json` reads no data from it;
+-- its arrays and objects nest deeper than 64; it holds a number that is not whole. The last two are judged on
+-- the data that `serde_json` reads.
 use Rattle.std.specs.Prelude.{ℕ, List, Option, Some, None, Result, Ok, Err, nat_le, if◌then◌else◌}
 use Rattle.std.specs.Str.{is_utf8}
 use Rattle.serde_json.specs.Data.{Data, depth}

@@ -1,12 +1,12 @@
 ghost use Rattle.std.specs.Prelude.{◌≡◌, [], OnOk, OnErr};
+ghost use Rattle.std.specs.Ordering.{nat_cmp};
+ghost use Rattle.std.specs.Cmp.Lexicographic.{slice_cmp};
+ghost use Rattle.aql_value.specs.Tree.{object_of};
 ghost use Rattle.aql_value.specs.View.{tree_of};
 ghost use Rattle.aql_value.specs.Attributes.{with_attribute, attribute};
 ghost use Rattle.aql_value.specs.Fields.{fields_in};
 ghost use Rattle.aql_value.specs.Place.{IsPlace};
-ghost use Rattle.aql_value.specs.Tree.{object_of};
 ghost use Rattle.aql_value.specs.WellFormed.{FieldsWellFormed};
-ghost use Rattle.std.specs.Ordering.{nat_cmp};
-ghost use Rattle.std.specs.Cmp.Lexicographic.{slice_cmp};
 
 use crate::texts::recall_utf8;
 use crate::values::{Member, recall_well_formed};
@@ -38,32 +38,18 @@ impl Members {
     pub fn name(&self, at: usize) -> Option<&Text>
         ensures { option_map (λ t. t.now) result ≡ option_map (λ f. f.0) (slice_get self.now at) }
     {
-        match self.entries.get(at) {
-            Some(entry) => Some(&entry.name),
-            None => None,
-        }
+        let entry = self.entries.get(at)?;
+        Some(&entry.name)
     }
 
     /// The value at a place in the order of the names, counted from 0; `None` exactly where there
     /// is no such place.
     pub fn value_at(&self, at: usize) -> Option<&Value>
-        ensures { option_map (λ v. tree_of v.now) result ≡ option_map (λ f. f.1) (slice_get self.now at) }
+        ensures { option_map (λ v. tree_of v.now) result
+            ≡ option_map (λ f. f.1) (slice_get self.now at) }
     {
-        match self.entries.get(at) {
-            Some(entry) => Some(&entry.value),
-            None => None,
-        }
-    }
-
-    /// The name and the value at a place in the order of the names, counted from 0; `None` exactly
-    /// where there is no such place.
-    pub fn entry(&self, at: usize) -> Option<(&Text, &Value)>
-        ensures { option_map (λ e. (e.0.now, tree_of e.1.now)) result ≡ slice_get self.now at }
-    {
-        match self.entries.get(at) {
-            Some(entry) => Some((&entry.name, &entry.value)),
-            None => None,
-        }
+        let entry = self.entries.get(at)?;
+        Some(&entry.value)
     }
 
     /// The attributes in the order of their names, borrowed.
@@ -110,7 +96,8 @@ fn place_of(entries: &[Member], name: &str) -> Result<usize, usize>
 fn set_in(entries: &mut Vec<Member>, name: Text, value: Value) -> Result<(), OutOfMemory>
     requires { FieldsWellFormed (object_of (fields_in entries.old.items)) }
     ensures ok { OnOk result
-        (fields_in entries.new.items ≡ with_attribute name (tree_of value) (fields_in entries.old.items)) }
+        (fields_in entries.new.items
+        ≡ with_attribute name (tree_of value) (fields_in entries.old.items)) }
     ensures err { OnErr result (entries.new.items ≡ entries.old.items) }
 {
     match place_of(entries, name.as_str()) {

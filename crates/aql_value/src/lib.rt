@@ -1,4 +1,4 @@
-//! Values of AQL: their types, their order, their JSON text and the conversions between their kinds.
+//! Values of AQL: their types, their order, their JSON text and the conversions between kinds.
 #![tactic(auto)]
 
 mod as_text;

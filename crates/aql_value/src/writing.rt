@@ -10,8 +10,8 @@ ghost use Rattle.aql_value.specs.Writes.{Writes, member_text};
 use crate::values::Member;
 use crate::{Items, Members, OutOfMemory, Text, Value};
 
-/// Appends the canonical JSON of a value: no blanks, attributes in the order of their names, numbers
-/// in decimal. Where memory runs out, `out` is left as it was.
+/// Appends the canonical JSON of a value: no blanks, attributes in the order of their names,
+/// numbers in decimal. Where memory runs out, `out` is left as it was.
 pub fn write_json(value: &Value, out: &mut Vec<u8>) -> Result<(), OutOfMemory>
     ensures ok { OnOk result (out.new.items ≡ out.old.items ++ json_text (tree_of value.now)) }
     ensures err { OnErr result (out.new.items ≡ out.old.items) }
@@ -54,7 +54,8 @@ fn write_items(list: &Items, out: &mut Vec<u8>) -> Result<(), OutOfMemory>
 
 #[cycle(writing)]
 fn write_item(later: bool, item: &Value, out: &mut Vec<u8>) -> Result<(), OutOfMemory>
-    ensures { Writes result out.old.items out.new.items (comma_if later ++ json_text (tree_of item.now)) }
+    ensures { Writes result out.old.items out.new.items
+        (comma_if later ++ json_text (tree_of item.now)) }
 {
     if later {
         put(b",", out)?;
@@ -64,7 +65,8 @@ fn write_item(later: bool, item: &Value, out: &mut Vec<u8>) -> Result<(), OutOfM
 
 #[cycle(writing)]
 fn write_members(members: &Members, out: &mut Vec<u8>) -> Result<(), OutOfMemory>
-    ensures { Writes result out.old.items out.new.items (json_text (object (object_of members.now))) }
+    ensures { Writes result out.old.items out.new.items
+        (json_text (object (object_of members.now))) }
 {
     put(b"{", out)?;
     for (i, member) in members.entries.iter().enumerate() {

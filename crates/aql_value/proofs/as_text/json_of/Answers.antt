@@ -8,5 +8,7 @@ use Rattle.aql_value.proofs.as_text.json_of.Goals as goal
 pub unreachable-requires : goal.unreachable-requires
 unreachable-requires c =
     let value = tree_of c.args.value.now in
-    let written = c.in_ok-write_json.ensures.ok ∙ ap (λ bytes. bytes ++ json_text value) c.new-bytes.ensures.items in
-    false≢true (c.in-Err.ensures.succeeds (subst IsUtf8 (sym written) (text_utf8 value c.recall_well_formed.ensures)))
+    let written = c.in_ok-write_json.ensures.ok
+    ∙ ap (λ bytes. bytes ++ json_text value) c.new-bytes.ensures.items in
+    false≢true (c.in-Err.ensures.succeeds (subst IsUtf8 (sym written) (text_utf8 value
+    c.recall_well_formed.ensures)))

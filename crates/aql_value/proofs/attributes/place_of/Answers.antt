@@ -8,6 +8,7 @@ use Rattle.aql_value.proofs.attributes.place_of.Goals as goal
 
 pub returns : goal.returns
 returns c =
-    place c.args.name.now c.args.entries.now c.binary_search_by.result c.requires c.binary_search_by.ensures.bound
+    place c.args.name.now c.args.entries.now c.binary_search_by.result c.requires
+    c.binary_search_by.ensures.bound
     (c.binary_search_by.ensures.position (λ (m : Member). slice_cmp nat_cmp m.name c.args.name.now)
     (always_returns_same _ _ _ (λ a r f' k. let e = k.met in search rules)))

@@ -17,7 +17,8 @@ items_of-loop-item-preserved t c =
           ∙ ap (λ ws. option_map (trees_before c.loop-item.out) (whole_items (items_view ws))) first
           ∙ item_turned c.loop-item.out c.in-Some.item left (tree_of c.in_ok-value_of.field-0)
           c.in_ok-value_of.ensures
-          ∙ ap (λ o. option_map (trees_before o) (whole_items (items_view left))) (sym c.in_ok-push.ensures.ok),
+          ∙ ap (λ o. option_map (trees_before o) (whole_items (items_view left))) (sym
+          c.in_ok-push.ensures.ok),
       omega (arith, c.in-Some.ensures.steps.1, c.loop-item.invariant.1, count),
     )
 

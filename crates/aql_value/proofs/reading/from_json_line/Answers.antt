@@ -5,12 +5,14 @@ use Rattle.aql_value.proofs.reading.from_json_line.Goals as goal
 
 pub returns-then-nests_within-clause-value : goal.returns-then-nests_within-clause-value
 returns-then-nests_within-clause-value c =
-    value_is _ _ c.value_of.result c.in-Ok.ensures.ok.0 c.in-Ok.ensures.ok.1 (c.if-nests_within.ensures.0 refl)
+    value_is _ _ c.value_of.result c.in-Ok.ensures.ok.0 c.in-Ok.ensures.ok.1
+    (c.if-nests_within.ensures.0 refl)
     c.value_of.ensures
 
 pub returns-then-nests_within-clause-fault : goal.returns-then-nests_within-clause-fault
 returns-then-nests_within-clause-fault c =
-    fault_is _ _ c.value_of.result c.in-Ok.ensures.ok.0 c.in-Ok.ensures.ok.1 (c.if-nests_within.ensures.0 refl)
+    fault_is _ _ c.value_of.result c.in-Ok.ensures.ok.0 c.in-Ok.ensures.ok.1
+    (c.if-nests_within.ensures.0 refl)
     c.value_of.ensures
 
 pub returns-else-nests_within-clause-fault : goal.returns-else-nests_within-clause-fault

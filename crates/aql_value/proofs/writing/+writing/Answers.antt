@@ -9,7 +9,8 @@ use Rattle.aql_value.proofs.writing.+writing.Goals as goal
 
 pub write_items-returns-in_err-write_item : goal.write_items-returns-in_err-write_item
 write_items-returns-in_err-write_item t c =
-    let p = err_from_is_err_and c.from_residual-in_err-write_item.result c.from_residual-in_err-write_item.ensures.1 in
+    let p = err_from_is_err_and c.from_residual-in_err-write_item.result
+    c.from_residual-in_err-write_item.ensures.1 in
     rw p.1 (tt, longer _ _ _ c.loop-i.invariant.1 c.in_err-write_item.ensures.1)
 
 pub write_items-returns : goal.write_items-returns
@@ -23,7 +24,8 @@ write_items-returns t c =
 
 pub write_members-returns-in_err-write_member : goal.write_members-returns-in_err-write_member
 write_members-returns-in_err-write_member t c =
-    let p = err_from_is_err_and c.from_residual-in_err-write_member.result c.from_residual-in_err-write_member.ensures.1 in
+    let p = err_from_is_err_and c.from_residual-in_err-write_member.result
+    c.from_residual-in_err-write_member.ensures.1 in
     rw p.1 (tt, longer _ _ _ c.loop-i.invariant.1 c.in_err-write_member.ensures.1)
 
 pub write_members-returns : goal.write_members-returns

@@ -1,6 +1,7 @@
-use Rattle.std.proofs.Common.{◌≡◌, ◌<◌, length, arith, inl, inr, ◌∙◌}
+use Rattle.std.proofs.Common.{◌≡◌, ◌<◌, length, arith, inl, inr, ◌∙◌, sym, subst}
 use Rattle.aql_value.specs.View.{tree_of}
 use Rattle.aql_doc.specs.Held.{documents_in}
+use Rattle.aql_doc.specs.Limits.{IsDeclared}
 use Rattle.aql_doc.specs.Documents.{with_document}
 use Rattle.aql_doc.proofs.Places.{fits_at, set_total, found, documents_found, counted, gives, refuses, unchanged}
 use Rattle.aql_doc.proofs.catalog.Catalog.add_document.Goals as goal
@@ -9,15 +10,17 @@ pub add-requires : goal.add-requires
 add-requires c =
     let are : c.self.inside.collections.items ≡ c.args.self.now = c.self.view_is in
     let lt : c.args.coll.0 < length c.self.inside.collections.items = rw are c.requires in
-    fits_at c.self.inside.collections.items c.args.coll.0 _ _ lt c.index_mut-collection.ensures.value c.self.invariant.0
+    fits_at c.self.inside.collections.items c.args.coll.0 _ _ lt
+    c.index_mut-collection.ensures.value c.self.invariant.0
 
 pub invariant_of-self : goal.invariant_of-self
 invariant_of-self c =
     let are : c.self.inside.collections.items ≡ c.args.self.now = c.self.view_is in
     let lt : c.args.coll.0 < length c.self.inside.collections.items = rw are c.requires in
     set_total c.self.inside.collections.items c.args.coll.0 _ _ c.self.inside.total _ 1 lt
-    c.index_mut-collection.ensures.value c.self.invariant.0 c.self.invariant.2 (omega arith)
+    c.index_mut-collection.ensures.value c.self.invariant.0 c.self.invariant.1 (omega arith)
     (omega (arith, c.in-Ok.ensures.room.0)) c.in-Ok.ensures.room.1
+    (subst IsDeclared (sym c.in-Ok.ensures.info))
 
 pub returns-in-Ok-clause-ok : goal.returns-in-Ok-clause-ok
 returns-in-Ok-clause-ok c =
@@ -51,4 +54,5 @@ pub returns-in-Err-clause-unchanged : goal.returns-in-Err-clause-unchanged
 returns-in-Err-clause-unchanged c =
     let are : c.self.inside.collections.items ≡ c.args.self.now = c.self.view_is in
     let lt : c.args.coll.0 < length c.self.inside.collections.items = rw are c.requires in
-    unchanged _ _ c.args.coll.0 _ c.add.new.self are lt c.index_mut-collection.ensures.value c.in-Err.ensures.unchanged
+    unchanged _ _ c.args.coll.0 _ c.add.new.self are lt c.index_mut-collection.ensures.value
+    c.in-Err.ensures.unchanged

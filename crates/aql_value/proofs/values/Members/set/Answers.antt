@@ -11,5 +11,6 @@ invariant_of-self c =
     on_either _ _ _ c.set_in.result c.set_in.ensures.ok c.set_in.ensures.err
     (λ e. subst (λ fs. FieldsWellFormed (object_of fs)) (sym e)
     (well_with c.args.name (tree_of c.args.value)
-    (fields_in c.self.inside.entries.items) c.self.invariant c.recall_well_formed.ensures c.recall_utf8.ensures))
+    (fields_in c.self.inside.entries.items) c.self.invariant c.recall_well_formed.ensures
+    c.recall_utf8.ensures))
     (λ e. subst (λ es. FieldsWellFormed (object_of (fields_in es))) (sym e) c.self.invariant)

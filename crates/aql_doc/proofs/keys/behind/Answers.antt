@@ -1,5 +1,0 @@
-use Rattle.aql_doc.proofs.Adding.{behind_is}
-use Rattle.aql_doc.proofs.keys.behind.Goals as goal
-
-pub returns : goal.returns
-returns c = behind_is c.args.front.now c.args.text.now c.strip_prefix.result c.strip_prefix.ensures.cases
