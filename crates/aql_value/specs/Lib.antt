@@ -19,5 +19,6 @@ pub mod RoundTrip
 pub mod Parts
 pub mod Convert
 pub mod Database
+pub mod Shards
 pub mod laws
 pub mod formers
