@@ -6,4 +6,3 @@ pub mod ChosenSets
 pub mod Walks
 pub mod Fixed
 pub mod Refuted
-pub mod RowByRow
