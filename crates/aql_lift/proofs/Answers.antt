@@ -13,7 +13,7 @@ use Rattle.aql_meaning.specs.Row.{Row, empty_row, value_at}
 use Rattle.aql_meaning.specs.Expressions.{object_literal}
 use Rattle.aql_meaning.specs.Value.{value_or}
 use Rattle.aql_meaning.specs.Clauses.{with_elements, with_documents, kept, bound, limited}
-use Rattle.aql_meaning.specs.Groups.{Member, names_taken}
+use Rattle.aql_meaning.specs.Groups.{Member, IsMember, names_taken}
 use Rattle.aql_meaning.specs.Options.{with_settings}
 use Rattle.aql_meaning.specs.Visible.{sees, aggregate_vars, into_var, edges_named}
 use Rattle.aql_meaning.specs.Meaning.{Ev, EvAll, EvOr, EvMembers, EvSteps, EvLinks, EvArguments, EvTaken, Changes, Through, Answer}
@@ -423,17 +423,18 @@ module _ (db : Database) where
         let b' = below_within n s.taken s.next names (within_criteria es xs names n) b in
         let b'' = below_within s.next t.taken t.next names (within_aggregates gs names s.next) b' in
         let ms = zip_join (Fits db (s.taken ++ (t.taken ++ u.taken)) names)
-        (λ row (m : Member). EvAll db s.tree.1 null row m.criteria
-        × EvArguments db t.tree row m.arguments × EvTaken db u.tree vars row m.taken)
-        (λ row (m : Member). EvAll db es null row m.criteria
-        × EvArguments db gs row m.arguments × EvTaken db i (idents own) row m.taken)
+        (λ row (m : Member). IsMember (EvAll db s.tree.1 null row) (EvArguments db t.tree row)
+        (EvTaken db u.tree vars row) m)
+        (λ row (m : Member). IsMember (EvAll db es null row) (EvArguments db gs row)
+        (EvTaken db i (idents own) row) m)
         (λ q r m f h.
         let g = fits_split db s.taken (t.taken ++ u.taken) names q r f in
-        let g' = fits_split db t.taken u.taken names q r g.1 in (
-          criteria_back es c.0 xs names n q r m.criteria b g.0 h.0,
-          arguments_back gs c.1 names s.next q r m.arguments b' g'.0 h.1,
-          taken_back i c.2 own names vars t.next q r m.taken b'' g'.1 h.2,
-        )) ts rs k.0 a k.1 in
+        let g' = fits_split db t.taken u.taken names q r g.1 in
+        record {
+          criteria = criteria_back es c.0 xs names n q r m.criteria b g.0 h.criteria;
+          arguments = arguments_back gs c.1 names s.next q r m.arguments b' g'.0 h.arguments;
+          taken = taken_back i c.2 own names vars t.next q r m.taken b'' g'.1 h.taken;
+        }) ts rs k.0 a k.1 in
         let p = collected_back xs es gs i outer own n origin start k.0 out bo o k.2 in
         (p.0, (k.0, ms, p.1), p.2)
 

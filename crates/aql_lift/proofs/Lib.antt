@@ -10,3 +10,4 @@ pub mod Classes
 pub mod Answers
 pub mod Computed
 pub mod LiftedIsPlain
+pub mod Numbers

@@ -1,13 +1,14 @@
 -- What scoping makes of an expression has no subquery, and so in the clauses of a scoped query a subquery
--- stands only as the whole right side of a LET.
+-- stands only as the whole right side of a LET; and there it is such a query itself.
 use Rattle.std.proofs.Common.{ℕ, suc, List, [], ◌∷◌, ◌++◌, Option, Some, None}
+use Rattle.std.specs.List.{AllByRecursion}
 use Rattle.aql_tree.specs.declared.syntax.Ident.{Ident}
 use Rattle.aql_tree.specs.declared.syntax.Ident.TheVariants.{Name, Num}
 use Rattle.aql_tree.specs.Tree.{ExprTree, literal, variable, current, listed, made, access, called, unary_of, chain, quantified, choice, range_of, subquery, ExprTrees, no_exprs, expr_then, MaybeExpr, no_expr, one_expr, MemberTrees, no_members, named_then, computed_then, StepTrees, no_steps, name_then, at_then, each_then, LinkTrees, no_links, link_then, ClauseTree, for_each, for_documents, for_paths, keep_if, define, sort_by, limit, collect, AggregateTrees, no_aggregates, aggregate_then, IntoTree, no_into, into, ClauseTrees, no_clauses, clause_then, QueryTree, query}
 use Rattle.aql_meaning.specs.Plain.{IsPlain, AllPlain, MaybePlain, MembersPlain, StepsPlain, LinksPlain}
+use Rattle.aql_meaning.specs.Lifted.{IsNoName, AggregatesPlain, IntoPlain, ClauseLifted, ClausesLifted, IsLifted}
 use Rattle.aql_lift.specs.Names.{Names, number_of, numbered, from_name, object_of}
 use Rattle.aql_lift.specs.Lifting.{Taken, with_lets, followed, expr, exprs, maybe, members, steps, links, criteria, aggregates, into_part, clause, clauses, scoped}
-use Rattle.aql_lift.specs.Lifted.{AggregatesPlain, IntoPlain, ClauseLifted, ClausesLifted, IsLifted}
 
 numbered_is_plain : (number : Option ℕ) → IsPlain (numbered number)
 numbered_is_plain (Some k) = tt
@@ -77,52 +78,147 @@ module _ (names : Names) where
 -- ---- clauses
 
 from_name_is_lifted : (n : ℕ) (number : Option ℕ) (c : Ident) → ClauseLifted (from_name n number c)
-from_name_is_lifted n (Some k) c = tt
+from_name_is_lifted n (Some k) c = (tt, tt)
 from_name_is_lifted n None (Name c) = tt
-from_name_is_lifted n None (Num c) = tt
+from_name_is_lifted n None (Num c) = (tt, tt)
+
+numbered_is_no_name : (number : Option ℕ) → IsNoName (numbered number)
+numbered_is_no_name (Some k) = tt
+numbered_is_no_name None = tt
+
+-- a variable has become a number
+no_name : (names : Names) (e : ExprTree) (n : ℕ) → IsNoName (expr names n e).tree
+no_name names (variable x) n = numbered_is_no_name (number_of names x)
+no_name names e n = tt
 
 define_is_lifted : (x : Ident) (e : ExprTree) → IsPlain e → ClauseLifted (define x e)
-define_is_lifted x (subquery q) h = tt
+define_is_lifted x (subquery q) h = absurd h
 define_is_lifted x e h = h
 
-lets_are_lifted : (ts : List Taken) (cs : ClauseTrees) → ClausesLifted cs → ClausesLifted (with_lets ts cs)
-lets_are_lifted [] cs h = h
-lets_are_lifted (t ∷ ts) cs h = (tt, lets_are_lifted ts cs h)
+-- the subqueries that were taken out are lifted
+abbrev TakenLifted : List Taken → Type 0
+TakenLifted ts = AllByRecursion (λ (t : Taken). IsLifted t.1) ts
+
+lets_are_lifted : (ts : List Taken) → TakenLifted ts → (cs : ClauseTrees) → ClausesLifted cs
+    → ClausesLifted (with_lets ts cs)
+lets_are_lifted [] g cs h = h
+lets_are_lifted (t ∷ ts) g cs h = (g.0, lets_are_lifted ts g.1 cs h)
 
 followed_are_lifted : (cs ds : ClauseTrees) → ClausesLifted cs → ClausesLifted ds
     → ClausesLifted (followed cs ds)
 followed_are_lifted no_clauses ds h k = k
 followed_are_lifted (clause_then c cs) ds h k = (h.0, followed_are_lifted cs ds h.1 k)
 
-module _ (outer : Names) where
-  clause_is_lifted : (own : Names) (n : ℕ) (c : ClauseTree) → ClauseLifted (clause outer own n c).clause.tree
-  clause_is_lifted own n (for_each x (variable c)) = from_name_is_lifted n (number_of (own ++ outer) c) c
-  clause_is_lifted own n (for_each x e) = lifted_is_plain (own ++ outer) e (suc n)
-  clause_is_lifted own n (for_documents x name) = tt
-  clause_is_lifted own n (for_paths w e names prune settings) =
-      (lifted_is_plain (own ++ outer) e _, lifted_maybe _ prune _, tt)
-  clause_is_lifted own n (keep_if e) = lifted_is_plain (own ++ outer) e n
-  clause_is_lifted own n (define x (subquery q)) = tt
-  clause_is_lifted own n (define x e) =
-      define_is_lifted (Num n) (expr (own ++ outer) (suc n) e).tree (lifted_is_plain (own ++ outer) e (suc n))
-  clause_is_lifted own n (sort_by directions es) = lifted_are_plain (own ++ outer) es n
-  clause_is_lifted own n (limit offset count) = tt
-  clause_is_lifted own n (collect xs es gs i) = (
-    lifted_criteria (own ++ outer) es xs n,
-    lifted_aggregates (own ++ outer) gs _,
-    lifted_into (own ++ outer) own i _,
+both_lifted : (ts us : List Taken) → TakenLifted ts → TakenLifted us → TakenLifted (ts ++ us)
+both_lifted [] us h k = k
+both_lifted (t ∷ ts) us h k = (h.0, both_lifted ts us h.1 k)
+
+mutual
+  taken : (names : Names) (e : ExprTree) (n : ℕ) → TakenLifted (expr names n e).taken
+  taken names (literal v) n = tt
+  taken names (variable x) n = tt
+  taken names current n = tt
+  taken names (listed es) n = taken_all names es n
+  taken names (made ms) n = taken_members names ms n
+  taken names (access e ss) n = both_lifted _ _ (taken names e n) (taken_steps names ss _)
+  taken names (called f es) n = taken_all names es n
+  taken names (unary_of op e) n = taken names e n
+  taken names (chain e ls) n = both_lifted _ _ (taken names e n) (taken_links names ls _)
+  taken names (quantified e kind op f) n = both_lifted _ _ (taken names e n) (taken names f _)
+  taken names (choice test first other) n = both_lifted _ _ (taken names test n)
+      (both_lifted _ _ (taken_maybe names first _) (taken names other _))
+  taken names (range_of e f) n = both_lifted _ _ (taken names e n) (taken names f _)
+  taken names (subquery q) n = (scoped_is_lifted names (suc n) q, tt)
+
+  taken_all : (names : Names) (es : ExprTrees) (n : ℕ) → TakenLifted (exprs names n es).taken
+  taken_all names no_exprs n = tt
+  taken_all names (expr_then e es) n = both_lifted _ _ (taken names e n) (taken_all names es _)
+
+  taken_maybe : (names : Names) (m : MaybeExpr) (n : ℕ) → TakenLifted (maybe names n m).taken
+  taken_maybe names no_expr n = tt
+  taken_maybe names (one_expr e) n = taken names e n
+
+  taken_members : (names : Names) (ms : MemberTrees) (n : ℕ) → TakenLifted (members names n ms).taken
+  taken_members names no_members n = tt
+  taken_members names (named_then name e ms) n =
+      both_lifted _ _ (taken names e n) (taken_members names ms _)
+  taken_members names (computed_then k e ms) n =
+      both_lifted _ _ (taken names k n) (both_lifted _ _ (taken names e _) (taken_members names ms _))
+
+  taken_steps : (names : Names) (ss : StepTrees) (n : ℕ) → TakenLifted (steps names n ss).taken
+  taken_steps names no_steps n = tt
+  taken_steps names (name_then name ss) n = taken_steps names ss n
+  taken_steps names (at_then e ss) n = both_lifted _ _ (taken names e n) (taken_steps names ss _)
+  taken_steps names (each_then filter gives ss) n = both_lifted _ _ (taken_maybe names filter n)
+      (both_lifted _ _ (taken_maybe names gives _) (taken_steps names ss _))
+
+  taken_links : (names : Names) (ls : LinkTrees) (n : ℕ) → TakenLifted (links names n ls).taken
+  taken_links names no_links n = tt
+  taken_links names (link_then op e ls) n = both_lifted _ _ (taken names e n) (taken_links names ls _)
+
+  taken_criteria : (names : Names) (es : ExprTrees) (xs : List Ident) (n : ℕ)
+      → TakenLifted (criteria names n xs es).taken
+  taken_criteria names no_exprs xs n = tt
+  taken_criteria names (expr_then e es) [] n =
+      both_lifted _ _ (taken names e n) (taken_criteria names es [] _)
+  taken_criteria names (expr_then e es) (x ∷ xs) n =
+      both_lifted _ _ (taken names e (suc n)) (taken_criteria names es xs _)
+
+  taken_aggregates : (names : Names) (gs : AggregateTrees) (n : ℕ)
+      → TakenLifted (aggregates names n gs).taken
+  taken_aggregates names no_aggregates n = tt
+  taken_aggregates names (aggregate_then x f e gs) n =
+      both_lifted _ _ (taken_maybe names e (suc n)) (taken_aggregates names gs _)
+
+  taken_into : (own names : Names) (i : IntoTree) (n : ℕ) → TakenLifted (into_part own names n i).taken
+  taken_into own names no_into n = tt
+  taken_into own names (into x (one_expr e) keep) n = taken names e (suc n)
+  taken_into own names (into x no_expr keep) n = tt
+
+  -- a clause with numbers, and what was taken out of it
+  clause_is_lifted : (outer own : Names) (n : ℕ) (c : ClauseTree)
+      → ClauseLifted (clause outer own n c).clause.tree × TakenLifted (clause outer own n c).clause.taken
+  clause_is_lifted outer own n (for_each x (variable c)) =
+      (from_name_is_lifted n (number_of (own ++ outer) c) c, tt)
+  clause_is_lifted outer own n (for_each x e) = (
+    (lifted_is_plain (own ++ outer) e (suc n), no_name (own ++ outer) e (suc n)),
+    taken (own ++ outer) e (suc n),
+  )
+  clause_is_lifted outer own n (for_documents x name) = (tt, tt)
+  clause_is_lifted outer own n (for_paths w e names prune settings) = (
+    (lifted_is_plain (own ++ outer) e _, lifted_maybe _ prune _, tt),
+    taken (own ++ outer) e _,
+  )
+  clause_is_lifted outer own n (keep_if e) =
+      (lifted_is_plain (own ++ outer) e n, taken (own ++ outer) e n)
+  clause_is_lifted outer own n (define x (subquery q)) = (scoped_is_lifted (own ++ outer) (suc n) q, tt)
+  clause_is_lifted outer own n (define x e) = (
+    define_is_lifted (Num n) (expr (own ++ outer) (suc n) e).tree (lifted_is_plain (own ++ outer) e (suc n)),
+    taken (own ++ outer) e (suc n),
+  )
+  clause_is_lifted outer own n (sort_by directions es) =
+      (lifted_are_plain (own ++ outer) es n, taken_all (own ++ outer) es n)
+  clause_is_lifted outer own n (limit offset count) = (tt, tt)
+  clause_is_lifted outer own n (collect xs es gs i) = (
+    (
+      lifted_criteria (own ++ outer) es xs n,
+      lifted_aggregates (own ++ outer) gs _,
+      lifted_into (own ++ outer) own i _,
+    ),
+    both_lifted _ _ (taken_criteria (own ++ outer) es xs n)
+        (both_lifted _ _ (taken_aggregates (own ++ outer) gs _) (taken_into own (own ++ outer) i _)),
   )
 
-  clauses_are_lifted : (cs : ClauseTrees) (own : Names) (n : ℕ)
+  clauses_are_lifted : (outer own : Names) (n : ℕ) (cs : ClauseTrees)
       → ClausesLifted (clauses outer own n cs).clauses
-  clauses_are_lifted no_clauses own n = tt
-  clauses_are_lifted (clause_then c cs) own n =
-      lets_are_lifted (clause outer own n c).clause.taken _
-      (clause_is_lifted own n c, clauses_are_lifted cs _ _)
+  clauses_are_lifted outer own n no_clauses = tt
+  clauses_are_lifted outer own n (clause_then c cs) =
+      let one = clause_is_lifted outer own n c in
+      lets_are_lifted (clause outer own n c).clause.taken one.1 _ (one.0, clauses_are_lifted outer _ _ cs)
 
-  pub scoped_is_lifted : (n : ℕ) (q : QueryTree) → IsLifted (scoped outer n q).tree
-  scoped_is_lifted n (query with cs distinct e) = (
-    followed_are_lifted (clauses outer [] n cs).clauses _ (clauses_are_lifted cs [] n)
-        (lets_are_lifted _ no_clauses tt),
+  pub scoped_is_lifted : (outer : Names) (n : ℕ) (q : QueryTree) → IsLifted (scoped outer n q).tree
+  scoped_is_lifted outer n (query with cs distinct e) = (
+    followed_are_lifted (clauses outer [] n cs).clauses _ (clauses_are_lifted outer [] n cs)
+        (lets_are_lifted _ (taken _ e _) no_clauses tt),
     lifted_is_plain _ e _,
   )

@@ -1,21 +1,7 @@
 -- Lists that belong together place by place.
-use Rattle.std.proofs.Common.{◌≡◌, ◌∙◌, sym, arith, ◌+◌, ◌<◌, length, get_or, ℕ, zero, suc, List, [], ◌∷◌, ◌++◌, map, take, drop, Bool, refl}
-use Rattle.std.specs.Prelude.{IsSortedBy, zip, flat_map}
+use Rattle.std.proofs.Common.{◌≡◌, ◌∙◌, sym, arith, ◌+◌, ◌<◌, length, get_or, ℕ, zero, suc, List, [], ◌∷◌, map, take, drop, Bool, refl}
+use Rattle.std.specs.Prelude.{IsSortedBy, zip}
 use Rattle.std.specs.List.{AllZip}
-
-pub zip_append : {A B : Type 0} (R : A → B → Type 0) (xs : List A) (ys : List B) (xs' : List A) (ys' : List B)
-    → AllZip R xs ys → AllZip R xs' ys' → AllZip R (xs ++ xs') (ys ++ ys')
-zip_append R [] [] xs' ys' h k = k
-zip_append R [] (y ∷ ys) xs' ys' h k = absurd h
-zip_append R (x ∷ xs) [] xs' ys' h k = absurd h
-zip_append R (x ∷ xs) (y ∷ ys) xs' ys' h k = (h.0, zip_append R xs ys xs' ys' h.1 k)
-
-pub zip_flat : {A B : Type 0} (R : A → B → Type 0) (ls : List (List A)) (ks : List (List B))
-    → AllZip (AllZip R) ls ks → AllZip R (flat_map (λ l. l) ls) (flat_map (λ k. k) ks)
-zip_flat R [] [] h = tt
-zip_flat R [] (k ∷ ks) h = absurd h
-zip_flat R (l ∷ ls) [] h = absurd h
-zip_flat R (l ∷ ls) (k ∷ ks) h = zip_append R l k _ _ h.0 (zip_flat R ls ks h.1)
 
 -- two relations with one list in common
 pub zip_join : {A B C : Type 0} (R : A → B → Type 0) (S : A → C → Type 0) (T : B → C → Type 0)
@@ -28,22 +14,7 @@ zip_join R S T f (x ∷ xs) [] zs h k = absurd h
 zip_join R S T f (x ∷ xs) (y ∷ ys) [] h k = absurd k
 zip_join R S T f (x ∷ xs) (y ∷ ys) (z ∷ zs) h k = (f x y z h.0 k.0, zip_join R S T f xs ys zs h.1 k.1)
 
--- at each place something is found that completes the square
-pub zip_square : {A B C D : Type 0} (R : A → B → Type 0) (S : A → C → Type 0) (T : B → D → Type 0)
-    (U : C → D → Type 0) → ((a : A) (b : B) (c : C) → R a b → S a c → (d : D) × T b d × U c d)
-    → (xs : List A) (ys : List B) (zs : List C) → AllZip R xs ys → AllZip S xs zs
-    → (ws : List D) × AllZip T ys ws × AllZip U zs ws
-zip_square R S T U f [] [] [] h k = ([], tt, tt)
-zip_square R S T U f [] [] (z ∷ zs) h k = absurd k
-zip_square R S T U f [] (y ∷ ys) zs h k = absurd h
-zip_square R S T U f (x ∷ xs) [] zs h k = absurd h
-zip_square R S T U f (x ∷ xs) (y ∷ ys) [] h k = absurd k
-zip_square R S T U f (x ∷ xs) (y ∷ ys) (z ∷ zs) h k =
-    let one = f x y z h.0 k.0 in
-    let rest = zip_square R S T U f xs ys zs h.1 k.1 in
-    (one.0 ∷ rest.0, (one.1, rest.1), (one.2, rest.2))
-
--- the same with one list on both sides
+-- at each place something is found that is related to both
 pub zip_found : {A B C : Type 0} (S : A → B → Type 0) (T : A → C → Type 0) (U : B → C → Type 0)
     → ((a : A) (b : B) → S a b → (c : C) × T a c × U b c)
     → (xs : List A) (ys : List B) → AllZip S xs ys → (zs : List C) × AllZip T xs zs × AllZip U ys zs

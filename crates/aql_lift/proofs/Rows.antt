@@ -14,34 +14,24 @@ use Rattle.aql_meaning.specs.Row.{Row, bind}
 use Rattle.aql_meaning.specs.Clauses.{with_elements, with_documents, kept, bound, Keyed, Sorted, comes_before, keys_cmp}
 use Rattle.aql_meaning.specs.Visible.{sees, collection_meant}
 use Rattle.aql_meaning.specs.laws.Shuffles.{alike_permutation}
+use Rattle.aql_meaning.specs.laws.RowByRow.{each_related, each_own_related}
 use Rattle.aql_lift.specs.Names.{Names}
 use Rattle.aql_lift.proofs.Alike.{Alike, Below, alike_bind}
-use Rattle.aql_lift.proofs.Lists.{zip_append, sorted_alike, zip_pairs, zip_seconds}
+use Rattle.aql_lift.proofs.Lists.{sorted_alike, zip_pairs, zip_seconds}
 
 module _ (names : Names) where
   module _ (n : ℕ) (x : Ident) (b : Below n names) where
-    each_alike : (s r : Row) (vs : List Tree) → Alike names s r
-        → AllZip (Alike ((x, n) ∷ names)) (map (bind (Num n) s) vs) (map (bind x r) vs)
-    each_alike s r [] a = tt
-    each_alike s r (v ∷ vs) a = (alike_bind names n x s r v b a, each_alike s r vs a)
-
     pub elements_alike : (ss rs : List Row) (vs : List Tree) → AllZip (Alike names) ss rs
         → AllZip (Alike ((x, n) ∷ names)) (with_elements (Num n) ss vs) (with_elements x rs vs)
-    elements_alike [] [] vs a = tt
-    elements_alike [] (r ∷ rs) vs a = absurd a
-    elements_alike (s ∷ ss) [] vs a = absurd a
-    elements_alike (s ∷ ss) (r ∷ rs) [] a = tt
-    elements_alike (s ∷ ss) (r ∷ rs) (v ∷ vs) a =
-        zip_append (Alike ((x, n) ∷ names)) _ _ _ _ (each_alike s r (elements v) a.0)
-        (elements_alike ss rs vs a.1)
+    elements_alike ss rs vs a =
+        each_related (Alike names) (Alike ((x, n) ∷ names)) (bind (Num n)) (bind x)
+        (λ s r v h. alike_bind names n x s r v b h) ss rs (map elements vs) a
 
     pub documents_alike : (ds : List Tree) (ss rs : List Row) → AllZip (Alike names) ss rs
         → AllZip (Alike ((x, n) ∷ names)) (with_documents (Num n) ds ss) (with_documents x ds rs)
-    documents_alike ds [] [] a = tt
-    documents_alike ds [] (r ∷ rs) a = absurd a
-    documents_alike ds (s ∷ ss) [] a = absurd a
-    documents_alike ds (s ∷ ss) (r ∷ rs) a =
-        zip_append (Alike ((x, n) ∷ names)) _ _ _ _ (each_alike s r ds a.0) (documents_alike ds ss rs a.1)
+    documents_alike ds ss rs a =
+        each_own_related (Alike names) (Alike ((x, n) ∷ names)) (bind (Num n)) (bind x)
+        (λ s r v h. alike_bind names n x s r v b h) (λ row. ds) (λ row. ds) (λ s r h. refl) ss rs a
 
     pub bound_alike : (ss rs : List Row) (vs : List Tree) → AllZip (Alike names) ss rs
         → AllZip (Alike ((x, n) ∷ names)) (bound (Num n) ss vs) (bound x rs vs)

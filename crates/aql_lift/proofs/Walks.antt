@@ -1,7 +1,7 @@
 -- The paths walked don't depend on the names of a traversal.
-use Rattle.std.proofs.Common.{◌≡◌, ℕ, suc, List, [], ◌∷◌, ◌++◌, map, length, Bool, refl, sym, subst, arith}
+use Rattle.std.proofs.Common.{◌≡◌, ℕ, suc, List, [], ◌∷◌, ◌++◌, map, Bool, subst, arith}
 use mathlib.Core.Path.{fun_ext}
-use Rattle.std.specs.Prelude.{Option, Some, None, option_to_list, zip, filter, nat_le}
+use Rattle.std.specs.Prelude.{Option, Some, None, option_to_list, zip}
 use Rattle.std.specs.List.{AllZip}
 use Rattle.aql_value.specs.Tree.{Tree}
 use Rattle.aql_value.specs.Database.{Database}
@@ -11,11 +11,12 @@ use Rattle.aql_tree.specs.declared.syntax.UniqueVertices.{UniqueVertices}
 use Rattle.aql_tree.specs.declared.syntax.UniqueVertices.TheVariants as vertices
 use Rattle.aql_tree.specs.Tree.{WalkShape}
 use Rattle.aql_meaning.specs.Row.{Row, bind_maybe}
-use Rattle.aql_meaning.specs.Paths.{Path, WalkedBy, WalkedFrom, WalkedRow, Walked, path_rows, path_row, path_value, vertex_of, end_of, last_edge}
+use Rattle.aql_meaning.specs.Paths.{Path, WalkedBy, WalkedFrom, Walked, long_paths, path_row, path_value, vertex_of, end_of, last_edge}
 use Rattle.aql_meaning.specs.laws.Shuffles.{alike_permutation}
+use Rattle.aql_meaning.specs.laws.RowByRow.{each_related}
 use Rattle.aql_lift.specs.Names.{Names, numbered_walk, walk_names, given, counted, behind_walk, entered}
 use Rattle.aql_lift.proofs.Alike.{Alike, Below, below_bind, alike_bind}
-use Rattle.aql_lift.proofs.Lists.{zip_flat, zip_square, zip_starts}
+use Rattle.aql_lift.proofs.Lists.{zip_join, zip_starts}
 
 same_walk_by : (n : ℕ) (w : WalkShape) (es : List Tree) (pruned : Path → Bool) (id : List ℕ) (paths : List Path)
     (u : UniqueVertices) → WalkedBy (numbered_walk n w) es pruned id u paths → WalkedBy w es pruned id u paths
@@ -66,45 +67,27 @@ module _ (db : Database) (n : ℕ) (w : WalkShape) (own outer : Names) (b : Belo
       (alike_given w.edge (suc n) ((w.vertex, n) ∷ own) outer _ _ (last_edge t.steps) b'
       (alike_bind (own ++ outer) n w.vertex s r (vertex_of db (end_of t)) b a))
 
-  paths_alike : (s r : Row) (paths : List Path) → Alike (own ++ outer) s r
-      → AllZip (Alike (walk_names n w own ++ outer)) (map (path_row db (numbered_walk n w) s) paths)
-      (map (path_row db w r) paths)
-  paths_alike s r [] a = tt
-  paths_alike s r (t ∷ paths) a = (path_alike s r t a, paths_alike s r paths a)
-
   -- `scoped` and `written` are the tests of PRUNE
   module _ (es : List Tree) (scoped written : Row → Bool)
       (same : (t r : Row) → Alike (walk_names n w own ++ outer) t r → scoped t ≡ written r) where
-    row_back : (s r : Row) (v : Tree) (out : List Row) → Alike (own ++ outer) s r
-        → WalkedRow db (numbered_walk n w) es scoped s v out
-        → (behind : List Row) × WalkedRow db w es written r v behind
-        × AllZip (Alike (walk_names n w own ++ outer)) out behind
-    row_back s r v out a k = (
-      path_rows db w r k.0,
-      (
-        k.0,
-        subst (λ (pruned : Path → Bool). WalkedFrom w es pruned (id_text v) k.0)
-            (fun_ext (λ t. same _ _ (path_alike s r t a)))
-            (same_walk n w es (λ t. scoped (path_row db (numbered_walk n w) s t)) (id_text v) k.0 k.1),
-        refl,
-      ),
-      subst (λ (o : List Row). AllZip (Alike (walk_names n w own ++ outer)) o (path_rows db w r k.0)) (sym k.2)
-          (paths_alike s r (filter (λ (t : Path). nat_le w.min (length t.steps)) k.0) a),
-    )
-
     pub walked_back : (ss rs : List Row) (vs : List Tree) (out : List Row) → AllZip (Alike (own ++ outer)) ss rs
         → Walked db (numbered_walk n w) es scoped ss vs out
         → (behind : List Row) × Walked db w es written rs vs behind
         × AllZip (Alike (walk_names n w own ++ outer)) out behind
     walked_back ss rs vs out a k =
         let more = walk_names n w own ++ outer in
-        let lists = zip_square
+        let walked = zip_join
         (λ (p q : Row × Tree). Alike (own ++ outer) p.0 q.0 × (p.1 ≡ q.1))
-        (λ (p : Row × Tree) (list : List Row). WalkedRow db (numbered_walk n w) es scoped p.0 p.1 list)
-        (λ (q : Row × Tree) (list : List Row). WalkedRow db w es written q.0 q.1 list)
-        (AllZip (Alike more))
-        (λ p q list e h. row_back p.0 q.0 q.1 list e.0
-        (subst (λ (v : Tree). WalkedRow db (numbered_walk n w) es scoped p.0 v list) e.1 h))
+        (λ (p : Row × Tree) paths.
+        WalkedFrom (numbered_walk n w) es (λ t. scoped (path_row db (numbered_walk n w) p.0 t)) (id_text p.1) paths)
+        (λ (q : Row × Tree) paths. WalkedFrom w es (λ t. written (path_row db w q.0 t)) (id_text q.1) paths)
+        (λ p q paths e h.
+        subst (λ (v : Tree). WalkedFrom w es (λ t. written (path_row db w q.0 t)) (id_text v) paths) e.1
+        (subst (λ (pruned : Path → Bool). WalkedFrom w es pruned (id_text p.1) paths)
+        (fun_ext (λ t. same _ _ (path_alike p.0 q.0 t e.0)))
+        (same_walk n w es (λ t. scoped (path_row db (numbered_walk n w) p.0 t)) (id_text p.1) paths h)))
         (zip ss vs) (zip rs vs) k.0 (zip_starts (Alike (own ++ outer)) ss rs vs a) k.1 in
-        let p = alike_permutation (Alike more) _ out _ k.2 (zip_flat (Alike more) k.0 lists.0 lists.2) in
-        (p.0, (lists.0, lists.1, p.1), p.2)
+        let rows = each_related (Alike (own ++ outer)) (Alike more) (path_row db (numbered_walk n w)) (path_row db w)
+        (λ s r t h. path_alike s r t h) ss rs (map (long_paths w) k.0) a in
+        let p = alike_permutation (Alike more) _ out _ k.2 rows in
+        (p.0, (k.0, walked, p.1), p.2)

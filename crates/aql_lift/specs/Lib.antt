@@ -1,7 +1,6 @@
 pub mod Names
 pub mod Lifting
 pub mod Prunes
-pub mod Lifted
 pub mod Theorem
 pub mod laws
 pub mod Worked

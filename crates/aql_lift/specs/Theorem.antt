@@ -1,16 +1,20 @@
 -- The laws of scoping, each the contract of a public function. A subquery means what it means where it is
 -- written (AQL fundamentals, Subqueries), although the scoped query has it in a LET before its clause.
 use Rattle.std.specs.Prelude.{ℕ, ◌≡◌, ◌+◌, List, [], length}
+use Rattle.std.specs.List.{AllByRecursion}
 use Rattle.aql_value.specs.Tree.{Tree}
 use Rattle.aql_value.specs.Database.{Database}
+use Rattle.aql_tree.specs.declared.syntax.Ident.{Ident}
+use Rattle.aql_tree.specs.declared.syntax.Ident.TheVariants.{Num}
 use Rattle.aql_tree.specs.Tree.{ExprTree, QueryTree}
 use Rattle.aql_meaning.specs.Row.{empty_row}
 use Rattle.aql_meaning.specs.Meaning.{Answer}
 use Rattle.aql_meaning.specs.Plain.{IsPlain}
+use Rattle.aql_meaning.specs.Lifted.{IsLifted}
+use Rattle.aql_meaning.specs.Numbered.{IsNumber, IsNumbered}
 use Rattle.aql_lift.specs.Names.{Names}
 use Rattle.aql_lift.specs.Lifting.{expr, scoped}
 use Rattle.aql_lift.specs.Prunes.{PrunesPlain}
-use Rattle.aql_lift.specs.Lifted.{IsLifted}
 
 -- what the scoped query answers, the written one answers
 abbrev pub ScopedAnswersAreAnswers : Type 0
@@ -26,9 +30,18 @@ abbrev pub PlainTakesNothing : Type 0
 PlainTakesNothing = (names : Names) (e : ExprTree) → IsPlain e → (n : ℕ)
     → ((expr names n e).taken ≡ []) × ((expr names n e).said ≡ []) × ((expr names n e).next ≡ n)
 
--- what scoping makes of an expression has no subquery; in a scoped query's own clauses one stands only as the
--- whole right side of a LET
+-- what scoping makes of an expression has no subquery, and what it makes of a query is lifted
 abbrev pub LiftedIsPlain : Type 0
 LiftedIsPlain =
     ((names : Names) (e : ExprTree) (n : ℕ) → IsPlain (expr names n e).tree)
     × ((outer : Names) (n : ℕ) (q : QueryTree) → IsLifted (scoped outer n q).tree)
+
+-- the numbers of these names are from 1 on
+abbrev pub AreNumbers : Names → Type 0
+AreNumbers names = AllByRecursion (λ (v : Ident × ℕ). IsNumber (Num v.1)) names
+
+-- each variable of a scoped query is a number from 1 on, where the outer names have such numbers and the next
+-- number is one
+abbrev pub ScopedIsNumbered : Type 0
+ScopedIsNumbered = (outer : Names) → AreNumbers outer → (n : ℕ) → IsNumber (Num n) → (q : QueryTree)
+    → IsNumbered (scoped outer n q).tree

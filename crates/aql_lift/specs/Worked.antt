@@ -110,7 +110,7 @@ pub record WorkedQueries : Type 0 where
       ∷ grouped (
         (Num 3, nth 1) ∷ [],
         (Num 4, codes "SUM", Some (nth 2)) ∷ [],
-        Some (Num 5, Some (made.object (named (codes "y") (nth 2) ∷ named (codes "x") (nth 1) ∷ [])), []),
+        Some (Num 5, Some (made.object (named (codes "x") (nth 1) ∷ named (codes "y") (nth 2) ∷ [])), []),
       ) ∷ [])
       (items (nth 3 ∷ nth 4 ∷ nth 5 ∷ [])))
       ("x" ∷ "y" ∷ "k" ∷ "s" ∷ "g" ∷ [])

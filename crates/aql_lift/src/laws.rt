@@ -1,6 +1,6 @@
 //! The laws of scoping: each function's contract is one of them.
 
-ghost use Rattle.aql_lift.specs.Theorem.{EachNumberHasItsName, LiftedIsPlain, PlainTakesNothing, ScopedAnswersAreAnswers};
+ghost use Rattle.aql_lift.specs.Theorem.{EachNumberHasItsName, LiftedIsPlain, PlainTakesNothing, ScopedAnswersAreAnswers, ScopedIsNumbered};
 
 /// What the scoped query answers, the written one answers.
 pub fn scoped_answers_are_answers()
@@ -17,7 +17,13 @@ pub fn plain_takes_nothing()
     ensures { PlainTakesNothing }
 {}
 
-/// What scoping makes of an expression has no subquery.
+/// What scoping makes of an expression has no subquery; in a scoped query, and in each of its
+/// subqueries, one stands only as the whole right side of a LET.
 pub fn lifted_is_plain()
     ensures { LiftedIsPlain }
+{}
+
+/// The variables of a scoped query are numbers from 1 on.
+pub fn scoped_is_numbered()
+    ensures { ScopedIsNumbered }
 {}

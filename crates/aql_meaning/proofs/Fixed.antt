@@ -1,7 +1,7 @@
 -- What a query answers where little is free: one list where all its clauses keep an order, and one list up
 -- to its order behind a traversal from one row.
 use Rattle.std.proofs.Common.{◌≡◌, ◌∙◌, refl, sym, ap, subst, inl, inr, ℕ, List, [], ◌∷◌, map, Bool, true, false}
-use Rattle.std.specs.Prelude.{cond, Option, None, MatchOption, filter, flat_map, IsPermutation}
+use Rattle.std.specs.Prelude.{cond, Option, None, MatchOption, filter, IsPermutation}
 use Rattle.std.specs.List.{AllZip}
 use Rattle.aql_value.specs.Tree.{Tree, null, boolean}
 use Rattle.aql_value.specs.Truth.{truth}
@@ -12,7 +12,7 @@ use Rattle.aql_tree.specs.declared.syntax.Ident.{Ident}
 use Rattle.aql_tree.specs.Tree.{ExprTree, MaybeExpr, MemberTrees, WalkShape, for_each, for_paths, keep_if, define, limit, ClauseTrees, no_clauses, clause_then, query}
 use Rattle.aql_meaning.specs.Row.{Row}
 use Rattle.aql_meaning.specs.Clauses.{returned, with_elements, with_documents, kept, bound, limited}
-use Rattle.aql_meaning.specs.Paths.{IsIn, Path, WalkedFrom, WalkedRow, Walked, path_row, path_rows}
+use Rattle.aql_meaning.specs.Paths.{IsIn, Path, WalkedFrom, Walked, path_row, path_rows, with_paths}
 use Rattle.aql_meaning.specs.Options.{with_settings}
 use Rattle.aql_meaning.specs.Value.{value, value_or}
 use Rattle.aql_meaning.specs.Visible.{collection_meant, edges_named}
@@ -150,14 +150,16 @@ single_walk db w e names prune settings p start rows h =
           (subst (λ rs. IsPermutation rs h.0) r.2 k.2),
     )
   where
-    by : (lists : List (List Row))
-        → AllZip (λ (p : Row × Tree) list. WalkedRow db (with_settings settings w) (edges_named db names)
-        (λ row. truth (value_or prune null row (boolean false))) p.0 p.1 list)
-        ((start, value e null start) ∷ []) lists
+    by : (paths : List (List Path))
+        → AllZip (λ (from : Row × Tree) walked. WalkedFrom (with_settings settings w) (edges_named db names)
+        (λ t. truth (value_or prune null (path_row db (with_settings settings w) from.0 t) (boolean false)))
+        (id_text from.1) walked)
+        ((start, value e null start) ∷ []) paths
         → (T : List Path) × WalkedFrom (with_settings settings w) (edges_named db names)
         (λ t. truth (value_or prune null (path_row db (with_settings settings w) start t) (boolean false)))
         (id_text (value e null start)) T
-        × (flat_map (λ rows. rows) lists ≡ path_rows db (with_settings settings w) start T)
+        × (with_paths db (with_settings settings w) (start ∷ []) paths
+        ≡ path_rows db (with_settings settings w) start T)
     by [] k = absurd k
-    by (list ∷ []) k = (k.0.0, k.0.1, append-nil list ∙ k.0.2)
-    by (list ∷ more ∷ lists) k = absurd k.1
+    by (T ∷ []) k = (T, k.0, append-nil (path_rows db (with_settings settings w) start T))
+    by (T ∷ more ∷ paths) k = absurd k.1

@@ -9,4 +9,3 @@ pub mod Absent
 pub mod RefutedClauses
 pub mod RefutedWalks
 pub mod Refuted
-pub mod RowByRow

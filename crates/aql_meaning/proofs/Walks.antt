@@ -1,6 +1,6 @@
 -- The worked traversals: most are computed; where another set of paths may be chosen, the set is given.
 use Rattle.std.proofs.Common.{◌≡◌, refl, inl, inr, ◌≤◌, List, [], ◌∷◌, Bool, false, arith}
-use Rattle.std.specs.Prelude.{Option, None, codes, flat_map, IsPermutation}
+use Rattle.std.specs.Prelude.{Option, None, codes, IsPermutation}
 use Rattle.std.proofs.lemmas.List.Sorted.{IsPermutation-refl, IsPermutation-trans, IsPermutation-reverse}
 use Rattle.aql_value.specs.Tree.{Tree, null, boolean}
 use Rattle.aql_value.specs.Database.{Database}
@@ -11,7 +11,7 @@ use Rattle.aql_tree.specs.View.{clauses, maybe, members}
 use Rattle.aql_tree.specs.Made as made
 use Rattle.aql_meaning.specs.Row.{Row, empty_row}
 use Rattle.aql_meaning.specs.Value.{value_or}
-use Rattle.aql_meaning.specs.Paths.{Path, IsChosen, along, empty_path, extended, path_row, path_rows}
+use Rattle.aql_meaning.specs.Paths.{Path, IsChosen, along, empty_path, extended, path_row, with_paths}
 use Rattle.aql_meaning.specs.Options.{with_settings}
 use Rattle.aql_meaning.specs.Visible.{edges_named}
 use Rattle.aql_meaning.specs.Meaning.{Answer}
@@ -96,11 +96,10 @@ abbrev answer_of : (prune : Option ExprTree) (T : List Path)
     → IsChosen shape edges (pruned prune) (codes "n/a") 2 T
     → (out : List Tree) × Answer diamond (chosen_paths prune) empty_row out
 answer_of prune T h =
-    let list = path_rows diamond shape empty_row T in
     answer_behind diamond []
     (walk all_three 1 2 Outbound "n/a" prune global) no_clauses false keys_of_path empty_row
-    (flat_map (λ rows. rows) (list ∷ []))
-    (str "n/a" ∷ [], (refl, tt), (list ∷ [], ((T, h, refl), tt), IsPermutation-refl _))
+    (with_paths diamond shape (empty_row ∷ []) (T ∷ []))
+    (str "n/a" ∷ [], (refl, tt), (T ∷ [], (h, tt), IsPermutation-refl _))
 
 in_order : (prune : Option ExprTree) (values turned : List Tree) → IsPermutation turned values
     → Answer diamond (chosen_paths prune) empty_row turned

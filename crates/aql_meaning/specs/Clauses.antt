@@ -1,7 +1,7 @@
 -- What each clause makes of a list of rows, where the values of its expressions at the rows are given, in
 -- the same order (AQL's high-level operations: FOR, FILTER, LET, SORT, LIMIT, RETURN). The definitions know
 -- no tree, so that whatever else works on rows can be said in the same words.
-use Rattle.std.specs.Prelude.{ℕ, ◌≡◌, List, [], ◌∷◌, ◌++◌, map, zip, take, drop, Bool, true, false, cond, IsPermutation, IsSortedBy}
+use Rattle.std.specs.Prelude.{ℕ, ◌≡◌, List, [], ◌∷◌, map, flat_map, zip, take, drop, Bool, true, false, cond, Option, Some, None, IsPermutation, IsSortedBy}
 use Rattle.std.specs.Ordering.{is_lt, ordering_then}
 use Rattle.std.specs.declared.cmp.Ordering.{Ordering}
 use Rattle.std.specs.declared.cmp.Ordering.TheVariants.{Equal}
@@ -14,16 +14,17 @@ use Rattle.aql_func.specs.Lists.{firsts}
 use Rattle.aql_tree.specs.declared.syntax.Ident.{Ident}
 use Rattle.aql_meaning.specs.Row.{Row, bind}
 
+-- each row with each of its own things, row after row; `f` gives the row with one of them
+abbrev pub with_each : {X : Type 0} → (Row → X → Row) → List Row → List (List X) → List Row
+with_each {X = X} f rows lists = flat_map (λ (own : Row × List X). map (f own.0) own.1) (zip rows lists)
+
 -- FOR over an array: each row with each element of its value, in order; nothing where it is no array
 abbrev pub with_elements : Ident → List Row → List Tree → List Row
-with_elements x [] values = []
-with_elements x (row ∷ rows) [] = []
-with_elements x (row ∷ rows) (v ∷ values) = map (bind x row) (elements v) ++ with_elements x rows values
+with_elements x rows values = with_each (bind x) rows (map elements values)
 
--- FOR over a collection: any permutation of these pairs of row and document
+-- FOR over a collection: any permutation of each row with each document
 abbrev pub with_documents : Ident → List Tree → List Row → List Row
-with_documents x documents [] = []
-with_documents x documents (row ∷ rows) = map (bind x row) documents ++ with_documents x documents rows
+with_documents x documents rows = with_each (bind x) rows (map (λ row. documents) rows)
 
 -- FILTER: those whose value is true-like, in order
 abbrev pub kept : {X : Type 0} → List X → List Tree → List X
@@ -37,7 +38,7 @@ bound x [] values = []
 bound x (row ∷ rows) [] = []
 bound x (row ∷ rows) (v ∷ values) = bind x row v ∷ bound x rows values
 
--- LIMIT: at most `count` rows, behind the first `offset`
+-- LIMIT: at most `count` rows, after the first `offset`
 abbrev pub limited : ℕ → ℕ → List Row → List Row
 limited offset count rows = take count (drop offset rows)
 
@@ -68,3 +69,8 @@ comes_before directions a b = is_lt (keys_cmp directions a.0 b.0)
 abbrev pub Sorted : List Bool → List (List Tree) → List Row → List Row → Type 0
 Sorted directions keys rows out = (sorted : List Keyed) × IsPermutation (zip keys rows) sorted
     × IsSortedBy (comes_before directions) sorted × (out ≡ map (λ (keyed : Keyed). keyed.1) sorted)
+
+-- SORT of which only the first rows are asked for
+abbrev pub first_rows : Option ℕ → List Row → List Row
+first_rows None rows = rows
+first_rows (Some count) rows = take count rows

@@ -1,6 +1,6 @@
 -- COLLECT: the classes of rows with equal criteria, and the one row that each class gives (AQL's high-level
 -- operations, COLLECT, with AGGREGATE, INTO and KEEP).
-use Rattle.std.specs.Prelude.{ℕ, ◌≡◌, List, [], ◌∷◌, map, filter, ◌+◌, Option, Some, None, unwrap_or, option_map, IsPermutation}
+use Rattle.std.specs.Prelude.{ℕ, ◌≡◌, List, [], ◌∷◌, map, filter, reverse, ◌+◌, Option, Some, None, unwrap_or, option_map, IsPermutation}
 use Rattle.std.specs.List.{AllZip}
 use Rattle.aql_value.specs.Tree.{Tree, null}
 use Rattle.aql_value.specs.Parts.{list, elements, same}
@@ -17,6 +17,12 @@ pub record Member : Type 0 where
   pub criteria : List Tree
   pub arguments : List Tree
   pub taken : Tree
+
+-- a member as it is asked for: by its criteria, its arguments and what INTO takes
+pub record IsMember (Criteria Arguments : List Tree → Type 0) (Taken : Tree → Type 0) (member : Member) : Type 0 where
+  pub criteria : Criteria member.criteria
+  pub arguments : Arguments member.arguments
+  pub taken : Taken member.taken
 
 -- the lists of criteria that some member has, each once, ascending as arrays; without criteria one class
 abbrev pub classes : List Ident → List Member → List (List Tree)
@@ -50,8 +56,9 @@ WithInto (Some x) members row out = (taken : List Tree)
 -- COLLECT: a row for each class in turn; xs are the variables of the criteria, ys those of the aggregates fs
 abbrev pub Collected : List Ident → List Ident → List (List Tree → Tree) → Option Ident
     → Row → List Member → List Row → Type 0
-Collected xs ys fs into start members out =
-    AllZip (λ c row. WithInto into (members_of c members) (class_row xs ys fs start members c) row)
+Collected xs ys fs into start members out = AllZip
+    (λ criteria row.
+    WithInto into (members_of criteria members) (class_row xs ys fs start members criteria) row)
     (classes xs members) out
 
 -- the variables that have a name
@@ -60,9 +67,10 @@ names_of [] = []
 names_of (Name n ∷ xs) = n ∷ names_of xs
 names_of (Num n ∷ xs) = names_of xs
 
--- what INTO takes without an expression: all these variables, or those that KEEP names
+-- what INTO takes without an expression: all variables, in the order in which they were set, or those that KEEP
+-- names; `vars` has the last set first
 abbrev pub names_taken : List Ident → List (List ℕ) → List (List ℕ)
-names_taken vars [] = names_of vars
+names_taken vars [] = names_of (reverse vars)
 names_taken vars (name ∷ keep) = name ∷ keep
 
 -- the object of these variables by their names

@@ -6,9 +6,15 @@ pub mod Paths
 pub mod Options
 pub mod Visible
 pub mod Value
+pub mod AtRows
+pub mod Documents
+pub mod Merges
 pub mod Meaning
+pub mod Stages
 pub mod Plain
 pub mod Uses
+pub mod Lifted
+pub mod Numbered
 pub mod Places
 pub mod Theorems
 pub mod laws

@@ -1,7 +1,7 @@
 -- What a query means: which values an expression has at a row (AQL fundamentals), what a clause makes of
 -- the rows so far (high-level operations), and which lists a query answers. These are relations: documents
 -- come in any order, rows with equal keys too, and a subquery may have any of its answers.
-use Rattle.std.specs.Prelude.{ℕ, ◌≡◌, List, [], ◌∷◌, true, false, IsPermutation, MatchOption}
+use Rattle.std.specs.Prelude.{ℕ, ◌≡◌, List, [], ◌∷◌, true, IsPermutation, MatchOption}
 use Rattle.std.specs.Bool.{MatchBool}
 use Rattle.std.specs.List.{AllZip}
 use Rattle.aql_value.specs.Tree.{Tree, null, boolean}
@@ -15,9 +15,9 @@ use Rattle.aql_tree.specs.declared.syntax.Ident.{Ident}
 use Rattle.aql_tree.specs.Tree.{ExprTree, literal, variable, current, listed, made, access, called, unary_of, chain, quantified, choice, range_of, subquery, ExprTrees, no_exprs, expr_then, MaybeExpr, no_expr, one_expr, MemberTrees, no_members, named_then, computed_then, StepTrees, no_steps, name_then, at_then, each_then, LinkTrees, no_links, link_then, ClauseTree, for_each, for_documents, for_paths, keep_if, define, sort_by, limit, collect, AggregateTrees, no_aggregates, aggregate_then, IntoTree, no_into, into, ClauseTrees, no_clauses, clause_then, QueryTree, query}
 use Rattle.aql_meaning.specs.Row.{Row, value_at}
 use Rattle.aql_meaning.specs.Expressions.{quantify, object_literal, Linked}
-use Rattle.aql_meaning.specs.Value.{value_or}
+use Rattle.aql_meaning.specs.AtRows.{stops}
 use Rattle.aql_meaning.specs.Clauses.{with_elements, with_documents, kept, bound, limited, returned, Sorted}
-use Rattle.aql_meaning.specs.Groups.{Member, Collected, variables_object}
+use Rattle.aql_meaning.specs.Groups.{Member, IsMember, Collected, variables_object}
 use Rattle.aql_meaning.specs.Paths.{Walked}
 use Rattle.aql_meaning.specs.Options.{with_settings}
 use Rattle.aql_meaning.specs.Visible.{aggregate_vars, aggregate_functions, into_var, vars_after, collection_meant, edges_named}
@@ -105,7 +105,7 @@ module _ (db : Database) where
     Changes (for_paths w e names prune settings) start vars rows out =
         (vs : List Tree) × AllZip (Ev e null) rows vs
         × Walked db (with_settings settings w) (edges_named db names)
-        (λ row. truth (value_or prune null row (boolean false))) rows vs out
+        (stops prune) rows vs out
     Changes (keep_if e) start vars rows out =
         (vs : List Tree) × AllZip (Ev e null) rows vs × (out ≡ kept rows vs)
     Changes (define x e) start vars rows out =
@@ -115,8 +115,8 @@ module _ (db : Database) where
     Changes (limit offset count) start vars rows out = out ≡ limited offset count rows
     Changes (collect xs es gs i) start vars rows out =
         (members : List Member)
-        × AllZip (λ row (m : Member). EvAll es null row m.criteria
-        × EvArguments gs row m.arguments × EvTaken i vars row m.taken) rows members
+        × AllZip (λ row member. IsMember (EvAll es null row) (EvArguments gs row) (EvTaken i vars row) member)
+        rows members
         × Collected xs (aggregate_vars gs) (aggregate_functions gs) (into_var i)
         start members out
 

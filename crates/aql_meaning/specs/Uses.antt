@@ -4,7 +4,7 @@
 use Rattle.std.specs.Prelude.{ℕ, ◌≡◌, List, [], ◌∷◌, ◌++◌}
 use Rattle.aql_value.specs.Parts.{at_name}
 use Rattle.aql_tree.specs.declared.syntax.Ident.{Ident}
-use Rattle.aql_tree.specs.Tree.{ExprTree, literal, variable, current, listed, made, access, called, unary_of, chain, quantified, choice, range_of, subquery, ExprTrees, no_exprs, expr_then, MaybeExpr, no_expr, one_expr, MemberTrees, no_members, named_then, computed_then, StepTrees, no_steps, name_then, at_then, each_then, LinkTrees, no_links, link_then}
+use Rattle.aql_tree.specs.Tree.{ExprTree, literal, variable, current, listed, made, access, called, unary_of, chain, quantified, choice, range_of, subquery, ExprTrees, no_exprs, expr_then, MaybeExpr, no_expr, one_expr, MemberTrees, no_members, named_then, computed_then, StepTrees, no_steps, name_then, at_then, each_then, LinkTrees, no_links, link_then, AggregateTrees, no_aggregates, aggregate_then, IntoTree, no_into, into}
 use Rattle.aql_meaning.specs.Row.{Row, value_at}
 
 -- a variable as a whole, or only its attribute of a name
@@ -15,7 +15,12 @@ pub data Use : Type 0 where
 abbrev pub Uses : Type 0
 Uses = List Use
 
+abbrev pub used_variable : Use → Ident
+used_variable (Whole x) = x
+used_variable (Part x name) = x
+
 abbrev mutual
+  -- what an expression uses, where it is plain: of the variables in a subquery this says nothing
   pub uses : ExprTree → Uses
   uses (literal v) = []
   uses (variable x) = Whole x ∷ []
@@ -54,6 +59,15 @@ abbrev mutual
   pub link_uses : LinkTrees → Uses
   link_uses no_links = []
   link_uses (link_then op e ls) = uses e ++ link_uses ls
+
+-- what the arguments of aggregates use, and the expression of INTO
+abbrev pub aggregate_uses : AggregateTrees → Uses
+aggregate_uses no_aggregates = []
+aggregate_uses (aggregate_then x name e rest) = maybe_uses e ++ aggregate_uses rest
+
+abbrev pub into_uses : IntoTree → Uses
+into_uses no_into = []
+into_uses (into x what keep) = maybe_uses what
 
 abbrev pub AgreeAt : Use → Row → Row → Type 0
 AgreeAt (Whole x) r s = value_at r x ≡ value_at s x

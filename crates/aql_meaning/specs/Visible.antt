@@ -15,10 +15,14 @@ abbrev pub aggregate_vars : AggregateTrees → List Ident
 aggregate_vars no_aggregates = []
 aggregate_vars (aggregate_then x name e rest) = x ∷ aggregate_vars rest
 
+-- a function for each aggregate, by its name
+abbrev pub functions_by : (List ℕ → List Tree → Tree) → AggregateTrees → List (List Tree → Tree)
+functions_by of_name no_aggregates = []
+functions_by of_name (aggregate_then x name e rest) = of_name name ∷ functions_by of_name rest
+
 -- what each aggregate makes of the values of all members
 abbrev pub aggregate_functions : AggregateTrees → List (List Tree → Tree)
-aggregate_functions no_aggregates = []
-aggregate_functions (aggregate_then x name e rest) = aggregate_of name ∷ aggregate_functions rest
+aggregate_functions aggregates = functions_by aggregate_of aggregates
 
 abbrev pub into_var : IntoTree → Option Ident
 into_var no_into = None
@@ -29,7 +33,7 @@ abbrev pub onto : List Ident → List Ident → List Ident
 onto [] vars = vars
 onto (x ∷ xs) vars = onto xs (x ∷ vars)
 
--- the variables of the query behind a clause, the last set first; COLLECT leaves only its own
+-- the variables of the query after a clause, the last set first; COLLECT leaves only its own
 abbrev pub vars_after : ClauseTree → List Ident → List Ident
 vars_after (for_each x e) vars = x ∷ vars
 vars_after (for_documents x name) vars = x ∷ vars

@@ -6,3 +6,4 @@ pub mod OneValue
 pub mod Agrees
 pub mod Replaced
 pub mod Rows
+pub mod RowByRow

@@ -1,6 +1,7 @@
 //! What a query means.
 #![tactic(auto)]
 
+mod grouping;
 pub mod laws;
 pub mod worked;
 
@@ -9,3 +10,4 @@ pub use aql_tree::{
     Ident, Into, Key, Keys, Let, Lets, Link, Links, Options, QuantKind, Query, Step, Steps,
     Traversal, UniqueEdges, UniqueVertices,
 };
+pub use grouping::Stage;

@@ -18,5 +18,6 @@ pub mod RoundTrip
 pub mod Parts
 pub mod Convert
 pub mod Database
+pub mod Shards
 pub mod laws
 pub mod formers

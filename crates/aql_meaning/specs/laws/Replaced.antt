@@ -286,11 +286,11 @@ module _ (db : Database) (x : Ident) (q e : ExprTree) (s : StandsFor db q e) whe
     clause_replaced (collect xs es gs i) start vars rows out h = (
       h.0,
       all_map _ _
-          (λ r (m : Member) j. (
-            all_replaced es null r m.criteria j.0,
-            arguments_replaced gs r m.arguments j.1,
-            taken_replaced i vars r m.taken j.2,
-          )) rows h.0 h.1,
+          (λ r (m : Member) j. record {
+            criteria = all_replaced es null r m.criteria j.criteria;
+            arguments = arguments_replaced gs r m.arguments j.arguments;
+            taken = taken_replaced i vars r m.taken j.taken;
+          }) rows h.0 h.1,
       subst (λ ys. Collected xs ys (aggregate_functions (put_aggregates x e gs))
           (into_var (put_into x e i)) start h.0 out)
           (same_aggregate_vars gs)

@@ -23,8 +23,8 @@ use Rattle.aql_meaning.specs.Row.{Row, value_at}
 use Rattle.aql_meaning.specs.Expressions.{quantify, object_literal, Linked}
 use Rattle.aql_meaning.specs.Value.{value_or}
 use Rattle.aql_meaning.specs.Clauses.{Keyed, with_elements, with_documents, kept, bound, limited, returned, Sorted}
-use Rattle.aql_meaning.specs.Groups.{Member, classes, members_of, class_row, WithInto, Collected, variables_object}
-use Rattle.aql_meaning.specs.Paths.{Path, WalkedBy, WalkedFrom, WalkedRow, Walked, path_row, path_rows, paths_up_to}
+use Rattle.aql_meaning.specs.Groups.{Member, IsMember, classes, members_of, class_row, WithInto, Collected, variables_object}
+use Rattle.aql_meaning.specs.Paths.{Path, WalkedBy, WalkedFrom, Walked, path_row, with_paths, paths_up_to}
 use Rattle.aql_meaning.specs.Options.{with_settings}
 use Rattle.aql_meaning.specs.Visible.{aggregate_vars, aggregate_functions, into_var, vars_after, collection_meant, edges_named}
 use Rattle.aql_meaning.specs.Meaning.{Ev, EvAll, EvOr, EvMembers, EvSteps, EvLinks, EvArguments, EvTaken, Changes, Through, Answer}
@@ -78,19 +78,16 @@ abbrev some_walked_from : (w : WalkShape) (es : List Tree) (pruned : Path → Bo
 some_walked_from w es pruned None = ([], refl)
 some_walked_from w es pruned (Some id) = some_walked_by w es pruned id w.options.vertices
 
-abbrev some_walked_row : (db : Database) (w : WalkShape) (es : List Tree) (prune : Row → Bool) (row : Row)
-    (start : Tree) → (out : List Row) × WalkedRow db w es prune row start out
-some_walked_row db w es prune row start =
-    let paths = some_walked_from w es (λ t. prune (path_row db w row t)) (id_text start) in
-    (path_rows db w row paths.0, (paths.0, paths.1, refl))
-
 abbrev pub some_walked : (db : Database) (w : WalkShape) (es : List Tree) (prune : Row → Bool)
     (rows : List Row)
     (starts : List Tree) → (out : List Row) × Walked db w es prune rows starts out
 some_walked db w es prune rows starts =
-    let lists = all_some (λ (p : Row × Tree) list. WalkedRow db w es prune p.0 p.1 list)
-    (λ (p : Row × Tree). some_walked_row db w es prune p.0 p.1) (zip rows starts) in
-    (flat_map (λ rows. rows) lists.0, (lists.0, lists.1, IsPermutation-refl _))
+    let paths = all_some
+    (λ (from : Row × Tree) walked.
+    WalkedFrom w es (λ t. prune (path_row db w from.0 t)) (id_text from.1) walked)
+    (λ (from : Row × Tree). some_walked_from w es (λ t. prune (path_row db w from.0 t)) (id_text from.1))
+    (zip rows starts) in
+    (with_paths db w rows paths.0, (paths.0, paths.1, IsPermutation-refl _))
 
 module _ (db : Database) where
   abbrev mutual
@@ -215,13 +212,14 @@ module _ (db : Database) where
     some_change (limit offset count) start vars rows = (limited offset count rows, refl)
     some_change (collect xs es gs i) start vars rows =
         let members = all_some
-        (λ row (m : Member). EvAll db es null row m.criteria
-        × EvArguments db gs row m.arguments × EvTaken db i vars row m.taken)
+        (λ row member. IsMember (EvAll db es null row) (EvArguments db gs row) (EvTaken db i vars row) member)
         (λ row.
         let a = some_values es null row in
         let b = some_arguments gs row in
-        let t = some_taken i vars row in
-        (record { criteria = a.0; arguments = b.0; taken = t.0 }, (a.1, b.1, t.1)))
+        let t = some_taken i vars row in (
+          record { criteria = a.0; arguments = b.0; taken = t.0 },
+          record { criteria = a.1; arguments = b.1; taken = t.1 },
+        ))
         rows in
         let x = some_collected xs (aggregate_vars gs) (aggregate_functions gs) (into_var i) start members.0 in
         (x.0, (members.0, members.1, x.1))

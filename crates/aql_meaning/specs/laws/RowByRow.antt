@@ -1,4 +1,5 @@
--- A clause that takes one row after another makes the same rows, permuted, of permuted rows.
+-- Each clause's word, row by row; and a clause that takes one row after another makes the same rows, permuted, of
+-- permuted rows.
 use Rattle.std.proofs.Common.{ℕ, ◌≡◌, ◌∙◌, sym, ap, subst, refl, List, [], ◌∷◌, ◌++◌, map, Bool, true, false, true≢false, cond}
 use Rattle.std.specs.Prelude.{Option, Some, None, MatchOption, flat_map, zip, IsPermutation}
 use Rattle.std.specs.List.{AllZip}
@@ -7,34 +8,34 @@ use Rattle.aql_value.specs.Tree.{Tree, null, boolean}
 use Rattle.aql_value.specs.Parts.{elements}
 use Rattle.aql_value.specs.Truth.{truth}
 use Rattle.aql_value.specs.Database.{Database, documents_named}
+use Rattle.aql_func.specs.Objects.{id_text}
 use Rattle.aql_tree.specs.declared.syntax.Ident.{Ident}
 use Rattle.aql_tree.specs.Tree.{WalkShape, ClauseTree, for_each, for_documents, for_paths, keep_if, define, sort_by, limit, collect}
 use Rattle.aql_meaning.specs.Row.{Row, bind}
-use Rattle.aql_meaning.specs.Clauses.{with_elements, with_documents, kept, bound}
+use Rattle.aql_meaning.specs.Clauses.{with_each, with_elements, with_documents, kept, bound}
 use Rattle.aql_meaning.specs.Value.{value_or}
-use Rattle.aql_meaning.specs.Paths.{WalkedRow, Walked}
+use Rattle.aql_meaning.specs.Paths.{Path, WalkedFrom, Walked, path_row, long_paths, with_paths}
 use Rattle.aql_meaning.specs.Options.{with_settings}
 use Rattle.aql_meaning.specs.Visible.{collection_meant, edges_named}
 use Rattle.aql_meaning.specs.Meaning.{Ev, Changes}
 use Rattle.aql_meaning.specs.Theorems.{takes_rows_alone}
 use Rattle.aql_meaning.specs.laws.Shuffles.{shuffled, through, flat_permuted}
 
--- each clause's word, row by row
-elements_flat : (x : Ident) (rows : List Row) (vs : List Tree)
+pub elements_flat : (x : Ident) (rows : List Row) (vs : List Tree)
     → with_elements x rows vs ≡ flat_map (λ (p : Row × Tree). map (bind x p.0) (elements p.1)) (zip rows vs)
 elements_flat x [] vs = refl
 elements_flat x (r ∷ rows) [] = refl
 elements_flat x (r ∷ rows) (v ∷ vs) = ap (λ rs. map (bind x r) (elements v) ++ rs) (elements_flat x rows vs)
 
-documents_flat : (x : Ident) (ds : List Tree) (rows : List Row)
+pub documents_flat : (x : Ident) (ds : List Tree) (rows : List Row)
     → with_documents x ds rows ≡ flat_map (λ row. map (bind x row) ds) rows
 documents_flat x ds [] = refl
 documents_flat x ds (r ∷ rows) = ap (λ rs. map (bind x r) ds ++ rs) (documents_flat x ds rows)
 
-abbrev one_if : Bool → Row → List Row
+abbrev pub one_if : Bool → Row → List Row
 one_if b row = cond b (row ∷ []) []
 
-kept_flat : (rows : List Row) (vs : List Tree)
+pub kept_flat : (rows : List Row) (vs : List Tree)
     → kept rows vs ≡ flat_map (λ (p : Row × Tree). one_if (truth p.1) p.0) (zip rows vs)
 kept_flat [] vs = refl
 kept_flat (r ∷ rows) [] = refl
@@ -44,14 +45,52 @@ kept_flat (r ∷ rows) (v ∷ vs) = by (truth v) (kept_flat rows vs)
     by true e = ap (λ rs. r ∷ rs) e
     by false e = e
 
-bound_flat : (x : Ident) (rows : List Row) (vs : List Tree)
+pub bound_flat : (x : Ident) (rows : List Row) (vs : List Tree)
     → bound x rows vs ≡ flat_map (λ (p : Row × Tree). bind x p.0 p.1 ∷ []) (zip rows vs)
 bound_flat x [] vs = refl
 bound_flat x (r ∷ rows) [] = refl
 bound_flat x (r ∷ rows) (v ∷ vs) = ap (λ rs. bind x r v ∷ rs) (bound_flat x rows vs)
 
+-- ---- rows that are related, place by place
+
+append_related : {A B : Type 0} (R : A → B → Type 0) (xs : List A) (ys : List B) (xs' : List A) (ys' : List B)
+    → AllZip R xs ys → AllZip R xs' ys' → AllZip R (xs ++ xs') (ys ++ ys')
+append_related R [] [] xs' ys' h k = k
+append_related R [] (y ∷ ys) xs' ys' h k = absurd h
+append_related R (x ∷ xs) [] xs' ys' h k = absurd h
+append_related R (x ∷ xs) (y ∷ ys) xs' ys' h k = (h.0, append_related R xs ys xs' ys' h.1 k)
+
+-- what each of two related rows gives with the same things is related
+module _ {X : Type 0} (R S : Row → Row → Type 0) (f g : Row → X → Row)
+    (step : (r s : Row) (x : X) → R r s → S (f r x) (g s x)) where
+  own_related : (r s : Row) (xs : List X) → R r s → AllZip S (map (f r) xs) (map (g s) xs)
+  own_related r s [] h = tt
+  own_related r s (x ∷ xs) h = (step r s x h, own_related r s xs h)
+
+  pub each_related : (rows others : List Row) (lists : List (List X)) → AllZip R rows others
+      → AllZip S (with_each f rows lists) (with_each g others lists)
+  each_related [] [] lists h = tt
+  each_related [] (s ∷ others) lists h = absurd h
+  each_related (r ∷ rows) [] lists h = absurd h
+  each_related (r ∷ rows) (s ∷ others) [] h = tt
+  each_related (r ∷ rows) (s ∷ others) (xs ∷ lists) h =
+      append_related S _ _ _ _ (own_related r s xs h.0) (each_related rows others lists h.1)
+
+  -- the same where the things depend on the row, and are the same for related rows
+  pub each_own_related : (a b : Row → List X) → ((r s : Row) → R r s → a r ≡ b s) → (rows others : List Row)
+      → AllZip R rows others → AllZip S (with_each f rows (map a rows)) (with_each g others (map b others))
+  each_own_related a b same [] [] h = tt
+  each_own_related a b same [] (s ∷ others) h = absurd h
+  each_own_related a b same (r ∷ rows) [] h = absurd h
+  each_own_related a b same (r ∷ rows) (s ∷ others) h =
+      append_related S _ _ _ _
+      (subst (λ xs. AllZip S (map (f r) (a r)) (map (g s) xs)) (same r s h.0) (own_related r s (a r) h.0))
+      (each_own_related a b same rows others h.1)
+
+-- ---- permuted rows
+
 -- a word that takes one row with its value after another
-by_value : (P : Row → Tree → Type 0) (word : List Row → List Tree → List Row) (f : Row × Tree → List Row)
+pub by_value : (P : Row → Tree → Type 0) (word : List Row → List Tree → List Row) (f : Row × Tree → List Row)
     → ((rows : List Row) (vs : List Tree) → word rows vs ≡ flat_map f (zip rows vs))
     → (rows others out : List Row) → IsPermutation rows others
     → ((vs : List Tree) × AllZip P rows vs × (out ≡ word rows vs))
@@ -66,7 +105,7 @@ by_value P word f is rows others out p h =
           (flat_permuted f t.2)),
     )
 
-documents_permuted : (x : Ident) (ds : List Tree) (rows others out : List Row) → IsPermutation rows others
+pub documents_permuted : (x : Ident) (ds : List Tree) (rows others out : List Row) → IsPermutation rows others
     → IsPermutation (with_documents x ds rows) out → IsPermutation (with_documents x ds others) out
 documents_permuted x ds rows others out p h =
     IsPermutation-trans _ _ _
@@ -76,18 +115,39 @@ documents_permuted x ds rows others out p h =
     (flat_permuted (λ row. map (bind x row) ds) (shuffled others rows (IsPermutation-sym _ _ p)))))
     h
 
-walked_permuted : (db : Database) (w : WalkShape) (es : List Tree) (prune : Row → Bool)
+-- the rows of paths beside the values from which the paths were walked
+paths_flat : (P : Row → Tree → Type 0) (f : Row → Path → Row) (g : List Path → List Path)
+    (rows : List Row) (starts : List Tree) → AllZip P rows starts
+    → (paths : List (List Path))
+    → with_each f rows (map g paths)
+    ≡ flat_map (λ (from : (Row × Tree) × List Path). map (f from.0.0) (g from.1)) (zip (zip rows starts) paths)
+paths_flat P f g [] [] h paths = refl
+paths_flat P f g [] (v ∷ starts) h paths = absurd h
+paths_flat P f g (r ∷ rows) [] h paths = absurd h
+paths_flat P f g (r ∷ rows) (v ∷ starts) h [] = refl
+paths_flat P f g (r ∷ rows) (v ∷ starts) h (walked ∷ paths) =
+    ap (λ rs. map (f r) (g walked) ++ rs) (paths_flat P f g rows starts h.1 paths)
+
+pub walked_permuted : (db : Database) (w : WalkShape) (es : List Tree) (prune : Row → Bool)
     (P : Row → Tree → Type 0)
     (rows others out : List Row) → IsPermutation rows others
     → ((vs : List Tree) × AllZip P rows vs × Walked db w es prune rows vs out)
     → (vs : List Tree) × AllZip P others vs × Walked db w es prune others vs out
 walked_permuted db w es prune P rows others out p h =
     let t = through P (shuffled rows others p) h.0 h.1 in
-    let u = through (λ (p : Row × Tree) list. WalkedRow db w es prune p.0 p.1 list) t.2 h.2.0 h.2.1 in (
-      t.0,
-      t.3,
-      (u.0, u.3, IsPermutation-trans _ _ _ (IsPermutation-sym _ _ (flat_permuted (λ rows. rows) u.1)) h.2.2),
-    )
+    let u = through
+    (λ (from : Row × Tree) walked.
+    WalkedFrom w es (λ t. prune (path_row db w from.0 t)) (id_text from.1) walked)
+    t.2 h.2.0 h.2.1 in
+    let same = IsPermutation-sym _ _ (flat_permuted
+    (λ (from : (Row × Tree) × List Path). map (path_row db w from.0.0) (long_paths w from.1)) u.2) in
+    let turned = subst (λ rs. IsPermutation rs (with_paths db w rows h.2.0))
+    (sym (paths_flat P (path_row db w) (long_paths w) others t.0 t.3 u.0))
+    (subst (λ rs. IsPermutation (flat_map
+    (λ (from : (Row × Tree) × List Path). map (path_row db w from.0.0) (long_paths w from.1))
+    (zip (zip others t.0) u.0)) rs)
+    (sym (paths_flat P (path_row db w) (long_paths w) rows h.0 h.1 h.2.0)) same) in
+    (t.0, t.3, (u.0, u.3, IsPermutation-trans _ _ _ turned h.2.2))
 
 pub permutation_passes : (db : Database) (c : ClauseTree) → takes_rows_alone c ≡ true
     → (start : Row) (vars : List Ident)
