@@ -26,4 +26,4 @@ abbrev pub invariant-links-loop-turn : goal.invariant-links-loop-turn
 invariant-links-loop-turn g l = many (at_level l.level)
     (link (level_at (expr l.self.depth) l.self.inside (l.level - 1))) l.fn.tokens
     ≡ many_from (at_level l.level) (link (level_at (expr l.self.depth) l.self.inside (l.level - 1)))
-        (l._turn-end - l._turn) (map link_part l.found) l.tokens
+    (l._turn-end - l._turn) (map link_part l.found) l.tokens
