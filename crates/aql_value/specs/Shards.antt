@@ -1,5 +1,5 @@
--- How the documents of a collection are split over shards. A shard is found by FNV-1a of 64 bits, whose bytes are
--- the canonical JSON of the array of a document's shard-key values.
+-- How the documents of a collection are split over shards (Cluster: sharding). A document's shard is found by
+-- FNV-1a of 64 bits of the canonical JSON of the array of its shard-key values.
 use Rattle.std.specs.Prelude.{ℕ, ◌*◌, ◌%◌, ◌^◌, ◌==◌, List, map, filter, fold, bit_xor}
 use Rattle.aql_value.specs.Tree.{Tree}
 use Rattle.aql_value.specs.Parts.{list, at_name}
@@ -13,7 +13,8 @@ fnv bytes = fold (λ hash byte. (bit_xor hash byte * 1099511628211) % 2 ^ 64) 14
 unfoldable pub shard_of : ℕ → List Tree → ℕ
 shard_of shards values = fnv (json_text (list values)) % shards
 
--- the documents of one shard, by the names of the shard keys; an attribute that a document lacks counts as null
+-- the documents of one shard, by the names of the shard keys; an attribute that a document lacks counts as
+-- null
 abbrev pub documents_on : ℕ → List (List ℕ) → ℕ → List Tree → List Tree
 documents_on shards keys shard documents =
     filter (λ document. shard_of shards (map (at_name document) keys) == shard) documents
