@@ -1,4 +1,5 @@
--- The variables of a scoped query are numbers from 1 on, where the next number and those of the visible names are.
+-- The variables of a scoped query are numbers from 1 on, where the next number and those of the visible names
+-- are.
 use Rattle.std.proofs.Common.{◌≡◌, ℕ, zero, suc, List, [], ◌∷◌, ◌++◌, Bool, true, false, cond, Option, Some, None}
 use Rattle.std.specs.Prelude.{MatchOption, option_to_list}
 use Rattle.std.specs.List.{AllByRecursion}
@@ -262,8 +263,8 @@ mutual
       let next = counted_is_number (option_to_list w.path) _ after in
       let one = expr_fine (own ++ outer) (names_append own outer a o) e (behind_walk n w) next in
       let more = walk_fine n w own h a in
-      let two = maybe_fine (walk_names n w own ++ outer) (names_append (walk_names n w own) outer more o) prune _
-      one.2 in
+      let two = maybe_fine (walk_names n w own ++ outer)
+      (names_append (walk_names n w own) outer more o) prune _ one.2 in
       let edge = given_is_number w.edge (suc n) tt in
       let path = given_is_number w.path _ after in (
         (onto_numbers _ _ path (onto_numbers _ _ edge (h, tt)), uses_append _ _ one.0 two.0),

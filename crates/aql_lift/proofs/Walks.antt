@@ -79,7 +79,8 @@ module _ (db : Database) (n : ℕ) (w : WalkShape) (own outer : Names) (b : Belo
         let walked = zip_join
         (λ (p q : Row × Tree). Alike (own ++ outer) p.0 q.0 × (p.1 ≡ q.1))
         (λ (p : Row × Tree) paths.
-        WalkedFrom (numbered_walk n w) es (λ t. scoped (path_row db (numbered_walk n w) p.0 t)) (id_text p.1) paths)
+        WalkedFrom (numbered_walk n w) es (λ t. scoped (path_row db (numbered_walk n w) p.0 t)) (id_text p.1)
+        paths)
         (λ (q : Row × Tree) paths. WalkedFrom w es (λ t. written (path_row db w q.0 t)) (id_text q.1) paths)
         (λ p q paths e h.
         subst (λ (v : Tree). WalkedFrom w es (λ t. written (path_row db w q.0 t)) (id_text v) paths) e.1
@@ -87,7 +88,7 @@ module _ (db : Database) (n : ℕ) (w : WalkShape) (own outer : Names) (b : Belo
         (fun_ext (λ t. same _ _ (path_alike p.0 q.0 t e.0)))
         (same_walk n w es (λ t. scoped (path_row db (numbered_walk n w) p.0 t)) (id_text p.1) paths h)))
         (zip ss vs) (zip rs vs) k.0 (zip_starts (Alike (own ++ outer)) ss rs vs a) k.1 in
-        let rows = each_related (Alike (own ++ outer)) (Alike more) (path_row db (numbered_walk n w)) (path_row db w)
-        (λ s r t h. path_alike s r t h) ss rs (map (long_paths w) k.0) a in
+        let rows = each_related (Alike (own ++ outer)) (Alike more) (path_row db (numbered_walk n w))
+        (path_row db w) (λ s r t h. path_alike s r t h) ss rs (map (long_paths w) k.0) a in
         let p = alike_permutation (Alike more) _ out _ k.2 rows in
         (p.0, (k.0, walked, p.1), p.2)

@@ -47,16 +47,16 @@ three f s t u = record {
   next = u.next;
 }
 
--- a part behind these declared variables
+-- a part after these declared variables
 abbrev pub declares : {T : Type 0} → List Ident → Scoped T → Scoped T
 declares xs s = record { tree = s.tree; taken = s.taken; said = map text_of xs ++ s.said; next = s.next }
 
--- a clause with numbers, and the query's own names behind it
+-- a clause with numbers, and the query's own names after it
 pub record ScopedClause : Type 0 where
   pub clause : Scoped ClauseTree
   pub own : Names
 
--- clauses with numbers and the LETs of what was taken out of each before it, and the query's own names behind
+-- clauses with numbers and the LETs of what was taken out of each before it, and the query's own names after
 -- them
 pub record ScopedClauses : Type 0 where
   pub clauses : ClauseTrees
@@ -155,7 +155,7 @@ abbrev mutual
       declares (x ∷ [])
       (whole (into (Num n) (one_expr (made (object_of names (names_taken (idents own) keep)))) []) (suc n))
 
-  -- a clause under the query's own names and the outer ones; what it declares is visible behind it
+  -- a clause under the query's own names and the outer ones; what it declares is visible after it
   pub clause : Names → Names → ℕ → ClauseTree → ScopedClause
   clause outer own n (for_each x (variable c)) = record {
     clause = declares (x ∷ []) (whole (from_name n (number_of (own ++ outer) c) c) (suc n));
@@ -198,7 +198,7 @@ abbrev mutual
   clause outer own n (sort_by directions es) =
       record { clause = over (sort_by directions) (exprs (own ++ outer) n es); own = own }
   clause outer own n (limit offset count) = record { clause = whole (limit offset count) n; own = own }
-  -- behind COLLECT only its own variables are left
+  -- after COLLECT only its own variables are left
   clause outer own n (collect xs es gs i) =
       let s = criteria (own ++ outer) n xs es in
       let t = aggregates (own ++ outer) s.next gs in

@@ -49,7 +49,7 @@ abbrev pub numbered_all : ℕ → List Ident → List Ident
 numbered_all n [] = []
 numbered_all n (x ∷ xs) = Num n ∷ numbered_all (suc n) xs
 
--- the number behind them
+-- the number after them
 abbrev pub counted : List Ident → ℕ → ℕ
 counted [] n = n
 counted (x ∷ xs) n = counted xs (suc n)

@@ -122,7 +122,7 @@ pub record WorkedQueries : Type 0 where
       ∷ into_nth 4 (made.object (named (codes "x") (nth 3) ∷ [])) ∷ []) (items (nth 1 ∷ nth 4 ∷ [])))) ∷ [])
       (nth 2))
       ("o" ∷ "z" ∷ "x" ∷ "g" ∷ [])
-  -- FOR x IN 1..3 COLLECT k = x FOR z IN x RETURN z, where x is a collection behind COLLECT
+  -- FOR x IN 1..3 COLLECT k = x FOR z IN x RETURN z, where x is a collection after COLLECT
   pub hidden_by_collect : Becomes
       (returning (for "x" (range_of (int 1) (int 3)) ∷ by_key (var "x") ∷ for "z" (var "x") ∷ []) (var "z"))
       (returning (for_nth 1 (range_of (int 1) (int 3)) ∷ by_nth 2 (nth 1)

@@ -1,6 +1,7 @@
 //! The laws of scoping: each function's contract is one of them.
 
-ghost use Rattle.aql_lift.specs.Theorem.{EachNumberHasItsName, LiftedIsPlain, PlainTakesNothing, ScopedAnswersAreAnswers, ScopedIsNumbered};
+ghost use Rattle.aql_lift.specs.Theorem.{EachNumberHasItsName, LiftedIsPlain, PlainTakesNothing};
+ghost use Rattle.aql_lift.specs.Theorem.{ScopedAnswersAreAnswers, ScopedIsNumbered};
 
 /// What the scoped query answers, the written one answers.
 pub fn scoped_answers_are_answers()

@@ -1,6 +1,6 @@
--- What expressions without a subquery say of rows, outside of inline operators (AQL's high-level operations): a
--- value of each row, the keys by which a SORT compares two rows, whether a filter lets a row pass, and whether a
--- traversal stops after a path (Graphs, Traversals: pruning).
+-- What expressions without a subquery say of rows, outside of inline operators (AQL's high-level
+-- operations): a value of each row, the keys by which SORT compares two rows, whether a filter lets a row
+-- pass, and whether a traversal stops after a path (Graphs, Traversals: pruning).
 use Rattle.std.specs.Prelude.{List, map, Bool, true, false}
 use Rattle.std.specs.Ordering.{is_lt}
 use Rattle.aql_value.specs.Tree.{Tree, null, boolean}

@@ -1,6 +1,6 @@
--- What those who read the documents of a collection make of rows (the high-level operation FOR; Indexing): the
--- bounds of an index and its order, a filter that the reader has of its own, and a projection, which is the
--- attributes that are kept of a document.
+-- What those who read the documents of a collection make of rows (the high-level operation FOR; Indexing):
+-- the bounds of an index and its order, a filter that the reader has of its own, and a projection, which is
+-- the attributes that are kept of a document.
 use Rattle.std.specs.Prelude.{ℕ, ◌≡◌, List, [], ◌∷◌, map, filter, Bool, true, false, cond, not, ◌&&◌, Option, Some, None, option_map, bytes_eq, IsPermutation, IsSortedBy}
 use Rattle.std.specs.List.{list_any, AllZip}
 use Rattle.std.specs.Ordering.{is_lt}

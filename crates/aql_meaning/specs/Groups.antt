@@ -19,7 +19,8 @@ pub record Member : Type 0 where
   pub taken : Tree
 
 -- a member as it is asked for: by its criteria, its arguments and what INTO takes
-pub record IsMember (Criteria Arguments : List Tree → Type 0) (Taken : Tree → Type 0) (member : Member) : Type 0 where
+pub record IsMember (Criteria Arguments : List Tree → Type 0) (Taken : Tree → Type 0) (member : Member)
+    : Type 0 where
   pub criteria : Criteria member.criteria
   pub arguments : Arguments member.arguments
   pub taken : Taken member.taken
@@ -67,8 +68,8 @@ names_of [] = []
 names_of (Name n ∷ xs) = n ∷ names_of xs
 names_of (Num n ∷ xs) = names_of xs
 
--- what INTO takes without an expression: all variables, in the order in which they were set, or those that KEEP
--- names; `vars` has the last set first
+-- what INTO takes without an expression: all variables, in the order in which they were set, or those that
+-- KEEP names; `vars` has the last set first
 abbrev pub names_taken : List Ident → List (List ℕ) → List (List ℕ)
 names_taken vars [] = names_of (reverse vars)
 names_taken vars (name ∷ keep) = name ∷ keep

@@ -1,6 +1,6 @@
--- The queries of which nothing is left to tell apart (AQL fundamentals, Subqueries): a subquery stands only as the
--- whole right side of a LET, and is such a query itself. After IN stands no single name, since a collection has a
--- clause of its own; the options of a traversal are read; INTO has its expression.
+-- The queries that scoping gives (AQL fundamentals, Subqueries): a subquery stands only as the whole right
+-- side of a LET, and is such a query itself. No single name stands after IN, since a FOR over a collection is
+-- a clause of its own; the options of a traversal are read; INTO has its expression.
 use Rattle.aql_tree.specs.declared.syntax.Ident.TheVariants.{Name}
 use Rattle.aql_tree.specs.Tree.{ExprTree, variable, subquery, no_expr, one_expr, MemberTrees, no_members, ClauseTree, for_each, for_documents, for_paths, keep_if, define, sort_by, limit, collect, AggregateTrees, no_aggregates, aggregate_then, IntoTree, no_into, into, ClauseTrees, no_clauses, clause_then, QueryTree, query}
 use Rattle.aql_meaning.specs.Plain.{IsPlain, AllPlain, MaybePlain}

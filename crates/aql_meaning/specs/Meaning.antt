@@ -65,7 +65,7 @@ module _ (db : Database) where
     EvMembers ms cur row fs = ⊥
 
     -- the steps of an access lead from d to v. An inline operator tests the elements, takes one value of
-    -- each that is kept, and from each of these goes the steps behind it
+    -- each that is kept, and from each of these goes the steps after it
     pub EvSteps : StepTrees → Tree → Row → Tree → Tree → Type 0
     EvSteps no_steps cur row d v = v ≡ d
     EvSteps (name_then name ss) cur row d v = EvSteps ss cur row (at_name d name) v

@@ -1,6 +1,6 @@
--- The queries whose variables are numbers from 1 on, both those that their clauses declare and those that their
--- expressions use (the high-level operations, variables). Of a subquery this is asked where it is the whole right
--- side of a LET.
+-- The queries whose variables are numbers from 1 on, both those that their clauses declare and those that
+-- their expressions use (the high-level operations, variables). Of a subquery this is asked where it is the
+-- whole right side of a LET.
 use Rattle.std.specs.Prelude.{suc, List, [], ◌++◌}
 use Rattle.std.specs.List.{AllByRecursion}
 use Rattle.aql_tree.specs.declared.syntax.Ident.{Ident}

@@ -1,6 +1,6 @@
--- COLLECT as one step or as two (the high-level operation COLLECT; Cluster: grouping on shards). In the first of
--- two each part of the rows is grouped by itself, and its rows have the criteria with a state of each aggregate;
--- the second joins the states of equal criteria.
+-- COLLECT as one step or as two (the high-level operation COLLECT; Cluster: grouping on shards). In the first
+-- of two each part of the rows is grouped by itself, and its rows have the criteria with a state of each
+-- aggregate; the second joins the states of equal criteria.
 use Rattle.std.specs.Prelude.{ℕ, List, [], ◌∷◌, map, Option, unwrap_or, option_map}
 use Rattle.aql_value.specs.Tree.{Tree, null}
 use Rattle.aql_func.specs.Aggregates.{state, joined, aggregate_named}

@@ -45,7 +45,7 @@ abbrev mutual
   members (named_then name e ms) cur row = (name, value e cur row) ∷ members ms cur row
   members (computed_then n e ms) cur row = (to_text (value n cur row), value e cur row) ∷ members ms cur row
 
-  -- the steps of an access, from the value v on; behind an inline operator they are taken for each element
+  -- the steps of an access, from the value v on; after an inline operator they are taken for each element
   pub stepped : StepTrees → Tree → Row → Tree → Tree
   stepped no_steps cur row v = v
   stepped (name_then name ss) cur row v = stepped ss cur row (at_name v name)

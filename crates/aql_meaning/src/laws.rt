@@ -1,6 +1,7 @@
 //! The laws of the meaning: each function's contract is one of them.
 
-ghost use Rattle.aql_meaning.specs.Theorems.{EqualPlainStandFor, EveryQueryHasAnAnswer, PermutationPasses, PlainHasOneValue, StandsAtAnyPlace, ValueNeedsOnlyWhatIsUsed};
+ghost use Rattle.aql_meaning.specs.Theorems.{EqualPlainStandFor, EveryQueryHasAnAnswer, PermutationPasses};
+ghost use Rattle.aql_meaning.specs.Theorems.{PlainHasOneValue, StandsAtAnyPlace, ValueNeedsOnlyWhatIsUsed};
 
 /// Every query has an answer from every row.
 pub fn every_query_has_an_answer()

@@ -1,6 +1,8 @@
 -- Facts about the words that single names are judged in.
 use Rattle.std.proofs.Common.{◌≡◌, ◌∙◌, ℕ, ◌<◌, List, [], ◌∷◌, ◌++◌, suc, length, map, ap, Bool, true, false, cond, refl, sym, arith}
-use Rattle.std.specs.Prelude.{Option, Some, None, Result, Ok, Err, codes, option_map, IsTrue, ◌↔◌, nat_le}
+use mathlib.Core.List.{reverse-cons}
+use Rattle.std.proofs.lemmas.List.{map-append, reverse-append}
+use Rattle.std.specs.Prelude.{reverse, Option, Some, None, Result, Ok, Err, codes, option_map, IsTrue, ◌↔◌, nat_le}
 use Rattle.std.specs.Char.{to_ascii_lowercase}
 use lib.Pointwise.{bytes_decides}
 use Rattle.std.specs.Str.{str_eq_ignore_ascii_case}
@@ -42,6 +44,15 @@ number_before (v ∷ own) outer x n found = by (same_ident v.0 x) found (number_
       → cond same (Some v.1) (number_of (own ++ outer) x) ≡ Some n
   by true h f = h
   by false h f = f h
+
+-- the names of a list whose latest entry comes first, the latest last
+pub idents_turned : (entries : Names) → reverse (idents (reverse entries)) ≡ idents entries
+idents_turned [] = refl
+idents_turned (v ∷ entries) =
+    ap (λ (names : Names). reverse (idents names)) (reverse-cons v entries)
+    ∙ ap reverse (map-append (λ (entry : Ident × ℕ). entry.0) (reverse entries) (v ∷ []))
+    ∙ reverse-append (idents (reverse entries)) (v.0 ∷ [])
+    ∙ ap (λ xs. v.0 ∷ xs) (idents_turned entries)
 
 -- names that are declared one after another
 pub new_append : (visible earlier xs ys : List Ident)

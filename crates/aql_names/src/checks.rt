@@ -11,7 +11,7 @@ ghost use Rattle.aql_doc.specs.Declarations.{place_of};
 ghost use Rattle.aql_names.specs.Faults as fault;
 
 use crate::ScopeFault;
-use crate::names::{NameList, Scope, written};
+use crate::names::{NameList, Scope, spelling};
 use aql_doc::Catalog;
 use aql_func::{arity, lookup};
 use aql_tree::{Expr, Ident};
@@ -30,7 +30,7 @@ pub fn check_new(
 {
     if scope.sees(ident) || earlier.has(ident) {
         return Err(ScopeFault::Redeclared {
-            name: written(alloc, ident)?,
+            name: spelling(alloc, ident)?,
         });
     }
     Ok(())

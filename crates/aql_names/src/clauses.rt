@@ -16,7 +16,7 @@ ghost use Rattle.aql_names.specs.Walk.{Gives, Judges, Walks, site_of, site_withi
 
 use crate::ScopeFault;
 use crate::checks::{check_collection, check_kept, check_new};
-use crate::names::{At, NameList, Scope, declare_ident, written};
+use crate::names::{At, NameList, Scope, declare_ident, spelling};
 use crate::options::Written;
 use aql_tree::{
     AggregateItem, Clause, Clauses, Expr, Field, Fields, Ident, Into, Options, Query, Step,
@@ -54,7 +54,7 @@ pub fn variable(at: &At<'_>, ident: &Ident) -> Result<Expr, ScopeFault>
     match at.scope.find(ident) {
         Some(number) => Ok(Expr::Var(Ident::Num(number))),
         None => Err(ScopeFault::UnknownName {
-            name: written(at.alloc, ident)?,
+            name: spelling(at.alloc, ident)?,
         }),
     }
 }
@@ -68,7 +68,7 @@ pub fn number_of_name(alloc: Global, scope: &Scope, name: &Text) -> Result<Optio
 }
 
 /// The variable of a subquery, whose LET then stands before the clause at hand.
-pub fn standing_before(
+pub fn lift_query(
     alloc: Global,
     inner: Query,
     number: u32,
@@ -446,7 +446,7 @@ fn bare_options(alloc: Global, edges: UniqueEdges, vertices: UniqueVertices, bfs
 
 // The options of a traversal, from what its settings write.
 #[tactic(auto, using(crate::proofs::Words::options_written))]
-fn options_behind(alloc: Global, options: &Options, found: Written) -> Options
+fn options_from(alloc: Global, options: &Options, found: Written) -> Options
     ensures { options_part result ≡ (
       [],
       walk.written_options
@@ -506,7 +506,7 @@ fn walk_like(
 }
 
 // An expression that may be there, out of its box.
-fn unboxed(found: Option<Box<Expr>>) -> Option<Expr>
+fn unbox(found: Option<Box<Expr>>) -> Option<Expr>
     ensures { option_map tree result ≡ option_map (λ b. tree b.value) found }
 {
     match found {
@@ -540,7 +540,7 @@ pub fn walk_of(
     ensures outer { scope.new.outer ≡ scope.old.outer }
 {
     scope.replace_own(head.behind);
-    let options = options_behind(alloc, &traversal.options, parts.written);
+    let options = options_from(alloc, &traversal.options, parts.written);
     Clause::Walk(walk_like(
         traversal,
         head.vertex,
@@ -548,7 +548,7 @@ pub fn walk_of(
         head.path,
         Box::into_inner(parts.start),
         head.collections,
-        unboxed(parts.prune),
+        unbox(parts.prune),
         options,
     ))
 }
@@ -559,8 +559,8 @@ pub fn each_step(filter: Option<Box<Expr>>, project: Option<Box<Expr>>) -> Step
         ≡ each (option_map (λ b. tree b.value) filter) (option_map (λ b. tree b.value) project) }
 {
     Step::Each {
-        filter: unboxed(filter),
-        project: unboxed(project),
+        filter: unbox(filter),
+        project: unbox(project),
     }
 }
 
@@ -578,7 +578,7 @@ pub fn aggregate_item(
     Ok(AggregateItem {
         var: Ident::Num(number),
         name,
-        arg: unboxed(arg),
+        arg: unbox(arg),
     })
 }
 

@@ -14,8 +14,8 @@ pub use checks::{
 pub use clauses::{
     WalkHead, WalkParts, aggregate_item, check_setting, check_settings, computed_setting,
     copy_texts, declare_new, define, define_query, documents_clause, each_step, enter_new,
-    for_each, for_name, into_names, open_walk, single_name, standing_before, variable, walk_of,
+    for_each, for_name, into_names, lift_query, open_walk, single_name, variable, walk_of,
 };
 pub use faults::ScopeFault;
-pub use names::{At, NameList, Scope, declare, declare_ident, written};
+pub use names::{At, NameList, Scope, declare, declare_ident, spelling};
 pub use options::Written;

@@ -80,7 +80,7 @@ pub fn copy_ident(alloc: Global, ident: &Ident) -> Result<Ident, OutOfMemory>
 }
 
 /// How a variable is written; nothing for a number.
-pub fn written(alloc: Global, ident: &Ident) -> Result<Text, OutOfMemory>
+pub fn spelling(alloc: Global, ident: &Ident) -> Result<Text, OutOfMemory>
     ensures { IfOk result (λ t. t ≡ text_of ident.now) }
 {
     match ident {
@@ -114,15 +114,13 @@ fn is_in(entries: &[(Ident, u32)], ident: &Ident) -> bool
     found
 }
 
-// The names as they are written, the last first.
+// The names as they are written.
 fn names_in(alloc: Global, entries: &[(Ident, u32)]) -> Result<Names, OutOfMemory>
-    ensures { IfOk result (λ ns. ns ≡ names_of (idents (reverse entries.now))) }
+    ensures { IfOk result (λ ns. ns ≡ names_of (idents entries.now)) }
 {
     let mut all = Names::new(alloc);
-    let mut left = entries.len();
-    while left > 0 {
-        left -= 1;
-        if let Ident::Name(name) = &entries[left].0 {
+    for entry in entries {
+        if let Ident::Name(name) = &entry.0 {
             all.push(name.copy(alloc)?)?;
         }
     }
@@ -173,9 +171,10 @@ impl NameList {
         is_in(self.items.as_slice(), ident)
     }
 
-    /// The names as they are written, the latest first.
+    /// The names as they are written, the latest last.
+    #[tactic(auto, using(crate::proofs::Words::idents_turned))]
     pub fn names(&self, alloc: Global) -> Result<Names, OutOfMemory>
-        ensures { IfOk result (λ ns. ns ≡ names_of (idents self.now)) }
+        ensures { IfOk result (λ ns. ns ≡ names_of (reverse (idents self.now))) }
     {
         names_in(alloc, self.items.as_slice())
     }
@@ -262,7 +261,7 @@ pub fn declare_ident(alloc: Global, said: &mut Names, ident: &Ident) -> Result<u
     ensures number { IfOk result (λ n. n ≡ suc (length said.old)) }
     ensures said { OnOk result (said.new ≡ said.old ++ text_of ident.now ∷ []) }
 {
-    declare(said, written(alloc, ident)?)
+    declare(said, spelling(alloc, ident)?)
 }
 
 impl<'a> At<'a> {

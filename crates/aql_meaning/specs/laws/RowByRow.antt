@@ -1,4 +1,4 @@
--- Each clause's word, row by row; and a clause that takes one row after another makes the same rows, permuted, of
+-- Each clause's word, row by row. A clause that takes one row after another makes the same rows, permuted, of
 -- permuted rows.
 use Rattle.std.proofs.Common.{ℕ, ◌≡◌, ◌∙◌, sym, ap, subst, refl, List, [], ◌∷◌, ◌++◌, map, Bool, true, false, true≢false, cond}
 use Rattle.std.specs.Prelude.{Option, Some, None, MatchOption, flat_map, zip, IsPermutation}
@@ -120,7 +120,8 @@ paths_flat : (P : Row → Tree → Type 0) (f : Row → Path → Row) (g : List 
     (rows : List Row) (starts : List Tree) → AllZip P rows starts
     → (paths : List (List Path))
     → with_each f rows (map g paths)
-    ≡ flat_map (λ (from : (Row × Tree) × List Path). map (f from.0.0) (g from.1)) (zip (zip rows starts) paths)
+    ≡ flat_map (λ (from : (Row × Tree) × List Path). map (f from.0.0) (g from.1))
+    (zip (zip rows starts) paths)
 paths_flat P f g [] [] h paths = refl
 paths_flat P f g [] (v ∷ starts) h paths = absurd h
 paths_flat P f g (r ∷ rows) [] h paths = absurd h

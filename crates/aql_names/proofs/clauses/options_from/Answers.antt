@@ -2,7 +2,7 @@ use Rattle.std.proofs.Common.{rules, arith, map}
 use Rattle.std.proofs.lemmas.Grind.{common_steps}
 use Rattle.aql_tree.specs.View.{member_part, options_part}
 use Rattle.aql_names.proofs.Words.{options_written}
-use Rattle.aql_names.proofs.clauses.options_behind.Goals as goal
+use Rattle.aql_names.proofs.clauses.options_from.Goals as goal
 
 pub returns : goal.returns
 returns c =
