@@ -47,7 +47,7 @@ fn filtered(alloc: Global) -> Result<Clauses, OutOfMemory>
     Ok(all)
 }
 
-// The clauses with `RETURN d.b` behind them.
+// The clauses with `RETURN d.b` after them.
 fn query(alloc: Global, clauses: Clauses, distinct: bool) -> Result<Query, OutOfMemory>
     requires { ClausesLifted (clause_trees (map clause_tree clauses)) }
     ensures { IfOk result (λ q. IsLifted (query_tree q)) }

@@ -129,11 +129,11 @@ static LONG: [(&str, &str, usize, &str, &str); 10] = [
 fn limits(rt: HostRuntime) {
     let alloc = rt.alloc();
     let catalog = collections(&rt, alloc);
-    for (before, part, times, behind, expected) in &LONG {
+    for (before, part, times, after, expected) in &LONG {
         let mut text = Page::new(alloc);
         text.put(before);
         text.put_times(part, *times);
-        text.put(behind);
+        text.put(after);
         shown(alloc, text.as_str(), &catalog).judge(&rt, expected, part);
     }
 }

@@ -221,11 +221,11 @@ static LENGTH_LIMITS: [(&str, &str, usize, &str, Option<LoadFault>); 4] = [
 
 #[test]
 fn limits_of_keys_and_lines(rt: HostRuntime) {
-    for (before, text, times, behind, fault) in &LENGTH_LIMITS {
+    for (before, text, times, after, fault) in &LENGTH_LIMITS {
         let mut script = Page::new(rt.alloc());
         script.put(before);
         script.put_times(text, *times);
-        script.put(behind);
+        script.put(after);
         check(&rt, rt.alloc(), script.as_str(), *fault);
     }
 }

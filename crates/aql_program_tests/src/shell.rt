@@ -104,10 +104,10 @@ fn script_of(alloc: Global, lines: &str, query: &str) -> Page {
 }
 
 // A text between two others.
-fn around(alloc: Global, before: &str, text: &str, behind: &str) -> Page {
+fn around(alloc: Global, before: &str, text: &str, after: &str) -> Page {
     let mut page = Page::new(alloc);
     page.put_pair(before, text);
-    page.put(behind);
+    page.put(after);
     page
 }
 
@@ -140,9 +140,9 @@ fn numbered(alloc: Global, first: &str, other: &str, count: usize, ends: &str) -
 }
 
 // As many LETs, each of another variable, and what follows them.
-fn lets(alloc: Global, count: usize, behind: &str) -> Page {
+fn lets(alloc: Global, count: usize, after: &str) -> Page {
     let mut query = numbered(alloc, "", "LET x", count, " = 1 ");
-    query.put(behind);
+    query.put(after);
     query
 }
 
@@ -165,7 +165,8 @@ static DOCUMENTS: [(&str, &str, &str); 9] = [
         "{\"_id\":\"c/k\",\"_key\":\"k\",\"c\":9223372036854775807}\n",
     ),
     (
-        "{\"_key\":\"a_-:.@()+,=;$!*'%Z9\",\"n\":5}\n{\"n\":\"5\",\"_key\":\"b\"}\n{\"_key\":\"c\",\"n\":5}\n",
+        "{\"_key\":\"a_-:.@()+,=;$!*'%Z9\",\"n\":5}\n\
+            {\"n\":\"5\",\"_key\":\"b\"}\n{\"_key\":\"c\",\"n\":5}\n",
         "FOR x IN c FILTER x.n == 5 RETURN x",
         "{\"_id\":\"c/a_-:.@()+,=;$!*'%Z9\",\"_key\":\"a_-:.@()+,=;$!*'%Z9\",\"n\":5}\n\
             {\"_id\":\"c/c\",\"_key\":\"c\",\"n\":5}\n",
@@ -193,7 +194,8 @@ fn prints_documents(rt: HostRuntime) {
 static SCRIPTS: [(&str, &str); 3] = [
     (
         "%document c shards=3 keys=a,b\n{\"_key\":\"k\",\"a\":1}\n%document d\n\
-            {\"_id\":\"d/1\",\"a\":1}\n \t\r\n{\"_key\":\"2\"}\n%index d a,b\n%index d a,b\n%query\n",
+            {\"_id\":\"d/1\",\"a\":1}\n \t\r\n{\"_key\":\"2\"}\n\
+            %index d a,b\n%index d a,b\n%query\n",
         "{\"_id\":\"d/1\",\"_key\":\"1\",\"a\":1}\n",
     ),
     (
@@ -396,12 +398,12 @@ fn refuses_queries(rt: HostRuntime) {
     }
 }
 
-// So many spaces behind a text that eight bytes more make a query as long as may be.
-fn spaced(alloc: Global, before: &str, behind: &str) -> Page {
+// So many spaces after a text that eight bytes more make a query as long as may be.
+fn spaced(alloc: Global, before: &str, after: &str) -> Page {
     let mut script = Page::new(alloc);
     script.put(before);
     script.put_times(" ", 65_528);
-    script.put(behind);
+    script.put(after);
     script
 }
 
@@ -455,8 +457,8 @@ fn refuses_beyond_limits(rt: HostRuntime) {
         let query = nested(alloc, *depth, inner);
         is_refused(&rt, alloc, query.as_str(), *status, line);
     }
-    for (count, behind, status, line) in &LETS {
-        let query = lets(alloc, *count, behind);
+    for (count, after, status, line) in &LETS {
+        let query = lets(alloc, *count, after);
         is_refused(&rt, alloc, query.as_str(), *status, line);
     }
     let open = nested(alloc, 65, "(");

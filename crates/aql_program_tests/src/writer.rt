@@ -133,15 +133,15 @@ fn write_operation(expr: &Expr, page: &mut Page) {
 }
 
 #[cycle(write)]
-fn write_exprs(before: &str, exprs: &[Expr], behind: &str, page: &mut Page) {
+fn write_exprs(before: &str, exprs: &[Expr], after: &str, page: &mut Page) {
     page.put(before);
     for expr in exprs {
         write_expr(" ", expr, page);
     }
-    page.put(behind);
+    page.put(after);
 }
 
-// A part behind its word, if it is there.
+// A part after its word, if it is there.
 #[cycle(write)]
 fn write_part(word: &str, part: &Option<Expr>, page: &mut Page) {
     if let Some(expr) = part {
@@ -316,7 +316,7 @@ fn write_query(query: &Query, page: &mut Page) {
     write_expr(distinct, &query.result, page);
 }
 
-// The query, and behind a bar the names of its variables.
+// The query, and after a bar the names of its variables.
 pub fn write_scoped(scoped: &Scoped, page: &mut Page) {
     write_query(&scoped.query, page);
     page.put(" |");

@@ -14,7 +14,7 @@ use Rattle.aql_front.specs.declared.faults.QueryFault.TheVariants.{TooLong, Lexi
 use Rattle.aql_front.specs.Reading.{IsWritten, IsScoped, Refuses}
 use Rattle.aql_run.specs.Forms.{runs, Shows}
 use Rattle.aql_top.specs.Forms.{ReadsAs, Answers}
-use Rattle.aql_top.specs.Refusals.{refusal, HasNoLines}
+use Rattle.aql_top.specs.Faults.{of_query, HasNoLines}
 
 pub is_lifted : (held : List Held) (text : List ℕ) (tree : QueryTree) (names : List (List ℕ))
     → IsScoped held text tree names → IsLifted tree
@@ -37,6 +37,7 @@ pub answers_written : (loaded : Loaded) (text : List ℕ) (tree : QueryTree) (na
 answers_written loaded text tree names same s lines keeps shown = record {
   query = s.spelled;
   is_written = subst (λ t. IsWritten t s.spelled) same s.is_written;
+  no_fault = s.no_fault;
   shows = record {
     values = shown.values;
     answer = keeps s.spelled s.is_written (database loaded.catalog) shown.values shown.answer;
@@ -45,7 +46,7 @@ answers_written loaded text tree names same s lines keeps shown = record {
 }
 
 pub refused : (loaded : Loaded) (e : QueryFault) → (e ≡ Memory) ⊎ Refuses loaded.catalog loaded.query e
-    → HasNoLines loaded (refusal e)
+    → HasNoLines loaded (of_query e)
 refused loaded Memory h = tt
 refused loaded TooLong (inr h) = h
 refused loaded TooLong (inl e) = absurd (cc)

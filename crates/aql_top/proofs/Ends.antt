@@ -1,22 +1,24 @@
--- Which ending comes.
-use Rattle.std.proofs.Common.{◌≡◌, ℕ, ◌⊎◌, inl, inr, List, [], Bool, true, false, Option, Some, None, Err, refl, sym, ap, ◌∙◌, subst}
-use Rattle.std.specs.Prelude.{IsSomeAnd, Result}
-use Rattle.aql_io.specs.Causes.{StayedQuiet}
-use Rattle.aql_script.specs.Script.{IsScript, HasFault}
+-- Which status comes.
+use Rattle.std.proofs.Common.{◌≡◌, ◌≢◌, ℕ, ◌⊎◌, inl, inr, List, [], Bool, true, false, Option, Some, None, Err, refl, sym, ap, ◌∙◌, subst, arith}
+use Rattle.std.specs.Prelude.{IsSome, IsSomeAnd, IfSome, Result, codes}
+use Rattle.aql_script.specs.Script.{IsScript, HasFault, IsOfBytes}
 use Rattle.aql_script.specs.declared.loading.Loaded.{Loaded}
 use Rattle.aql_script.specs.declared.faults.LoadFault.{LoadFault}
-use Rattle.aql_script.specs.declared.faults.LoadFault.TheVariants.{Read, Limit, Line, Memory}
+use Rattle.aql_script.specs.declared.faults.LoadFault.TheVariants as load
 use Rattle.aql_tree.specs.Tree.{QueryTree}
 use Rattle.aql_lift.specs.Lifting.{scoped}
 use Rattle.aql_front.specs.declared.faults.QueryFault.{QueryFault}
 use Rattle.aql_front.specs.declared.faults.QueryFault.TheVariants as query
 use Rattle.aql_front.specs.Reading.{Refuses}
+use Rattle.aql_front.specs.Texts.{query_fault_text}
 use Rattle.aql_front.proofs.Once.{only_query, only_fault, written_once}
 use Rattle.aql_run.specs.Forms.{runs}
 use Rattle.aql_top.specs.Forms.{TakesWords, ReadsAs, IsScriptWith, Accepts, HasOtherQuery, HasQueryFault}
-use Rattle.aql_top.specs.Endings.{status_of, fault_status, query_status, IsToldAs, Causes, Counts, Reads, Writes}
-use Rattle.aql_top.specs.declared.ending.Ending.{Ending}
-use Rattle.aql_top.specs.declared.ending.Ending.TheVariants.{Printed, BadWords, NotLoaded, Refused, WriteFault, NoMemory, NotYet}
+use Rattle.aql_top.specs.Reasons.{fault_status, query_status, Deserves, IsTextOf, told}
+use Rattle.aql_top.specs.Faults.{Leads, status_of, line_of, IsMade}
+use Rattle.aql_top.specs.declared.faults.RunFault.{RunFault}
+use Rattle.aql_top.specs.declared.faults.RunFault.TheVariants.{Words, Read, Script, Query, NotYet, Write, Memory}
+use Rattle.aql_top.proofs.Loading.{query_is_late}
 
 -- ---- bytes are one script, or have one fault
 
@@ -73,113 +75,135 @@ not_other bytes a o =
     let same = one_script bytes a.0 o.0 a.1.0 o.1.0 in
     let forms = one_form o.0 true false (subst (λ l. ReadsAs l true) same a.1.1) o.1.1 in absurd (cc)
 
--- ---- what was told is the ending, or want of memory
+-- ---- what bytes deserve is one status, and nothing where a query runs
 
-pub told_causes : (e t : Ending) (words : List (List ℕ)) (input : Option (List ℕ)) → IsToldAs e t
-    → Causes e words input → Causes t words input
-told_causes e t words input (inl same) h = subst (λ x. Causes x words input) (sym same) h
-told_causes e t words input (inr none) h = subst (λ x. Causes x words input) (sym none.0) tt
+one_status : (bytes : List ℕ) (s s' : ℕ) (t t' : List ℕ) → Deserves (Some bytes) s t
+    → Deserves (Some bytes) s' t' → s ≡ s'
+one_status bytes s s' t t' (Deserves.bad_script e o p) (Deserves.bad_script f u q) =
+    ap fault_status (one_fault bytes e f p q)
+one_status bytes s s' t t' (Deserves.bad_script e o p) (Deserves.bad_query f q) =
+    absurd (no_fault bytes q.0 e q.1.0 p)
+one_status bytes s s' t t' (Deserves.bad_script e o p) (Deserves.other_form q) =
+    absurd (no_fault bytes q.0 e q.1.0 p)
+one_status bytes s s' t t' (Deserves.bad_query e p) (Deserves.bad_script f o q) =
+    absurd (no_fault bytes p.0 f p.1.0 q)
+one_status bytes s s' t t' (Deserves.bad_query e p) (Deserves.bad_query f q) =
+    ap query_status (one_query_fault bytes e f p q)
+one_status bytes s s' t t' (Deserves.bad_query e p) (Deserves.other_form q) =
+    absurd (no_query_fault bytes false e q p)
+one_status bytes s s' t t' (Deserves.other_form p) (Deserves.bad_script f o q) =
+    absurd (no_fault bytes p.0 f p.1.0 q)
+one_status bytes s s' t t' (Deserves.other_form p) (Deserves.bad_query f q) =
+    absurd (no_query_fault bytes false f p q)
+one_status bytes s s' t t' (Deserves.other_form p) (Deserves.other_form q) = refl
 
-pub told_counts : (e t : Ending) (r r' w w' : ℕ) → IsToldAs e t → Counts e r r' w w' → Counts t r r' w w'
-told_counts e t r r' w w' (inl same) h = subst (λ x. Counts x r r' w w') (sym same) h
-told_counts e t r r' w w' (inr none) h = subst (λ x. Counts x r r' w w') (sym none.0) tt
+none_deserved : (bytes : List ℕ) (s : ℕ) (t : List ℕ) → Accepts bytes → Deserves (Some bytes) s t → ⊥
+none_deserved bytes s t a (Deserves.bad_script e o p) = no_fault bytes a.0 e a.1.0 p
+none_deserved bytes s t a (Deserves.bad_query e p) = no_query_fault bytes true e a p
+none_deserved bytes s t a (Deserves.other_form p) = not_other bytes a p
 
-pub told_reads : (e t : Ending) (rest : Option (List ℕ)) → IsToldAs e t → Reads e rest → Reads t rest
-told_reads e t rest (inl same) h = subst (λ x. Reads x rest) (sym same) h
-told_reads e t rest (inr none) h = subst (λ x. Reads x rest) (sym none.0) tt
+-- ---- a fault is told as itself, or as want of memory where its line is made
 
-pub told_writes : (e t : Ending) (input before after : Option (List ℕ)) → IsToldAs e t
-    → Writes e input before after → Writes t input before after
-told_writes e t input before after (inl same) h = subst (λ x. Writes x input before after) (sym same) h
-told_writes (NotLoaded fault) t input before after (inr none) h =
-    subst (λ x. Writes x input before after) (sym none.0) h
-told_writes (Refused fault) t input before after (inr none) h =
-    subst (λ x. Writes x input before after) (sym none.0) h
-told_writes Printed t input before after (inr none) h = absurd none.1
-told_writes BadWords t input before after (inr none) h = absurd none.1
-told_writes WriteFault t input before after (inr none) h = absurd none.1
-told_writes NoMemory t input before after (inr none) h = absurd none.1
-told_writes NotYet t input before after (inr none) h = absurd none.1
+abbrev pub IsToldAs : RunFault → RunFault → Type 0
+IsToldAs fault as_told = (as_told ≡ fault) ⊎ ((as_told ≡ Memory) × IsMade fault)
 
--- ---- where a cause holds, its ending comes, or memory ran out
+pub told_leads : (e t : RunFault) (words : List (List ℕ)) (input : Option (List ℕ)) → IsToldAs e t
+    → Leads e words input → Leads t words input
+told_leads e t words input (inl same) h = subst (λ x. Leads x words input) (sym same) h
+told_leads e t words input (inr made) h = subst (λ x. Leads x words input) (sym made.0) tt
 
-module _ (words : List (List ℕ)) (r r' w w' : ℕ) (takes : TakesWords words) (quiet : StayedQuiet r r') where
-  completes : (e : Ending) (bytes : List ℕ) → Causes e words (Some bytes) → Counts e r r' w w'
-      → Accepts bytes → StayedQuiet w w' → (status_of e ≡ 0) ⊎ (status_of e ≡ 8)
-  completes Printed bytes c n a q = inl refl
-  completes BadWords bytes c n a q = absurd (c takes)
-  completes (NotLoaded Read) bytes c n a q = absurd (quiet n)
-  completes (NotLoaded Memory) bytes c n a q = inr refl
-  completes (NotLoaded (Line k kind)) bytes c n a q = absurd (no_fault bytes a.0 (Line k kind) a.1.0 c.1)
-  completes (NotLoaded (Limit kind)) bytes c n a q = absurd (no_fault bytes a.0 (Limit kind) a.1.0 c.1)
-  completes (Refused fault) bytes c n a q = absurd (no_query_fault bytes true fault a c.1)
-  completes WriteFault bytes c n a q = absurd (q n)
-  completes NoMemory bytes c n a q = inr refl
-  completes NotYet bytes c n a q = absurd (not_other bytes a c.1)
+-- a fault whose line is made comes of no failed read and no failed write
+made_status : (e : RunFault) (words : List (List ℕ)) (input : Option (List ℕ)) → IsMade e
+    → Leads e words input → (status_of e ≢ 6) × (status_of e ≢ 7)
+made_status (Script load.Read) words input m h = absurd h.1
+made_status (Script load.Memory) words input m h = absurd h.1
+made_status (Script (load.Line n kind)) words input m h = (λ e. omega (arith, e), λ e. omega (arith, e))
+made_status (Script (load.Limit kind)) words input m h = (λ e. omega (arith, e), λ e. omega (arith, e))
+made_status (Query fault) words input m h = let late = query_is_late fault in (late.1, late.2)
+made_status Words words input m h = absurd m
+made_status Read words input m h = absurd m
+made_status NotYet words input m h = absurd m
+made_status Write words input m h = absurd m
+made_status Memory words input m h = absurd m
 
-  pub complete : (e : Ending) (input : Option (List ℕ)) → Causes e words input → Counts e r r' w w'
-      → IsSomeAnd input Accepts → StayedQuiet w w' → (status_of e ≡ 0) ⊎ (status_of e ≡ 8)
-  complete e None c n a q = absurd a
-  complete e (Some bytes) c n a q = completes e bytes c n a q
+-- what holds at one of the early statuses holds where the fault is told with it
+pub told_at : (e t : RunFault) (n : ℕ) (P : Type 0) → IsToldAs e t → (8 ≢ n) → (status_of e ≡ n → P)
+    → status_of t ≡ n → P
+told_at e t n P (inl same) other h at = h (ap status_of (sym same) ∙ at)
+told_at e t n P (inr made) other h at = absurd (other (ap status_of (sym made.0) ∙ at))
 
-  refuses : (fault : LoadFault) (e : Ending) (bytes : List ℕ) → Causes e words (Some bytes)
-      → Counts e r r' w w' → HasFault bytes fault
-      → (status_of e ≡ fault_status fault) ⊎ (status_of e ≡ 8)
-  refuses fault Printed bytes c n f = absurd (no_fault bytes c.1.0 fault c.1.1.0 f)
-  refuses fault BadWords bytes c n f = absurd (c takes)
-  refuses fault (NotLoaded Read) bytes c n f = absurd (quiet n)
-  refuses fault (NotLoaded Memory) bytes c n f = inr refl
-  refuses fault (NotLoaded (Line k kind)) bytes c n f =
-      inl (ap fault_status (one_fault bytes (Line k kind) fault c.1 f))
-  refuses fault (NotLoaded (Limit kind)) bytes c n f =
-      inl (ap fault_status (one_fault bytes (Limit kind) fault c.1 f))
-  refuses fault (Refused other) bytes c n f = absurd (no_fault bytes c.1.0 fault c.1.1.0 f)
-  refuses fault WriteFault bytes c n f = absurd (no_fault bytes c.1.0 fault c.1.1.0 f)
-  refuses fault NoMemory bytes c n f = inr refl
-  refuses fault NotYet bytes c n f = absurd (no_fault bytes c.1.0 fault c.1.1.0 f)
+pub told_not_6 : (e t : RunFault) (words : List (List ℕ)) (input : Option (List ℕ)) (P : Type 0)
+    → Leads e words input → IsToldAs e t → (status_of e ≢ 6 → P) → status_of t ≢ 6 → P
+told_not_6 e t words input P l (inl same) h other = h (λ six. other (ap status_of same ∙ six))
+told_not_6 e t words input P l (inr made) h other = h (made_status e words input made.1 l).0
 
-  pub refused : (fault : LoadFault) (e : Ending) (input : Option (List ℕ)) → Causes e words input
-      → Counts e r r' w w' → IsSomeAnd input (λ bytes. HasFault bytes fault)
-      → (status_of e ≡ fault_status fault) ⊎ (status_of e ≡ 8)
-  refused fault e None c n f = absurd f
-  refused fault e (Some bytes) c n f = refuses fault e bytes c n f
+pub told_not_7 : (e t : RunFault) (words : List (List ℕ)) (input : Option (List ℕ)) (P : Type 0)
+    → Leads e words input → IsToldAs e t → (status_of e ≢ 7 → P) → status_of t ≢ 7 → P
+told_not_7 e t words input P l (inl same) h other = h (λ seven. other (ap status_of same ∙ seven))
+told_not_7 e t words input P l (inr made) h other = h (made_status e words input made.1 l).1
 
-  refuses_query : (fault : QueryFault) (e : Ending) (bytes : List ℕ) → Causes e words (Some bytes)
-      → Counts e r r' w w' → HasQueryFault bytes fault
-      → (status_of e ≡ query_status fault) ⊎ (status_of e ≡ 8)
-  refuses_query fault Printed bytes c n f = absurd (no_query_fault bytes true fault c.1 f)
-  refuses_query fault BadWords bytes c n f = absurd (c takes)
-  refuses_query fault (NotLoaded Read) bytes c n f = absurd (quiet n)
-  refuses_query fault (NotLoaded Memory) bytes c n f = inr refl
-  refuses_query fault (NotLoaded (Line k kind)) bytes c n f =
-      absurd (no_fault bytes f.0 (Line k kind) f.1.0 c.1)
-  refuses_query fault (NotLoaded (Limit kind)) bytes c n f =
-      absurd (no_fault bytes f.0 (Limit kind) f.1.0 c.1)
-  refuses_query fault (Refused other) bytes c n f = inl (ap query_status (one_query_fault bytes other fault c.1 f))
-  refuses_query fault WriteFault bytes c n f = absurd (no_query_fault bytes true fault c.1 f)
-  refuses_query fault NoMemory bytes c n f = inr refl
-  refuses_query fault NotYet bytes c n f = absurd (no_query_fault bytes false fault c.1 f)
+-- ---- which status comes of what leads to a fault
 
-  pub refused_query : (fault : QueryFault) (e : Ending) (input : Option (List ℕ)) → Causes e words input
-      → Counts e r r' w w' → IsSomeAnd input (λ bytes. HasQueryFault bytes fault)
-      → (status_of e ≡ query_status fault) ⊎ (status_of e ≡ 8)
-  refused_query fault e None c n f = absurd f
-  refused_query fault e (Some bytes) c n f = refuses_query fault e bytes c n f
+module _ (words : List (List ℕ)) where
+  pub deserved : (e : RunFault) (input : Option (List ℕ)) → Leads e words input
+      → (text : List ℕ) × ((Deserves input (status_of e) text ⊎ IsTextOf (status_of e) text) × (told text ≡ line_of e))
+  deserved Words input h = (codes "words", (inr IsTextOf.bad_words, refl))
+  deserved Read input h = (codes "read fault", (inr IsTextOf.read_fault, refl))
+  deserved (Script fault) input h = (_, (inl (Deserves.bad_script fault h.1 h.2), refl))
+  deserved (Query fault) input h = (_, (inl (Deserves.bad_query fault h.1), refl))
+  deserved NotYet input h = (codes "not yet", (inl (Deserves.other_form h.1), refl))
+  deserved Write input h = (codes "write fault", (inr IsTextOf.write_fault, refl))
+  deserved Memory input h = (codes "out of memory", (inr IsTextOf.no_memory, refl))
 
-  is_other : (e : Ending) (bytes : List ℕ) → Causes e words (Some bytes) → Counts e r r' w w'
-      → HasOtherQuery bytes → (status_of e ≡ 9) ⊎ (status_of e ≡ 8)
-  is_other Printed bytes c n o = absurd (not_other bytes c.1 o)
-  is_other BadWords bytes c n o = absurd (c takes)
-  is_other (NotLoaded Read) bytes c n o = absurd (quiet n)
-  is_other (NotLoaded Memory) bytes c n o = inr refl
-  is_other (NotLoaded (Line k kind)) bytes c n o = absurd (no_fault bytes o.0 (Line k kind) o.1.0 c.1)
-  is_other (NotLoaded (Limit kind)) bytes c n o = absurd (no_fault bytes o.0 (Limit kind) o.1.0 c.1)
-  is_other (Refused fault) bytes c n o = absurd (no_query_fault bytes false fault o c.1)
-  is_other WriteFault bytes c n o = absurd (not_other bytes c.1 o)
-  is_other NoMemory bytes c n o = inr refl
-  is_other NotYet bytes c n o = inl refl
+  pub words_refused : (e : RunFault) (input : Option (List ℕ)) → Leads e words input
+      → (status_of e ≡ 8) ⊎ ((status_of e ≡ 2 → TakesWords words → ⊥) × ((TakesWords words → ⊥) → status_of e ≡ 2))
+  words_refused Words input h = inr (λ _. h, λ _. refl)
+  words_refused Memory input h = inl refl
+  words_refused Read input h = inr (λ e. absurd (omega (arith, e)), λ n. absurd (n h))
+  words_refused (Script load.Read) input h = absurd h.1
+  words_refused (Script load.Memory) input h = absurd h.1
+  words_refused (Script (load.Line n kind)) input h = inr (λ e. absurd (omega (arith, e)), λ n. absurd (n h.0))
+  words_refused (Script (load.Limit kind)) input h = inr (λ e. absurd (omega (arith, e)), λ n. absurd (n h.0))
+  words_refused (Query fault) input h =
+      inr (λ e. absurd ((query_is_late fault).0 e), λ n. absurd (n h.0))
+  words_refused NotYet input h = inr (λ e. absurd (omega (arith, e)), λ n. absurd (n h.0))
+  words_refused Write input h = inr (λ e. absurd (omega (arith, e)), λ n. absurd (n h.0))
 
-  pub other_only : (e : Ending) (input : Option (List ℕ)) → Causes e words input → Counts e r r' w w'
-      → IsSomeAnd input HasOtherQuery → (status_of e ≡ 9) ⊎ (status_of e ≡ 8)
-  other_only e None c n o = absurd o
-  other_only e (Some bytes) c n o = is_other e bytes c n o
+  module _ (takes : TakesWords words) where
+    refuses : (s : ℕ) (t : List ℕ) (e : RunFault) (bytes : List ℕ) → Leads e words (Some bytes)
+        → Deserves (Some bytes) s t → (status_of e ≡ s) ⊎ ((status_of e ≡ 6) ⊎ (status_of e ≡ 8))
+    refuses s t Words bytes h d = absurd (h takes)
+    refuses s t Read bytes h d = inr (inl refl)
+    refuses s t (Script fault) bytes h d =
+        inl (one_status bytes _ s _ t (Deserves.bad_script fault h.1 h.2) d)
+    refuses s t (Query fault) bytes h d = inl (one_status bytes _ s _ t (Deserves.bad_query fault h.1) d)
+    refuses s t NotYet bytes h d = inl (one_status bytes _ s _ t (Deserves.other_form h.1) d)
+    refuses s t Write bytes h d = absurd (none_deserved bytes s t h.1 d)
+    refuses s t Memory bytes h d = inr (inr refl)
+
+    pub refused : (s : ℕ) (t : List ℕ) (e : RunFault) (input : Option (List ℕ)) → Leads e words input
+        → IsSome input → Deserves input s t → (status_of e ≡ s) ⊎ ((status_of e ≡ 6) ⊎ (status_of e ≡ 8))
+    refused s t e None h i d = absurd (cc)
+    refused s t e (Some bytes) h i d = refuses s t e bytes h d
+
+    completes : (e : RunFault) (bytes : List ℕ) → Leads e words (Some bytes) → Accepts bytes
+        → (status_of e ≡ 0) ⊎ ((status_of e ≡ 6) ⊎ ((status_of e ≡ 7) ⊎ (status_of e ≡ 8)))
+    completes Words bytes h a = absurd (h takes)
+    completes Read bytes h a = inr (inl refl)
+    completes (Script fault) bytes h a =
+        absurd (none_deserved bytes _ _ a (Deserves.bad_script fault h.1 h.2))
+    completes (Query fault) bytes h a = absurd (none_deserved bytes _ _ a (Deserves.bad_query fault h.1))
+    completes NotYet bytes h a = absurd (none_deserved bytes _ _ a (Deserves.other_form h.1))
+    completes Write bytes h a = inr (inr (inl refl))
+    completes Memory bytes h a = inr (inr (inr refl))
+
+    pub complete : (e : RunFault) (input : Option (List ℕ)) → Leads e words input → IsSomeAnd input Accepts
+        → (status_of e ≡ 0) ⊎ ((status_of e ≡ 6) ⊎ ((status_of e ≡ 7) ⊎ (status_of e ≡ 8)))
+    complete e None h a = absurd a
+    complete e (Some bytes) h a = completes e bytes h a
+
+-- where an answer came, nothing is deserved
+pub printed_deserves : (input : Option (List ℕ)) (s : ℕ) (t : List ℕ) → IfSome input Accepts → IsSome input
+    → Deserves input s t → ⊥
+printed_deserves None s t a i d = absurd (cc)
+printed_deserves (Some bytes) s t a i d = none_deserved bytes s t a d

@@ -1,7 +1,6 @@
 -- What loading a script says of the bytes that the source had left.
-use Rattle.std.proofs.Common.{◌≡◌, ◌≤◌, ℕ, List, [], ◌++◌, Bool, true, false, Option, Some, None, Err, length, nat_le, refl, sym, ap, ◌∙◌, subst, append-nil, arith, length-append}
-use Rattle.std.specs.Prelude.{IfSome}
-use Rattle.std.specs.Io.KnownBytes.{Keeps}
+use Rattle.std.proofs.Common.{◌≡◌, ◌≢◌, ◌≤◌, ℕ, List, [], ◌++◌, Bool, true, false, Option, Some, None, Err, length, nat_le, refl, sym, ap, ◌∙◌, subst, append-nil, arith, length-append}
+use Rattle.std.specs.Prelude.{IfSome, Result}
 use Rattle.std.proofs.lemmas.Bool.{false≢true}
 use Rattle.aql_script.specs.Script.{script, IsScript, HasFault, Loads, IsFaulty, Hinders}
 use Rattle.aql_script.specs.declared.loading.Loaded.{Loaded}
@@ -9,11 +8,13 @@ use Rattle.aql_script.specs.declared.faults.LoadFault.{LoadFault}
 use Rattle.aql_script.specs.declared.faults.LoadFault.TheVariants.{Read, Limit, Line, Memory}
 use Rattle.aql_script.specs.declared.faults.LimitKind.TheVariants.{ScriptBytes}
 use Rattle.aql_front.specs.Reading.{Refuses}
+use Rattle.aql_front.specs.declared.faults.QueryFault.{QueryFault}
+use Rattle.aql_front.specs.declared.faults.QueryFault.TheVariants as query
 use Rattle.aql_top.specs.Forms.{TakesWords, ReadsAs, Answers, IsScriptWith, Accepts, Allows}
-use Rattle.aql_top.specs.Refusals.{HasNoLines}
-use Rattle.aql_top.specs.Endings.{Faulty, ReadCounts, Causes, Counts, Reads, Writes}
-use Rattle.aql_top.specs.declared.ending.Ending.{Ending}
-use Rattle.aql_top.specs.declared.ending.Ending.TheVariants.{Printed, BadWords, NotLoaded, Refused, WriteFault, NoMemory, NotYet}
+use Rattle.aql_top.specs.Faults.{of_load, Leads, HasNoLines, status_of}
+use Rattle.aql_top.specs.Reasons.{query_status, RoseWhere}
+use Rattle.aql_top.specs.declared.faults.RunFault.{RunFault}
+use Rattle.aql_top.specs.declared.faults.RunFault.TheVariants as run
 
 within : (bytes : List ℕ) → length bytes ≤ 67108864 → nat_le (length bytes) 67108864 ≡ true
 within bytes h = grind (arith, h)
@@ -52,19 +53,38 @@ first_fault e None after h = tt
 first_fault e (Some input) None h = absurd h.consumed
 first_fault e (Some input) (Some rest) h = same_fault e input h.taken rest _ refl h.consumed h.holds.0 h.holds.1
 
-pub fault_causes : (e : LoadFault) (before after : Option (List ℕ)) (faults faults' : ℕ)
-    → Hinders e before after faults faults' → Faulty e before
-fault_causes Read before after faults faults' h = tt
-fault_causes Memory before after faults faults' h = tt
-fault_causes (Limit kind) before after faults faults' h = first_fault (Limit kind) before after h
-fault_causes (Line n kind) before after faults faults' h = first_fault (Line n kind) before after h
+-- ---- a fault of loading
 
-pub read_counts : (e : LoadFault) (before after : Option (List ℕ)) (faults faults' : ℕ)
-    → Hinders e before after faults faults' → ReadCounts e faults faults'
-read_counts Read before after faults faults' h = h.1
-read_counts Memory before after faults faults' h = tt
-read_counts (Limit kind) before after faults faults' h = tt
-read_counts (Line n kind) before after faults faults' h = tt
+abbrev pub failed : LoadFault → Result Loaded LoadFault
+failed fault = Err fault
+
+module _ (before after : Option (List ℕ)) (faults faults' : ℕ) where
+  pub load_leads : (fault : LoadFault) (words : List (List ℕ)) → TakesWords words
+      → Hinders fault before after faults faults' → Leads (of_load fault) words before
+  load_leads Read words t h = t
+  load_leads Memory words t h = tt
+  load_leads (Limit kind) words t h = (t, tt, first_fault (Limit kind) before after h)
+  load_leads (Line n kind) words t h = (t, tt, first_fault (Line n kind) before after h)
+
+  stayed : (n : ℕ) → (n ≡ 6 → ⊥) → faults' ≡ faults → RoseWhere (n ≡ 6) faults faults'
+  stayed n other same = (λ six. absurd (other six), λ _. same)
+
+  pub load_reads : (fault : LoadFault) → Hinders fault before after faults faults'
+      → (failed fault ≢ failed Read → faults' ≡ faults)
+      → RoseWhere (status_of (of_load fault) ≡ 6) faults faults'
+  load_reads Read h quiet = (λ _. h.1, λ other. absurd (other refl))
+  load_reads Memory h quiet = stayed 8 (λ e. omega (arith, e)) (quiet (λ e. cc))
+  load_reads (Limit kind) h quiet = stayed 5 (λ e. omega (arith, e)) (quiet (λ e. cc))
+  load_reads (Line n kind) h quiet = stayed 3 (λ e. omega (arith, e)) (quiet (λ e. cc))
+
+-- loading ends neither for the words nor for a write
+pub load_status : (fault : LoadFault) → (status_of (of_load fault) ≢ 2) × (status_of (of_load fault) ≢ 7)
+load_status Read = (λ e. omega (arith, e), λ e. omega (arith, e))
+load_status Memory = (λ e. omega (arith, e), λ e. omega (arith, e))
+load_status (Limit kind) = (λ e. omega (arith, e), λ e. omega (arith, e))
+load_status (Line n kind) = (λ e. omega (arith, e), λ e. omega (arith, e))
+
+-- ---- a script that was loaded
 
 -- what holds of the script that was loaded holds of that of the bytes
 script_with : (Holds : Loaded → Type 0) (before after : Option (List ℕ)) (loaded : Loaded)
@@ -80,42 +100,48 @@ module _ (before after : Option (List ℕ)) (loaded : Loaded) where
   pub accepted : Loads loaded before after → ReadsAs loaded true → IfSome before Accepts
   accepted h r = script_with (λ l. ReadsAs l true) before after loaded h r
 
-  pub no_lines_causes : (e : Ending) (words : List (List ℕ)) → TakesWords words → Loads loaded before after
-      → HasNoLines loaded e → Causes e words before
-  no_lines_causes Printed words t h n = absurd n
-  no_lines_causes BadWords words t h n = absurd n
-  no_lines_causes (NotLoaded fault) words t h n = absurd n
-  no_lines_causes (Refused fault) words t h n =
+  pub no_lines_lead : (fault : RunFault) (words : List (List ℕ)) → TakesWords words
+      → Loads loaded before after → HasNoLines loaded fault → Leads fault words before
+  no_lines_lead run.Words words t h n = absurd n
+  no_lines_lead run.Read words t h n = absurd n
+  no_lines_lead (run.Script fault) words t h n = absurd n
+  no_lines_lead (run.Query fault) words t h n =
       (t, script_with (λ l. Refuses l.catalog l.query fault) before after loaded h n)
-  no_lines_causes WriteFault words t h n = absurd n
-  no_lines_causes NoMemory words t h n = tt
-  no_lines_causes NotYet words t h n = (t, script_with (λ l. ReadsAs l false) before after loaded h n)
+  no_lines_lead run.NotYet words t h n = (t, script_with (λ l. ReadsAs l false) before after loaded h n)
+  no_lines_lead run.Write words t h n = absurd n
+  no_lines_lead run.Memory words t h n = tt
 
-module _ (loaded : Loaded) where
-  pub no_lines_counts : (e : Ending) (r r' w w' : ℕ) → HasNoLines loaded e → Counts e r r' w w'
-  no_lines_counts Printed r r' w w' n = absurd n
-  no_lines_counts BadWords r r' w w' n = absurd n
-  no_lines_counts (NotLoaded fault) r r' w w' n = absurd n
-  no_lines_counts (Refused fault) r r' w w' n = tt
-  no_lines_counts WriteFault r r' w w' n = absurd n
-  no_lines_counts NoMemory r r' w w' n = tt
-  no_lines_counts NotYet r r' w w' n = tt
+-- the status is none of those of words, reads and writes
+abbrev pub IsLate : ℕ → Type 0
+IsLate n = (n ≢ 2) × (n ≢ 6) × (n ≢ 7)
 
-  pub no_lines_reads : (e : Ending) (rest : Option (List ℕ)) → HasNoLines loaded e → Reads e rest
-  no_lines_reads Printed rest n = absurd n
-  no_lines_reads BadWords rest n = absurd n
-  no_lines_reads (NotLoaded fault) rest n = absurd n
-  no_lines_reads (Refused fault) rest n = tt
-  no_lines_reads WriteFault rest n = absurd n
-  no_lines_reads NoMemory rest n = tt
-  no_lines_reads NotYet rest n = tt
+late_4 : IsLate 4
+late_4 = (λ e. omega (arith, e), λ e. omega (arith, e), λ e. omega (arith, e))
 
-  pub no_lines_writes : (e : Ending) (input before after : Option (List ℕ)) → HasNoLines loaded e
-      → Keeps before after → Writes e input before after
-  no_lines_writes Printed input before after n k = absurd n
-  no_lines_writes BadWords input before after n k = absurd n
-  no_lines_writes (NotLoaded fault) input before after n k = absurd n
-  no_lines_writes (Refused fault) input before after n k = k
-  no_lines_writes WriteFault input before after n k = absurd n
-  no_lines_writes NoMemory input before after n k = k
-  no_lines_writes NotYet input before after n k = k
+late_5 : IsLate 5
+late_5 = (λ e. omega (arith, e), λ e. omega (arith, e), λ e. omega (arith, e))
+
+late_8 : IsLate 8
+late_8 = (λ e. omega (arith, e), λ e. omega (arith, e), λ e. omega (arith, e))
+
+late_9 : IsLate 9
+late_9 = (λ e. omega (arith, e), λ e. omega (arith, e), λ e. omega (arith, e))
+
+pub query_is_late : (fault : QueryFault) → IsLate (query_status fault)
+query_is_late query.TooLong = late_5
+query_is_late (query.Lexical place kind) = late_4
+query_is_late query.TooDeep = late_5
+query_is_late query.TooManyClauses = late_5
+query_is_late query.NotInGrammar = late_4
+query_is_late query.WalkTooDeep = late_5
+query_is_late (query.Scope fault) = late_4
+query_is_late query.Memory = late_8
+
+pub no_lines_status : (loaded : Loaded) (fault : RunFault) → HasNoLines loaded fault → IsLate (status_of fault)
+no_lines_status loaded run.Words n = absurd n
+no_lines_status loaded run.Read n = absurd n
+no_lines_status loaded (run.Script fault) n = absurd n
+no_lines_status loaded (run.Query fault) n = query_is_late fault
+no_lines_status loaded run.NotYet n = late_9
+no_lines_status loaded run.Write n = absurd n
+no_lines_status loaded run.Memory n = late_8

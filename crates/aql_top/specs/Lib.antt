@@ -1,3 +1,3 @@
 pub mod Forms
-pub mod Refusals
-pub mod Endings
+pub mod Faults
+pub mod Reasons

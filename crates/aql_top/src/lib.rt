@@ -2,7 +2,7 @@
 #![tactic(auto)]
 
 mod answer;
-mod ending;
+mod faults;
 mod shell;
 
 pub use shell::run_shell;

@@ -1,18 +1,15 @@
 //! The top call: words, loading, the answer, writing.
 
-ghost use Rattle.std.specs.Prelude.{◌≡◌, ◌≢◌, ◌≤◌, ◌⊎◌, IfOk, IfSome, IsSomeAnd, IsTrue, MatchOption, string_bytes, ◌↔◌};
-ghost use Rattle.std.specs.Io.KnownBytes.{Keeps, Appends, IsAtEnd};
+ghost use Rattle.std.specs.Prelude.{◌≡◌, ◌≢◌, ◌⊎◌, ◌↔◌, ℕ, List, IfOk, IfErr, OnOk, IfSome, IsSome, IsSomeAnd, IsTrue, MatchOption, string_bytes};
+ghost use Rattle.std.specs.Io.KnownBytes.{Appends, IsAtEnd};
 ghost use Rattle.aql_io.specs.Bytes.{AppendsPrefix};
-ghost use Rattle.aql_io.specs.Causes.{Rose, StayedQuiet};
-ghost use Rattle.aql_script.specs.Script.{HasFault};
-ghost use Rattle.aql_script.specs.declared.faults.LoadFault.{LoadFault};
-ghost use Rattle.aql_front.specs.declared.faults.QueryFault.{QueryFault};
-ghost use Rattle.aql_top.specs.Forms.{TakesWords, Accepts, HasOtherQuery, HasQueryFault};
-ghost use Rattle.aql_top.specs.declared.ending.Ending.{Ending};
-ghost use Rattle.aql_top.specs.Endings.{status_of, fault_status, query_status, line_of, told, IsFault, IsToldAs, Causes, Counts, Reads, Writes, Tells, Prints, HasBadLine, HasBadQuery, IsOverLimit};
+ghost use Rattle.aql_top.specs.Forms.{TakesWords, Accepts};
+ghost use Rattle.aql_top.specs.Reasons.{fault_status, query_status, Deserves, IsTextOf, told, Tells, Prints, RoseWhere};
+ghost use Rattle.aql_top.specs.Faults.{Leads, status_of, line_of, IsMade};
+ghost use Rattle.aql_top.specs.declared.faults.RunFault.TheVariants.{Memory};
 
 use crate::answer::answer;
-use crate::ending::Ending;
+use crate::faults::RunFault;
 use aql_front::{QueryFault, query_fault_text};
 use aql_io::{Sink, Source, write_all};
 use aql_script::{LoadFault, fault_text, load};
@@ -38,7 +35,6 @@ use std::alloc::Global;
 /// (*) unless a read fails or memory runs out. The faults of the script come before those of its
 /// query. With any status but 0 and 7 nothing is written to `out`. A failed write to `err` changes
 /// nothing.
-#[tactic(auto, using(crate::proofs::Ends::told_causes, crate::proofs::Ends::told_counts, crate::proofs::Ends::told_reads, crate::proofs::Ends::told_writes, crate::proofs::Ends::refused))]
 pub fn run_shell<S: Source, K: Sink, E: Sink>(
     alloc: Global,
     words: &Names,
@@ -46,73 +42,78 @@ pub fn run_shell<S: Source, K: Sink, E: Sink>(
     out: &mut K,
     err: &mut E,
 ) -> u8
-    ensures ending { (e : Ending) × (result ≡ status_of e)
-        × Causes e words.now (S.left source.old)
-        × Counts e (S.faults source.old) (S.faults source.new) (K.faults out.old) (K.faults out.new)
-        × Reads e (S.left source.new)
-        × Writes e (S.left source.old) (K.written out.old) (K.written out.new)
-        × Tells e (E.written err.old) (E.written err.new) (E.faults err.old) (E.faults err.new) }
-
-    // Where nothing stands against it, an answer comes.
-    ensures complete { TakesWords words.now → IsSomeAnd (S.left source.old) Accepts
-        → StayedQuiet (S.faults source.old) (S.faults source.new)
-        → StayedQuiet (K.faults out.old) (K.faults out.new)
-        → (result ≡ 0) ⊎ (result ≡ 8) }
-
-    // The same, status by status.
+    // 0: the source was read to its end, and exactly the lines of an answer were written.
     ensures printed { (result ≡ 0)
-        → Prints (S.left source.old) (Appends (K.written out.old) (K.written out.new)) }
-    ensures read_to_its_end { (result ≡ 0) → IsAtEnd (S.left source.new) }
-    ensures bad_words { (result ≡ 2) → TakesWords words.now → ⊥ }
-    ensures bad_words_only { (TakesWords words.now → ⊥) → (result ≡ 2) ⊎ (result ≡ 8) }
-    ensures bad_script { (result ≡ 3) → IfSome (S.left source.old) HasBadLine }
-    ensures bad_query { (result ≡ 4) → IfSome (S.left source.old) HasBadQuery }
-    ensures over_limit { (result ≡ 5) → IfSome (S.left source.old) IsOverLimit }
-    ensures refused { (fault : LoadFault) → TakesWords words.now
-        → IsSomeAnd (S.left source.old) (λ bytes. HasFault bytes fault)
-        → StayedQuiet (S.faults source.old) (S.faults source.new)
-        → (result ≡ fault_status fault) ⊎ (result ≡ 8) }
-    ensures refused_query { (fault : QueryFault) → TakesWords words.now
-        → IsSomeAnd (S.left source.old) (λ bytes. HasQueryFault bytes fault)
-        → StayedQuiet (S.faults source.old) (S.faults source.new)
-        → (result ≡ query_status fault) ⊎ (result ≡ 8) }
-    ensures read_fault { (result ≡ 6) → Rose (S.faults source.old) (S.faults source.new) }
-    ensures write_fault { (result ≡ 7) → Rose (K.faults out.old) (K.faults out.new) }
+        → Prints (S.left source.old) (Appends (K.written out.old) (K.written out.new))
+        × IsAtEnd (S.left source.new) × (err.new ≡ err.old) }
+
+    // 7: a write to the output failed, and the front of such lines was written.
     ensures front { (result ≡ 7)
         → Prints (S.left source.old) (AppendsPrefix (K.written out.old) (K.written out.new)) }
-    ensures not_yet { (result ≡ 9) → IfSome (S.left source.old) HasOtherQuery }
-    ensures not_yet_only { TakesWords words.now → IsSomeAnd (S.left source.old) HasOtherQuery
-        → StayedQuiet (S.faults source.old) (S.faults source.new)
-        → (result ≡ 9) ⊎ (result ≡ 8) }
-    ensures nothing { (result ≢ 0) → (result ≢ 7) → Keeps (K.written out.old) (K.written out.new) }
-    ensures quiet { (result ≡ 0) → Keeps (E.written err.old) (E.written err.new) }
+    ensures untouched { (result ≢ 0) → (result ≢ 7) → out.new ≡ out.old }
+
+    // 2: the words are refused, before anything is read.
+    ensures bad_words { (result ≡ 8) ⊎ ((result ≡ 2) ↔ (TakesWords words.now → ⊥)) }
+    ensures unread { (result ≡ 2) → source.new ≡ source.old }
+
+    // Each status but 0 has its text: 3, 4, 5 and 9 the one that the bytes of the source deserve.
+    ensures line { (result ≢ 0) → (text : List ℕ)
+        × (Deserves (S.left source.old) result text ⊎ IsTextOf result text)
+        × Tells (told text) (E.written err.old) (E.written err.new)
+        (E.faults err.old) (E.faults err.new) }
+
+    // What the bytes deserve comes, unless a read fails or memory runs out; where nothing stands
+    // against them, an answer comes, unless a write fails too.
+    ensures refused { (status : ℕ) (text : List ℕ) → TakesWords words.now
+        → IsSome (S.left source.old) → Deserves (S.left source.old) status text
+        → (result ≡ status) ⊎ ((result ≡ 6) ⊎ (result ≡ 8)) }
+    ensures complete { TakesWords words.now → IsSomeAnd (S.left source.old) Accepts
+        → (result ≡ 0) ⊎ ((result ≡ 6) ⊎ ((result ≡ 7) ⊎ (result ≡ 8))) }
+
+    // A read fails with 6 alone, and a write to the output with 7 alone.
+    ensures read_fault { RoseWhere (result ≡ 6) (S.faults source.old) (S.faults source.new) }
+    ensures write_fault { RoseWhere (result ≡ 7) (K.faults out.old) (K.faults out.new) }
 {
-    let ending = run(alloc, words, source, out);
-    status(&tell(alloc, ending, err))
+    match run(alloc, words, source, out) {
+        Ok(()) => 0,
+        Err(fault) => {
+            let fault = tell(alloc, fault, err);
+            status(&fault)
+        }
+    }
 }
 
 // All but the line on the error output.
-#[tactic(auto, using(crate::proofs::Loading::fault_causes, crate::proofs::Loading::read_counts, crate::proofs::Loading::accepted, crate::proofs::Loading::allowed, crate::proofs::Loading::no_lines_causes, crate::proofs::Loading::no_lines_counts, crate::proofs::Loading::no_lines_reads, crate::proofs::Loading::no_lines_writes))]
-fn run<S: Source, K: Sink>(alloc: Global, words: &Names, source: &mut S, out: &mut K) -> Ending
-    ensures causes { Causes result words.now (S.left source.old) }
-    ensures counts { Counts result (S.faults source.old) (S.faults source.new) (K.faults out.old) (K.faults out.new) }
-    ensures reads { Reads result (S.left source.new) }
-    ensures writes { Writes result (S.left source.old) (K.written out.old) (K.written out.new) }
+#[tactic(auto, using(crate::proofs::Loading::load_leads, crate::proofs::Loading::load_reads, crate::proofs::Loading::load_status, crate::proofs::Loading::accepted, crate::proofs::Loading::allowed, crate::proofs::Loading::no_lines_lead, crate::proofs::Loading::no_lines_status))]
+fn run<S: Source, K: Sink>(
+    alloc: Global,
+    words: &Names,
+    source: &mut S,
+    out: &mut K,
+) -> Result<(), RunFault>
+    ensures accepts { OnOk result (TakesWords words.now × IfSome (S.left source.old) Accepts) }
+    ensures prints { OnOk result (Prints (S.left source.old)
+        (Appends (K.written out.old) (K.written out.new))) }
+    ensures end { OnOk result (IsAtEnd (S.left source.new)) }
+    ensures quiet { OnOk result ((S.faults source.new ≡ S.faults source.old)
+        × (K.faults out.new ≡ K.faults out.old)) }
+    ensures leads { IfErr result (λ fault. Leads fault words.now (S.left source.old)) }
+    ensures reads { IfErr result (λ fault.
+        RoseWhere (status_of fault ≡ 6) (S.faults source.old) (S.faults source.new)) }
+    ensures writes { IfErr result (λ fault.
+        RoseWhere (status_of fault ≡ 7) (K.faults out.old) (K.faults out.new)) }
+    ensures front { IfErr result (λ fault. status_of fault ≡ 7
+        → Prints (S.left source.old) (AppendsPrefix (K.written out.old) (K.written out.new))) }
+    ensures untouched { IfErr result (λ fault. status_of fault ≢ 7 → out.new ≡ out.old) }
+    ensures unread { IfErr result (λ fault. status_of fault ≡ 2 → source.new ≡ source.old) }
 {
     if !takes(words) {
-        return Ending::BadWords;
+        return Err(RunFault::Words);
     }
-    let script = match load(alloc, source) {
-        Ok(script) => script,
-        Err(fault) => return Ending::NotLoaded(fault),
-    };
-    match answer(alloc, &script) {
-        Ok(text) => match write_all(out, &text) {
-            Ok(()) => Ending::Printed,
-            Err(_) => Ending::WriteFault,
-        },
-        Err(ending) => ending,
-    }
+    let script = load(alloc, source)?;
+    let text = answer(alloc, &script)?;
+    write_all(out, &text)?;
+    Ok(())
 }
 
 // Whether the program takes the words.
@@ -122,17 +123,17 @@ fn takes(words: &Names) -> bool
     words.len() == 1
 }
 
-fn status(ending: &Ending) -> u8
-    ensures { result ≡ status_of ending.now }
+fn status(fault: &RunFault) -> u8
+    ensures { result ≡ status_of fault.now }
 {
-    match ending {
-        Ending::Printed => 0,
-        Ending::BadWords => 2,
-        Ending::NotLoaded(fault) => load_status(*fault),
-        Ending::Refused(fault) => query_status(fault),
-        Ending::WriteFault => 7,
-        Ending::NoMemory => 8,
-        Ending::NotYet => 9,
+    match fault {
+        RunFault::Words => 2,
+        RunFault::Read => 6,
+        RunFault::Script(fault) => load_status(*fault),
+        RunFault::Query(fault) => query_status(fault),
+        RunFault::NotYet => 9,
+        RunFault::Write => 7,
+        RunFault::Memory => 8,
     }
 }
 
@@ -160,68 +161,69 @@ fn query_status(fault: &QueryFault) -> u8
     }
 }
 
-// The line of an ending that needs no memory for it: of each but a fault.
-fn fixed_line(ending: &Ending) -> Option<&'static [u8]>
-    ensures { MatchOption result (IsFault ending.now) (λ line. line.now ≡ line_of ending.now) }
+// The line of a fault, where it needs no memory for it.
+fn fixed_line(fault: &RunFault) -> Option<&'static [u8]>
+    ensures { MatchOption result (IsMade fault.now) (λ line. line.now ≡ line_of fault.now) }
 {
-    match ending {
-        Ending::NotLoaded(_) | Ending::Refused(_) => None,
-        Ending::Printed => Some(b""),
-        Ending::BadWords => Some(b"aql: words\n"),
-        Ending::WriteFault => Some(b"aql: write fault\n"),
-        Ending::NoMemory => Some(b"aql: out of memory\n"),
-        Ending::NotYet => Some(b"aql: not yet\n"),
+    match fault {
+        RunFault::Script(_) | RunFault::Query(_) => None,
+        RunFault::Words => Some(b"aql: words\n"),
+        RunFault::Read => Some(b"aql: read fault\n"),
+        RunFault::NotYet => Some(b"aql: not yet\n"),
+        RunFault::Write => Some(b"aql: write fault\n"),
+        RunFault::Memory => Some(b"aql: out of memory\n"),
     }
 }
 
-// Writes the line of an ending, and gives the ending: want of memory where there was none for the
-// line.
-fn tell<E: Sink>(alloc: Global, ending: Ending, err: &mut E) -> Ending
-    ensures line { Tells result (E.written err.old) (E.written err.new) (E.faults err.old) (E.faults err.new) }
-    ensures same { IsToldAs ending result }
+// Writes the line of a fault, and gives the fault: want of memory where there was none for the line.
+fn tell<E: Sink>(alloc: Global, fault: RunFault, err: &mut E) -> RunFault
+    ensures line { Tells (line_of result) (E.written err.old) (E.written err.new)
+        (E.faults err.old) (E.faults err.new) }
+    ensures same { (result ≡ fault) ⊎ ((result ≡ Memory) × IsMade fault) }
 {
-    match fixed_line(&ending) {
+    match fixed_line(&fault) {
         Some(line) => {
             let _ = write_all(err, line);
-            ending
+            fault
         }
-        None => tell_fault(alloc, ending, err),
+        None => tell_made(alloc, fault, err),
     }
 }
 
-// The same of a fault.
-fn tell_fault<E: Sink>(alloc: Global, ending: Ending, err: &mut E) -> Ending
-    requires { IsFault ending }
-    ensures line { Tells result (E.written err.old) (E.written err.new) (E.faults err.old) (E.faults err.new) }
-    ensures same { IsToldAs ending result }
+// The same where the line is made.
+fn tell_made<E: Sink>(alloc: Global, fault: RunFault, err: &mut E) -> RunFault
+    requires { IsMade fault }
+    ensures line { Tells (line_of result) (E.written err.old) (E.written err.new)
+        (E.faults err.old) (E.faults err.new) }
+    ensures same { (result ≡ fault) ⊎ ((result ≡ Memory) × IsMade fault) }
 {
-    match fault_line(alloc, &ending) {
+    match made_line(alloc, &fault) {
         Ok(line) => {
             let _ = write_all(err, line.as_bytes());
-            ending
+            fault
         }
         Err(_) => {
             let _ = write_all(err, b"aql: out of memory\n");
-            Ending::NoMemory
+            RunFault::Memory
         }
     }
 }
 
-fn fault_line(alloc: Global, ending: &Ending) -> Result<String, OutOfMemory>
-    requires { IsFault ending.now }
-    ensures { IfOk result (λ line. string_bytes line ≡ line_of ending.now) }
+fn made_line(alloc: Global, fault: &RunFault) -> Result<String, OutOfMemory>
+    requires { IsMade fault.now }
+    ensures { IfOk result (λ line. string_bytes line ≡ line_of fault.now) }
 {
-    let text = text_of_fault(alloc, ending)?;
+    let text = made_text(alloc, fault)?;
     Ok(format!(in alloc; "aql: {}\n", text.as_str())?)
 }
 
-fn text_of_fault(alloc: Global, ending: &Ending) -> Result<Text, OutOfMemory>
-    requires { IsFault ending.now }
-    ensures { IfOk result (λ text. told text ≡ line_of ending.now) }
+fn made_text(alloc: Global, fault: &RunFault) -> Result<Text, OutOfMemory>
+    requires { IsMade fault.now }
+    ensures { IfOk result (λ text. told text ≡ line_of fault.now) }
 {
-    match ending {
-        Ending::NotLoaded(fault) => fault_text(alloc, *fault),
-        Ending::Refused(fault) => query_fault_text(alloc, fault),
+    match fault {
+        RunFault::Script(fault) => fault_text(alloc, *fault),
+        RunFault::Query(fault) => query_fault_text(alloc, fault),
         _ => unreachable!(),
     }
 }

@@ -1,0 +1,68 @@
+-- The faults of a run: what leads to each, and its status and line.
+use Rattle.std.specs.Prelude.{ℕ, List, codes, false, Option, IfSome}
+use Rattle.aql_script.specs.Script.{HasFault, IsOfBytes}
+use Rattle.aql_script.specs.Texts.{fault_text}
+use Rattle.aql_script.specs.declared.loading.Loaded.{Loaded}
+use Rattle.aql_script.specs.declared.faults.LoadFault.{LoadFault}
+use Rattle.aql_script.specs.declared.faults.LoadFault.TheVariants as load
+use Rattle.aql_front.specs.declared.faults.QueryFault.{QueryFault}
+use Rattle.aql_front.specs.declared.faults.QueryFault.TheVariants as query
+use Rattle.aql_front.specs.Reading.{Refuses}
+use Rattle.aql_front.specs.Texts.{query_fault_text}
+use Rattle.aql_top.specs.Forms.{TakesWords, ReadsAs, Accepts, HasOtherQuery, HasQueryFault}
+use Rattle.aql_top.specs.Reasons.{fault_status, query_status, told}
+use Rattle.aql_top.specs.declared.faults.RunFault.{RunFault}
+use Rattle.aql_top.specs.declared.faults.RunFault.TheVariants.{Words, Read, Script, Query, NotYet, Write, Memory}
+
+-- the fault that comes of loading, and of reading the query
+abbrev pub of_load : LoadFault → RunFault
+of_load load.Read = Read
+of_load load.Memory = Memory
+of_load (load.Line n kind) = Script (load.Line n kind)
+of_load (load.Limit kind) = Script (load.Limit kind)
+
+abbrev pub of_query : QueryFault → RunFault
+of_query query.Memory = Memory
+of_query fault = Query fault
+
+-- what in the words and in the bytes of the source leads to a fault
+abbrev pub Leads : RunFault → List (List ℕ) → Option (List ℕ) → Type 0
+Leads Words words input = TakesWords words → ⊥
+Leads Read words input = TakesWords words
+Leads (Script fault) words input =
+    TakesWords words × IsOfBytes fault × IfSome input (λ bytes. HasFault bytes fault)
+Leads (Query fault) words input = TakesWords words × IfSome input (λ bytes. HasQueryFault bytes fault)
+Leads NotYet words input = TakesWords words × IfSome input HasOtherQuery
+Leads Write words input = TakesWords words × IfSome input Accepts
+Leads Memory words input = Unit {0}
+
+-- what of a loaded script leads to a fault
+abbrev pub HasNoLines : Loaded → RunFault → Type 0
+HasNoLines loaded (Query fault) = Refuses loaded.catalog loaded.query fault
+HasNoLines loaded NotYet = ReadsAs loaded false
+HasNoLines loaded Memory = Unit {0}
+HasNoLines loaded other = ⊥
+
+abbrev pub status_of : RunFault → ℕ
+status_of Words = 2
+status_of Read = 6
+status_of (Script fault) = fault_status fault
+status_of (Query fault) = query_status fault
+status_of NotYet = 9
+status_of Write = 7
+status_of Memory = 8
+
+abbrev pub line_of : RunFault → List ℕ
+line_of Words = told (codes "words")
+line_of Read = told (codes "read fault")
+line_of (Script fault) = told (fault_text fault)
+line_of (Query fault) = told (query_fault_text fault)
+line_of NotYet = told (codes "not yet")
+line_of Write = told (codes "write fault")
+line_of Memory = told (codes "out of memory")
+
+-- its line is made in memory
+abbrev pub IsMade : RunFault → Type 0
+IsMade (Script fault) = Unit {0}
+IsMade (Query fault) = Unit {0}
+IsMade other = ⊥
