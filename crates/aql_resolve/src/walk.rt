@@ -16,7 +16,7 @@ use aql_names::{
     At, NameList, Scope, ScopeFault, WalkParts, Written, aggregate_item, check_aggregate,
     check_args, check_collections, check_edges, check_kept, check_setting, check_settings,
     computed_setting, copy_texts, declare, declare_new, define, define_query, documents_clause,
-    each_step, enter_new, for_each, for_name, into_names, open_walk, single_name, standing_before,
+    each_step, enter_new, for_each, for_name, into_names, lift_query, open_walk, single_name,
     variable, walk_of,
 };
 use aql_tree::{
@@ -37,49 +37,49 @@ fn expr(expr: &Expr, at: &At<'_>, said: &mut Names, lets: &mut Clauses) -> Resul
         Expr::Current => Ok(Expr::Current),
         Expr::List(items) => Ok(Expr::List(exprs(items.as_slice(), at, said, lets)?)),
         Expr::Object(fields) => Ok(Expr::Object(members(fields.as_slice(), at, said, lets)?)),
-        Expr::Call { name, args } => called(args.as_slice(), name, at, said, lets),
+        Expr::Call { name, args } => call(args.as_slice(), name, at, said, lets),
         Expr::Quant {
             left,
             kind,
             op,
             right,
         } => Ok(Expr::Quant {
-            left: boxed(left, at, said, lets)?,
+            left: boxed_expr(left, at, said, lets)?,
             kind: *kind,
             op: *op,
-            right: boxed(right, at, said, lets)?,
+            right: boxed_expr(right, at, said, lets)?,
         }),
         Expr::Range { low, high } => Ok(Expr::Range {
-            low: boxed(low, at, said, lets)?,
-            high: boxed(high, at, said, lets)?,
+            low: boxed_expr(low, at, said, lets)?,
+            high: boxed_expr(high, at, said, lets)?,
         }),
         Expr::Access { of, steps } => Ok(Expr::Access {
-            of: boxed(of, at, said, lets)?,
+            of: boxed_expr(of, at, said, lets)?,
             steps: access_steps(steps.as_slice(), at, said, lets)?,
         }),
         Expr::Unary { op, of } => Ok(Expr::Unary {
             op: *op,
-            of: boxed(of, at, said, lets)?,
+            of: boxed_expr(of, at, said, lets)?,
         }),
         Expr::Chain { first, rest } => Ok(Expr::Chain {
-            first: boxed(first, at, said, lets)?,
+            first: boxed_expr(first, at, said, lets)?,
             rest: links(rest.as_slice(), at, said, lets)?,
         }),
         Expr::Cond { test, yes, no } => Ok(Expr::Cond {
-            test: boxed(test, at, said, lets)?,
+            test: boxed_expr(test, at, said, lets)?,
             yes: match yes {
-                Some(yes) => Some(boxed(yes, at, said, lets)?),
+                Some(yes) => Some(boxed_expr(yes, at, said, lets)?),
                 None => None,
             },
-            no: boxed(no, at, said, lets)?,
+            no: boxed_expr(no, at, said, lets)?,
         }),
-        Expr::Sub(query) => lifted(query, at, said, lets),
+        Expr::Sub(query) => lift_subquery(query, at, said, lets),
     }
 }
 
 // A call, judged at the function's name before its arguments.
 #[cycle(walk)]
-fn called(
+fn call(
     args: &[Expr],
     name: &Text,
     at: &At<'_>,
@@ -97,7 +97,7 @@ fn called(
 
 // A subquery, in a LET of its own before the clause.
 #[cycle(walk)]
-fn lifted(
+fn lift_subquery(
     query: &Query,
     at: &At<'_>,
     said: &mut Names,
@@ -112,11 +112,11 @@ fn lifted(
     }
     let number = declare(said, Text::new(at.alloc, "sub")?)?;
     let inner = query_within(query, at, said)?;
-    Ok(standing_before(at.alloc, inner, number, lets)?)
+    Ok(lift_query(at.alloc, inner, number, lets)?)
 }
 
 #[cycle(walk)]
-fn boxed(
+fn boxed_expr(
     inner: &Expr,
     at: &At<'_>,
     said: &mut Names,
@@ -142,7 +142,7 @@ fn maybe(
         result (state said.new lets.new) }
 {
     match inner {
-        Some(inner) => Ok(Some(boxed(inner, at, said, lets)?)),
+        Some(inner) => Ok(Some(boxed_expr(inner, at, said, lets)?)),
         None => Ok(None),
     }
 }
@@ -269,7 +269,7 @@ pub fn query_within(query: &Query, at: &At<'_>, said: &mut Names) -> Result<Quer
         done.push(scoped)?;
     }
     let inner = at.within(&scope);
-    let result = boxed(&query.result, &inner, said, &mut done)?;
+    let result = boxed_expr(&query.result, &inner, said, &mut done)?;
     Ok(Query {
         with,
         clauses: done,
@@ -348,7 +348,7 @@ fn for_list(
     ensures outer { scope.new.outer ≡ scope.old.outer }
 {
     let number = declare_new(at.alloc, scope, var, said)?;
-    let list = boxed(list, &at.within(scope), said, lets)?;
+    let list = boxed_expr(list, &at.within(scope), said, lets)?;
     Ok(for_each(at.alloc, var, number, list, scope)?)
 }
 
@@ -409,7 +409,7 @@ fn let_value(
     ensures outer { scope.new.outer ≡ scope.old.outer }
 {
     let number = declare_new(at.alloc, scope, var, said)?;
-    let value = boxed(value, &at.within(scope), said, lets)?;
+    let value = boxed_expr(value, &at.within(scope), said, lets)?;
     Ok(define(at.alloc, var, number, value, scope)?)
 }
 
@@ -448,9 +448,9 @@ fn walk_parts(
         (member_trees (traversal_part traversal.now).4) (state said.old lets.old))
         result (state said.new lets.new) }
 {
-    let start = boxed(&traversal.start, &at.within(scope), said, lets)?;
+    let start = boxed_expr(&traversal.start, &at.within(scope), said, lets)?;
     check_edges(at.alloc, at.catalog, traversal.collections.as_slice())?;
-    let prune = pruned(&traversal.prune, at, scope, behind, said, lets)?;
+    let prune = prune_condition(&traversal.prune, at, scope, behind, said, lets)?;
     let written = written_options(&traversal.options, &at.within(scope).inline(), said, lets)?;
     Ok(WalkParts {
         start,
@@ -475,7 +475,7 @@ fn written_options(
 
 // PRUNE, which sees the names of its traversal.
 #[cycle(walk)]
-fn pruned(
+fn prune_condition(
     prune: &Option<Expr>,
     at: &At<'_>,
     scope: &Scope,
@@ -508,12 +508,12 @@ fn written_settings(
     for item in all {
         match item {
             Field::Named { name, value } => {
-                boxed(value, at, said, lets)?;
+                boxed_expr(value, at, said, lets)?;
                 found = check_setting(at.alloc, found, name, value)?;
             }
             Field::Computed { name, value } => {
-                boxed(name, at, said, lets)?;
-                boxed(value, at, said, lets)?;
+                boxed_expr(name, at, said, lets)?;
+                boxed_expr(value, at, said, lets)?;
                 return computed_setting(at.alloc);
             }
         }

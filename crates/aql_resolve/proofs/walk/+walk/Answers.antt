@@ -161,8 +161,8 @@ walk_parts-returns-in_err-written t c =
     let inner = site_of c.inline.result in
     let narrow = inline_site (with_own c.args.behind.now s) in
     let first = state c.args.said.now c.args.lets.now in
-    let second = state c.boxed.new.said c.boxed.new.lets in
-    let third = state c.pruned.new.said c.pruned.new.lets in
+    let second = state c.boxed_expr.new.said c.boxed_expr.new.lets in
+    let third = state c.prune_condition.new.said c.prune_condition.new.lets in
     let last = state c.written_options.new.said c.written_options.new.lets in
     let found : walk.expr here part.1 first ≡ Ok (tree c.in_ok-start.start.value, second) =
     ap (λ p. walk.expr here p.1 first) by_part ∙ c.in_ok-start.ensures in
@@ -214,19 +214,19 @@ query_within-returns-in_err-result t c =
     let done = drop_all c.loop-item.item-index q.clauses past in
     let inner : site_of c.within-inner.result ≡ record s { outer = outer } =
     c.within-inner.ensures ∙ ap (λ o. let t : Site = record s { outer = o } in t) c.loop-item.invariant.1 in
-    let is : c.boxed.result ≡ Err c.in_err-result.field-0.0 = search rules in
+    let is : c.boxed_expr.result ≡ Err c.in_err-result.field-0.0 = search rules in
     let is' : c.from_residual-in_err-result.result ≡ Err c.in_err-result.field-0.0 = search rules in
     let before = state c.loop-item.said c.loop-item.done in
-    let last = state c.boxed.new.said c.boxed.new.lets in
+    let last = state c.boxed_expr.new.said c.boxed_expr.new.lets in
     let fails : Walks (λ b. tree b.value) (walk.expr (site_of c.within-inner.result) (tree q.result.value) before)
-    c.boxed.result last =
-    subst (λ b. Walks (λ b. tree b.value) (walk.expr (site_of c.within-inner.result) (tree b) before) c.boxed.result last)
-    c.deref.ensures c.boxed.ensures in
+    c.boxed_expr.result last =
+    subst (λ b. Walks (λ b. tree b.value) (walk.expr (site_of c.within-inner.result) (tree b) before) c.boxed_expr.result last)
+    c.deref.ensures c.boxed_expr.ensures in
     subst (λ p. Walks query_tree (walk.query_walk held outer p c.args.said.now) c.from_residual-in_err-result.result
-    c.boxed.new.said) (sym (query_parts_of q))
+    c.boxed_expr.new.said) (sym (query_parts_of q))
     (result_has_fault held outer q.with q.clauses q.distinct (tree q.result.value) c.args.said.now known
-    (λ b. tree b.value) query_tree s (site_of c.within-inner.result) c.loop-item.item-index before last c.boxed.result
-    c.from_residual-in_err-result.result c.in_err-result.field-0.0 c.boxed.new.said c.loop-item.invariant.0 done inner
+    (λ b. tree b.value) query_tree s (site_of c.within-inner.result) c.loop-item.item-index before last c.boxed_expr.result
+    c.from_residual-in_err-result.result c.in_err-result.field-0.0 c.boxed_expr.new.said c.loop-item.invariant.0 done inner
     is is' fails)
 
 pub query_within-returns : goal.query_within-returns
@@ -241,7 +241,7 @@ query_within-returns t c =
     let done = drop_all c.loop-item.item-index q.clauses past in
     let inner : site_of c.within-inner.result ≡ record s { outer = outer } =
     c.within-inner.ensures ∙ ap (λ o. let t : Site = record s { outer = o } in t) c.loop-item.invariant.1 in
-    let last = state c.boxed.new.said c.boxed.new.lets in
+    let last = state c.boxed_expr.new.said c.boxed_expr.new.lets in
     let found = tree c.in_ok-result.result.value in
     let h : walk.expr (site_of c.within-inner.result) (tree q.result.value) (state c.loop-item.said c.loop-item.done)
     ≡ Ok (found, last) =
@@ -252,10 +252,10 @@ query_within-returns t c =
     ∙ gives_query held outer q.with q.clauses q.distinct (tree q.result.value) c.args.said.now known s
     (site_of c.within-inner.result) c.loop-item.item-index (state c.loop-item.said c.loop-item.done) last found
     c.loop-item.invariant.0 done inner h
-    ∙ ap (λ ws. Ok (query ws (clauses (map clause_tree c.boxed.new.lets)) q.distinct found, c.boxed.new.said)) with
-    ∙ ap (λ p. Ok (p, c.boxed.new.said)) (sym (query_parts_of (roll-Query record {
+    ∙ ap (λ ws. Ok (query ws (clauses (map clause_tree c.boxed_expr.new.lets)) q.distinct found, c.boxed_expr.new.said)) with
+    ∙ ap (λ p. Ok (p, c.boxed_expr.new.said)) (sym (query_parts_of (roll-Query record {
       with = c.in_ok-with.with;
-      clauses = c.boxed.new.lets;
+      clauses = c.boxed_expr.new.lets;
       distinct = q.distinct;
       result = c.in_ok-result.result;
     })))
