@@ -8,6 +8,7 @@ pub mod Visible
 pub mod Value
 pub mod AtRows
 pub mod Documents
+pub mod View
 pub mod Merges
 pub mod Meaning
 pub mod Stages

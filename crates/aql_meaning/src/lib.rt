@@ -3,6 +3,7 @@
 
 mod grouping;
 pub mod laws;
+mod nodes;
 pub mod worked;
 
 pub use aql_tree::{
@@ -11,3 +12,4 @@ pub use aql_tree::{
     Traversal, UniqueEdges, UniqueVertices,
 };
 pub use grouping::Stage;
+pub use nodes::{Edge, Last, WalkOptions};
