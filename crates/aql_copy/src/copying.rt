@@ -3,7 +3,7 @@
 ghost use Rattle.std.specs.Prelude.{◌≡◌, map, IfOk, option_map};
 ghost use Rattle.aql_tree.specs.View.{tree, clause_tree, step_part, member_part, link_part};
 ghost use Rattle.aql_tree.specs.View.{key_part, let_part, aggregate_part, into_part};
-ghost use Rattle.aql_tree.specs.View.{traversal_part, query_tree};
+ghost use Rattle.aql_tree.specs.View.{options_part, traversal_part, query_tree};
 
 use aql_tree::{
     AggregateItem, Clause, Collect, Expr, Field, Ident, Into, Key, Let, Link, Options, Query, Step,
@@ -12,7 +12,8 @@ use aql_tree::{
 use aql_value::{OutOfMemory, Seq, Text, copy};
 use std::alloc::Global;
 
-fn copy_texts(alloc: Global, texts: &[Text]) -> Result<Seq<Text>, OutOfMemory>
+/// Equal texts.
+pub fn copy_texts(alloc: Global, texts: &[Text]) -> Result<Seq<Text>, OutOfMemory>
     ensures { IfOk result (λ ts. ts ≡ texts.now) }
 {
     let mut all = Seq::new(alloc);
@@ -22,7 +23,8 @@ fn copy_texts(alloc: Global, texts: &[Text]) -> Result<Seq<Text>, OutOfMemory>
     Ok(all)
 }
 
-fn copy_ident(alloc: Global, ident: &Ident) -> Result<Ident, OutOfMemory>
+/// An equal variable.
+pub fn copy_ident(alloc: Global, ident: &Ident) -> Result<Ident, OutOfMemory>
     ensures { IfOk result (λ y. y ≡ ident.now) }
 {
     match ident {
@@ -31,7 +33,8 @@ fn copy_ident(alloc: Global, ident: &Ident) -> Result<Ident, OutOfMemory>
     }
 }
 
-fn copy_maybe_ident(alloc: Global, ident: &Option<Ident>) -> Result<Option<Ident>, OutOfMemory>
+/// An equal variable, where there is one.
+pub fn copy_maybe_ident(alloc: Global, ident: &Option<Ident>) -> Result<Option<Ident>, OutOfMemory>
     ensures { IfOk result (λ y. y ≡ ident.now) }
 {
     match ident {
@@ -112,8 +115,9 @@ fn copy_maybe_boxed(
     }
 }
 
+/// An equal expression, where there is one.
 #[cycle(copying)]
-fn copy_maybe(alloc: Global, expr: &Option<Expr>) -> Result<Option<Expr>, OutOfMemory>
+pub fn copy_maybe(alloc: Global, expr: &Option<Expr>) -> Result<Option<Expr>, OutOfMemory>
     ensures { IfOk result (λ f. option_map tree f ≡ option_map tree expr.now) }
 {
     match expr {
@@ -122,8 +126,9 @@ fn copy_maybe(alloc: Global, expr: &Option<Expr>) -> Result<Option<Expr>, OutOfM
     }
 }
 
+/// Equal expressions, in the same order.
 #[cycle(copying)]
-fn copy_exprs(alloc: Global, all: &[Expr]) -> Result<Seq<Expr>, OutOfMemory>
+pub fn copy_exprs(alloc: Global, all: &[Expr]) -> Result<Seq<Expr>, OutOfMemory>
     ensures { IfOk result (λ out. map tree out ≡ map tree all.now) }
 {
     let mut out = Seq::new(alloc);
@@ -169,8 +174,9 @@ fn copy_links(alloc: Global, all: &[Link]) -> Result<Seq<Link>, OutOfMemory>
     Ok(out)
 }
 
+/// Equal keys of SORT.
 #[cycle(copying)]
-fn copy_keys(alloc: Global, all: &[Key]) -> Result<Seq<Key>, OutOfMemory>
+pub fn copy_keys(alloc: Global, all: &[Key]) -> Result<Seq<Key>, OutOfMemory>
     ensures { IfOk result (λ out. map key_part out ≡ map key_part all.now) }
 {
     let mut out = Seq::new(alloc);
@@ -183,8 +189,9 @@ fn copy_keys(alloc: Global, all: &[Key]) -> Result<Seq<Key>, OutOfMemory>
     Ok(out)
 }
 
+/// Equal variables with what they take, as criteria of COLLECT.
 #[cycle(copying)]
-fn copy_lets(alloc: Global, all: &[Let]) -> Result<Seq<Let>, OutOfMemory>
+pub fn copy_lets(alloc: Global, all: &[Let]) -> Result<Seq<Let>, OutOfMemory>
     ensures { IfOk result (λ out. map let_part out ≡ map let_part all.now) }
 {
     let mut out = Seq::new(alloc);
@@ -197,8 +204,12 @@ fn copy_lets(alloc: Global, all: &[Let]) -> Result<Seq<Let>, OutOfMemory>
     Ok(out)
 }
 
+/// Equal aggregates.
 #[cycle(copying)]
-fn copy_aggregates(alloc: Global, all: &[AggregateItem]) -> Result<Seq<AggregateItem>, OutOfMemory>
+pub fn copy_aggregates(
+    alloc: Global,
+    all: &[AggregateItem],
+) -> Result<Seq<AggregateItem>, OutOfMemory>
     ensures { IfOk result (λ out. map aggregate_part out ≡ map aggregate_part all.now) }
 {
     let mut out = Seq::new(alloc);
@@ -253,8 +264,9 @@ fn copy_step(alloc: Global, step: &Step) -> Result<Step, OutOfMemory>
     }
 }
 
+/// An equal INTO, where there is one.
 #[cycle(copying)]
-fn copy_into(alloc: Global, into: &Option<Into>) -> Result<Option<Into>, OutOfMemory>
+pub fn copy_into(alloc: Global, into: &Option<Into>) -> Result<Option<Into>, OutOfMemory>
     ensures { IfOk result (λ j. option_map into_part j ≡ option_map into_part into.now) }
 {
     match into {
@@ -271,7 +283,6 @@ fn copy_into(alloc: Global, into: &Option<Into>) -> Result<Option<Into>, OutOfMe
 fn copy_traversal(alloc: Global, walk: &Traversal) -> Result<Traversal, OutOfMemory>
     ensures { IfOk result (λ out. traversal_part out ≡ traversal_part walk.now) }
 {
-    let settings = copy_fields(alloc, walk.options.settings.as_slice())?;
     Ok(Traversal {
         vertex: copy_ident(alloc, &walk.vertex)?,
         edge: copy_maybe_ident(alloc, &walk.edge)?,
@@ -282,12 +293,20 @@ fn copy_traversal(alloc: Global, walk: &Traversal) -> Result<Traversal, OutOfMem
         start: copy_expr(alloc, &walk.start)?,
         collections: copy_texts(alloc, walk.collections.as_slice())?,
         prune: copy_maybe(alloc, &walk.prune)?,
-        options: Options {
-            settings,
-            edges: walk.options.edges,
-            vertices: walk.options.vertices,
-            bfs: walk.options.bfs,
-        },
+        options: copy_options(alloc, &walk.options)?,
+    })
+}
+
+/// Equal options of a traversal.
+#[cycle(copying)]
+pub fn copy_options(alloc: Global, options: &Options) -> Result<Options, OutOfMemory>
+    ensures { IfOk result (λ out. options_part out ≡ options_part options.now) }
+{
+    Ok(Options {
+        settings: copy_fields(alloc, options.settings.as_slice())?,
+        edges: options.edges,
+        vertices: options.vertices,
+        bfs: options.bfs,
     })
 }
 

@@ -1,7 +1,10 @@
-//! Copies of syntax trees. They stand in a crate of their own, since their one cycle of functions
-//! takes minutes to check.
+//! Copies of expressions and of the parts of clauses. They stand in a crate of their own, since
+//! their one cycle of functions takes minutes to check.
 #![tactic(auto)]
 
 mod copying;
 
-pub use copying::copy_expr;
+pub use copying::{
+    copy_aggregates, copy_expr, copy_exprs, copy_ident, copy_into, copy_keys, copy_lets,
+    copy_maybe, copy_maybe_ident, copy_options, copy_texts,
+};
