@@ -1,0 +1,17 @@
+pub mod Facts
+pub mod Plan
+pub mod View
+pub mod Nodes
+pub mod Runs
+pub mod Needs
+pub mod Refines
+pub mod Above
+pub mod Variables
+pub mod Fits
+pub mod Shapes
+pub mod WellFormed
+pub mod FirstPlan
+pub mod Theorems
+pub mod Worked
+pub mod ShapesWorked
+pub mod laws

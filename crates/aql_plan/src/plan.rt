@@ -1,0 +1,159 @@
+//! The tree of a plan. Every node but `Singleton` has its input, `below`.
+
+ghost use Rattle.std.specs.Prelude.{◌≡◌, MatchOption};
+ghost use Rattle.aql_plan.specs.Plan as spec;
+ghost use Rattle.aql_plan.specs.View.{plan_tree};
+
+use aql_meaning::{Edge, Last, Stage, WalkOptions};
+use aql_tree::{Aggregates, Direction, Expr, Exprs, Into, Keys, Lets};
+use aql_value::{CollNo, CollNos, Names, Seq};
+
+/// A plan: a node over its input. It takes the rows of its input and gives rows; docs/ARCHITECTURE.md
+/// says where their meaning stands. Variables are numbers from 1 on.
+#[derive(Drop)]
+pub enum Plan {
+    /// The one row that the plan starts from.
+    Singleton,
+    /// Each row with each document of a collection that passes the filter, in any order.
+    EnumerateCollection {
+        below: Box<Plan>,
+        var: u32,
+        coll: CollNo,
+        filter: Option<Expr>,
+        /// The attributes that are kept of a document, once it passed; all where there are none.
+        attrs: Option<Names>,
+        /// The shard that is read, where it is not that of the fragment.
+        shard: Option<u32>,
+    },
+    /// The same for the documents in the bounds of an index, in its order where that is asked for.
+    Index {
+        below: Box<Plan>,
+        var: u32,
+        coll: CollNo,
+        filter: Option<Expr>,
+        attrs: Option<Names>,
+        shard: Option<u32>,
+        index: u32,
+        /// The values of the first attributes.
+        equal: Exprs,
+        last: Last,
+        /// In the order of the index; `true` is against it.
+        ordered: Option<bool>,
+    },
+    /// Each row with each element of an array, in order.
+    EnumerateList {
+        below: Box<Plan>,
+        var: u32,
+        list: Expr,
+    },
+    /// Each row with each path that is walked from its start and passes the filter, in any order.
+    Traversal {
+        below: Box<Plan>,
+        vertex: u32,
+        edge: Option<u32>,
+        path: Option<u32>,
+        min: u32,
+        max: u32,
+        direction: Direction,
+        start: Expr,
+        collections: CollNos,
+        prune: Option<Expr>,
+        options: WalkOptions,
+        filter: Option<Expr>,
+    },
+    /// Each row with the value of an expression: LET.
+    Calculation {
+        below: Box<Plan>,
+        var: u32,
+        expr: Expr,
+    },
+    /// Each row with the array of what the body gives from it.
+    Subquery {
+        below: Box<Plan>,
+        var: u32,
+        body: Box<Plan>,
+    },
+    /// The rows at which a condition holds: FILTER.
+    Filter { below: Box<Plan>, cond: Expr },
+    /// The rows in the order of their keys, or the first of these: SORT.
+    Sort {
+        below: Box<Plan>,
+        keys: Keys,
+        limit: Option<u64>,
+    },
+    /// At most `count` rows after the first `offset`: LIMIT.
+    Limit {
+        below: Box<Plan>,
+        offset: u64,
+        count: u64,
+    },
+    /// A row for each class of rows with equal criteria: COLLECT, or one of its two stages.
+    Collect {
+        below: Box<Plan>,
+        groups: Lets,
+        aggregates: Aggregates,
+        into: Option<Into>,
+        stage: Stage,
+    },
+    /// The values of an expression, with `distinct` each once: RETURN.
+    Return {
+        below: Box<Plan>,
+        expr: Expr,
+        distinct: bool,
+    },
+    /// No row; the input isn't asked for any.
+    NoResults { below: Box<Plan> },
+    /// The foot of a fragment: all rows to each shard of a collection, or to one shard of it.
+    Scatter {
+        below: Box<Plan>,
+        coll: CollNo,
+        only: Option<u32>,
+    },
+    /// The foot of a fragment: each row to the shard that its values of the shard keys choose.
+    Distribute {
+        below: Box<Plan>,
+        coll: CollNo,
+        exprs: Exprs,
+    },
+    /// The rows of its input, over a link.
+    Remote { below: Box<Plan> },
+    /// The lists of all shards as one: interleaved, or merged by keys.
+    Gather { below: Box<Plan>, order: Keys },
+}
+
+/// A list of plans.
+pub type Plans = Seq<Plan>;
+
+/// What a pass of a rule gives: the plan, and whether the rule applied at least once.
+#[derive(Drop)]
+pub struct Passed {
+    pub plan: Plan,
+    pub changed: bool,
+}
+
+impl Plan {
+    /// The input of the node; `None` exactly at `Singleton`.
+    pub fn below(&self) -> Option<&Plan>
+        ensures { MatchOption result (plan_tree self.now ≡ spec.Singleton) (λ b. plan_tree self.now ≡ spec.Over (plan_tree b.now) (spec.top (plan_tree self.now))) }
+    {
+        match self {
+            Plan::Singleton => None,
+            Plan::EnumerateCollection { below, .. } => Some(below),
+            Plan::Index { below, .. } => Some(below),
+            Plan::EnumerateList { below, .. } => Some(below),
+            Plan::Traversal { below, .. } => Some(below),
+            Plan::Calculation { below, .. } => Some(below),
+            Plan::Subquery { below, .. } => Some(below),
+            Plan::Filter { below, .. } => Some(below),
+            Plan::Sort { below, .. } => Some(below),
+            Plan::Limit { below, .. } => Some(below),
+            Plan::Collect { below, .. } => Some(below),
+            Plan::Return { below, .. } => Some(below),
+            Plan::NoResults { below } => Some(below),
+            Plan::Scatter { below, .. } => Some(below),
+            Plan::Distribute { below, .. } => Some(below),
+            Plan::Remote { below } => Some(below),
+            Plan::Gather { below, .. } => Some(below),
+        }
+    }
+}
