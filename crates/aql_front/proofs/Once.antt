@@ -24,7 +24,7 @@ use Rattle.aql_names.specs.declared.faults.ScopeFault.TheVariants as scope
 use Rattle.aql_names.specs.Faults.{first_fault}
 use Rattle.aql_front.specs.declared.faults.QueryFault.{QueryFault}
 use Rattle.aql_front.specs.declared.faults.QueryFault.TheVariants.{TooLong, Lexical, TooDeep, TooManyClauses, NotInGrammar, WalkTooDeep, Scope, Memory}
-use Rattle.aql_front.specs.Causes.{grammatical}
+use Rattle.aql_front.specs.Causes.{of_parse}
 use Rattle.aql_front.specs.Reading.{IsWritten, Misspells, Refuses, IsScoped}
 
 -- ---- tokens
@@ -116,7 +116,7 @@ data Cause (held : List Held) (text : List ℕ) (e : QueryFault) : Type 0 where
   long : e ≡ TooLong → 65536 < length text → Cause held text e
   at : (place : ℕ) (kind : LexKind) → e ≡ Lexical place kind → length text ≤ 65536 → Stops text place kind
       → Cause held text e
-  spelled : (fault : ParseFault) → e ≡ grammatical fault → fault ≢ parse.Memory → Misspells text fault
+  spelled : (fault : ParseFault) → e ≡ of_parse fault → fault ≢ parse.Memory → Misspells text fault
       → Cause held text e
   named : (fault : ScopeFault) (q : QueryTree) → e ≡ Scope fault → IsWritten text q
       → first_fault held q ≡ Some fault → Cause held text e
@@ -163,7 +163,7 @@ one_cause held text e f (at p l a few h) (named g q b w k) =
 one_cause held text e f (spelled g a m h) (long b k) = let few = h.1.0.0 in absurd (omega arith)
 one_cause held text e f (spelled g a m h) (at q l b few k) = absurd (list_or_stop text h.0 q l h.1.0.1 k)
 one_cause held text e f (spelled g a m h) (spelled i b n k) =
-    a ∙ (ap grammatical (misspelled_once text g i m n h k) ∙ sym b)
+    a ∙ (ap of_parse (misspelled_once text g i m n h k) ∙ sym b)
 one_cause held text e f (spelled g a m h) (named i q b w k) = absurd (written_or_misspelled text q g m w h)
 one_cause held text e f (named g p a v h) (long b k) = let few = v.has_tokens.0 in absurd (omega arith)
 one_cause held text e f (named g p a v h) (at q l b few k) =

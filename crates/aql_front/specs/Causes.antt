@@ -8,17 +8,17 @@ use Rattle.aql_names.specs.declared.faults.ScopeFault.TheVariants as scope
 use Rattle.aql_front.specs.declared.faults.QueryFault.{QueryFault}
 use Rattle.aql_front.specs.declared.faults.QueryFault.TheVariants.{Lexical, TooDeep, TooManyClauses, NotInGrammar, WalkTooDeep, Scope, Memory}
 
-abbrev pub lexical : LexFault → QueryFault
-lexical (lex.At place kind) = Lexical place kind
-lexical lex.Memory = Memory
+abbrev pub of_lex : LexFault → QueryFault
+of_lex (lex.At place kind) = Lexical place kind
+of_lex lex.Memory = Memory
 
-abbrev pub grammatical : ParseFault → QueryFault
-grammatical parse.TooDeep = TooDeep
-grammatical parse.TooManyClauses = TooManyClauses
-grammatical parse.NotInGrammar = NotInGrammar
-grammatical parse.WalkTooDeep = WalkTooDeep
-grammatical parse.Memory = Memory
+abbrev pub of_parse : ParseFault → QueryFault
+of_parse parse.TooDeep = TooDeep
+of_parse parse.TooManyClauses = TooManyClauses
+of_parse parse.NotInGrammar = NotInGrammar
+of_parse parse.WalkTooDeep = WalkTooDeep
+of_parse parse.Memory = Memory
 
-abbrev pub named : ScopeFault → QueryFault
-named scope.Memory = Memory
-named fault = Scope fault
+abbrev pub of_scope : ScopeFault → QueryFault
+of_scope scope.Memory = Memory
+of_scope fault = Scope fault

@@ -1,6 +1,6 @@
--- What the text of a query is: the query that it spells, or the first cause of a refusal. The length is judged
--- first, then the tokens, then nesting, clauses, grammar and traversals over all tokens, and last names, calls and
--- settings in the order of the text.
+-- What the text of a query is: the query that it spells, or the first cause of a refusal. The length is
+-- judged first, then the tokens, then nesting, clauses, grammar and traversals over all tokens, and last
+-- names, calls and settings in the order of the text.
 use Rattle.std.specs.Prelude.{◌≡◌, ℕ, ◌≤◌, ◌<◌, List, [], length, Some, None, Err}
 use Rattle.aql_lex.specs.declared.kinds.Token.{Token}
 use Rattle.aql_lex.specs.Reading.{Lexes, Stops}
@@ -50,7 +50,8 @@ Refuses held text (Scope scope.Memory) = ⊥
 Refuses held text (Scope fault) = (q : QueryTree) × (IsWritten text q × (first_fault held q ≡ Some fault))
 Refuses held text fault = IsRefused text fault
 
--- the query that the text spells has no fault, and scoping makes this tree of it, with variables of these names
+-- the query that the text spells has no fault, and scoping makes this tree of it, with variables of these
+-- names
 pub record IsScoped (held : List Held) (text : List ℕ) (tree : QueryTree) (names : List (List ℕ)) : Type 0
   where
     pub spelled : QueryTree

@@ -1,4 +1,4 @@
--- The text of each fault, as it stands on the error output behind `aql: `.
+-- The text of each fault, as it stands on the error output after `aql: `.
 use Rattle.std.specs.Prelude.{ℕ, List, ◌++◌, codes}
 use Rattle.std.specs.Fmt.{decimal}
 use Rattle.aql_lex.specs.declared.faults.LexKind.{LexKind}

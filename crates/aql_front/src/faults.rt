@@ -40,9 +40,9 @@ impl Drop for QueryFault {
 
 impl From<LexFault> for QueryFault {
     ghost use Rattle.std.specs.Prelude.{◌≡◌};
-    ghost use Rattle.aql_front.specs.Causes.{lexical};
+    ghost use Rattle.aql_front.specs.Causes.{of_lex};
 
-    ghost from_gives = { λ fault given. given ≡ lexical fault };
+    ghost from_gives = { λ fault given. given ≡ of_lex fault };
 
     fn from(fault: LexFault) -> QueryFault {
         match fault {
@@ -54,9 +54,9 @@ impl From<LexFault> for QueryFault {
 
 impl From<ParseFault> for QueryFault {
     ghost use Rattle.std.specs.Prelude.{◌≡◌};
-    ghost use Rattle.aql_front.specs.Causes.{grammatical};
+    ghost use Rattle.aql_front.specs.Causes.{of_parse};
 
-    ghost from_gives = { λ fault given. given ≡ grammatical fault };
+    ghost from_gives = { λ fault given. given ≡ of_parse fault };
 
     fn from(fault: ParseFault) -> QueryFault {
         match fault {
@@ -71,9 +71,9 @@ impl From<ParseFault> for QueryFault {
 
 impl From<ScopeFault> for QueryFault {
     ghost use Rattle.std.specs.Prelude.{◌≡◌};
-    ghost use Rattle.aql_front.specs.Causes.{named};
+    ghost use Rattle.aql_front.specs.Causes.{of_scope};
 
-    ghost from_gives = { λ fault given. given ≡ named fault };
+    ghost from_gives = { λ fault given. given ≡ of_scope fault };
 
     fn from(fault: ScopeFault) -> QueryFault {
         match &fault {

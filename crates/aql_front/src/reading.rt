@@ -27,7 +27,7 @@ fn is_too_long(text: &str) -> bool
 }
 
 // The query that a text spells.
-fn written(alloc: Global, text: &str) -> Result<Query, QueryFault>
+fn query_in(alloc: Global, text: &str) -> Result<Query, QueryFault>
     ensures query { IfOk result (λ q. IsWritten text.now (query_tree q)) }
     ensures fault { IfErr result (λ e. (e ≡ QueryFault.Memory) ⊎ IsRefused text.now e) }
 {
@@ -39,7 +39,7 @@ fn written(alloc: Global, text: &str) -> Result<Query, QueryFault>
 }
 
 // The scoped query, or the first cause of a refusal.
-fn judged(alloc: Global, text: &str, catalog: &Catalog) -> Result<Scoped, QueryFault>
+fn judge(alloc: Global, text: &str, catalog: &Catalog) -> Result<Scoped, QueryFault>
     ensures query { IfOk result (λ s. IsScoped catalog.now text.now (query_tree s.query) s.names) }
     ensures answers { IfOk result (λ s. (q : QueryTree) × (IsWritten text.now q
         × ((db : Database) (out : List Tree)
@@ -47,7 +47,7 @@ fn judged(alloc: Global, text: &str, catalog: &Catalog) -> Result<Scoped, QueryF
     ensures fault { IfErr result (λ e.
         (e ≡ QueryFault.Memory) ⊎ Refuses catalog.now text.now e) }
 {
-    let query = written(alloc, text)?;
+    let query = query_in(alloc, text)?;
     Ok(scope(alloc, query, catalog)?)
 }
 
@@ -70,5 +70,5 @@ pub fn read_query(alloc: Global, text: &str, catalog: &Catalog) -> Result<Scoped
     ensures only_fault { (fault : QueryFault) → Refuses catalog.now text.now fault
         → (result ≡ Err fault) ⊎ (result ≡ Err QueryFault.Memory) }
 {
-    judged(alloc, text, catalog)
+    judge(alloc, text, catalog)
 }

@@ -9,7 +9,7 @@ use aql_script::{LimitKind, limit_text};
 use aql_value::{OutOfMemory, Text};
 use std::alloc::Global;
 
-/// The text of a fault, as it stands on the error output behind `aql: `.
+/// The text of a fault, as it stands on the error output after `aql: `.
 pub fn query_fault_text(alloc: Global, fault: &QueryFault) -> Result<Text, OutOfMemory>
     ensures { IfOk result (λ t. t ≡ query_fault_text fault.now) }
 {

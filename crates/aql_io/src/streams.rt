@@ -104,8 +104,8 @@ impl<W: Write> Sink for StdSink<W> {
         ensures once { 0 < length piece.now → self.new.asked ≡ one_more self.old.asked }
         ensures counted { OnErr result (self.new.faults ≡ one_more self.old.faults) }
 
-        // What the writer took, where it tells it: all that was written, and it was flushed; after a
-        // failure what was not flushed, which is nothing where the write itself failed.
+        // What the writer took, where it tells it: all that was written, and it was flushed; after
+        // a failure what was not flushed, which is nothing where the write itself failed.
         ensures taken { IfOk result (λ n. Appends
             (W.contents self.old.stream) (W.contents self.new.stream) (take n piece.now)) }
         ensures flushed { OnOk result (0 < length piece.now → self.new.unflushed ≡ 0) }

@@ -5,7 +5,7 @@ use Rattle.std.proofs.lemmas.Bool.{false_from_ne_true}
 use Rattle.std.proofs.lemmas.Bool.Decides.{Decides-eqb}
 use Rattle.aql_doc.specs.Held.{Held}
 use Rattle.aql_script.specs.Pieces.{cut_at, pieces, onto}
-use Rattle.aql_script.specs.Lines.{Step, after, last, read, joined, without_cr}
+use Rattle.aql_script.specs.Lines.{Step, after, last, read, join_lines, without_cr}
 use Rattle.aql_script.specs.declared.loading.Loaded.{Loaded}
 use Rattle.aql_script.specs.declared.faults.LoadFault.{LoadFault}
 use Rattle.aql_script.specs.declared.faults.LoadFault.TheVariants.{Line}
@@ -101,20 +101,21 @@ shape c (b ∷ bytes) =
 pub one_piece : (c : ℕ) (bytes : List ℕ) → 1 ≤ length (pieces c bytes)
 one_piece c bytes = let e = ap length (shape c bytes).is in omega (arith, e)
 
-joined_onto : (b : ℕ) (ls : List (List ℕ)) → joined (onto b ls) ≡ b ∷ joined ls
+joined_onto : (b : ℕ) (ls : List (List ℕ)) → join_lines (onto b ls) ≡ b ∷ join_lines ls
 joined_onto b [] = refl
 joined_onto b (l ∷ []) = refl
 joined_onto b (l ∷ m ∷ ls) = refl
 
-joined_pieces : (bytes : List ℕ) → joined (pieces 10 bytes) ≡ bytes
+joined_pieces : (bytes : List ℕ) → join_lines (pieces 10 bytes) ≡ bytes
 joined_pieces [] = refl
 joined_pieces (b ∷ bytes) =
     elim (nat_eq b 10)
     as (λ t. nat_eq b 10 ≡ t
-    → joined (if t then [] ∷ pieces 10 bytes else onto b (pieces 10 bytes)) ≡ b ∷ bytes) [
+    → join_lines (if t then [] ∷ pieces 10 bytes else onto b (pieces 10 bytes)) ≡ b ∷ bytes) [
       | true ↦ λ e.
           (let s = shape 10 bytes in
-          ap (λ ls. joined ([] ∷ ls)) s.is ∙ ap (λ xs. 10 ∷ xs) (ap joined (sym s.is) ∙ joined_pieces bytes))
+          ap (λ ls. join_lines ([] ∷ ls)) s.is
+          ∙ ap (λ xs. 10 ∷ xs) (ap join_lines (sym s.is) ∙ joined_pieces bytes))
           ∙ ap (λ c. c ∷ bytes) (sym ((Decides-eqb b 10).0 e))
       | false ↦ λ e. joined_onto b (pieces 10 bytes) ∙ ap (λ xs. b ∷ xs) (joined_pieces bytes)
     ] refl
@@ -128,7 +129,7 @@ module _ (step : ℕ → List Held → List ℕ → Step) where
       let s = shape 10 r in
       let did = step (n + 1) held (without_cr l) in
       ap (λ ls. read step n held (l ∷ ls)) s.is
-      ∙ ap (λ ls. after (n + 1) did held (λ more. read step (n + 1) more ls) (joined ls)) (sym s.is)
+      ∙ ap (λ ls. after (n + 1) did held (λ more. read step (n + 1) more ls) (join_lines ls)) (sym s.is)
       ∙ ap (λ text. after (n + 1) did held (λ more. read step (n + 1) more (pieces 10 r)) text)
       (joined_pieces r)
 

@@ -1,4 +1,5 @@
--- Neither a declaration nor a document nor a line of JSON has want of memory as its fault: it comes to a call alone.
+-- Neither a declaration nor a document nor a line of JSON has want of memory as its fault: it comes to a call
+-- alone.
 use Rattle.std.proofs.Common.{ℕ, List, Bool, true, false, Option, Some, None, Ok, Err, if◌then◌else◌, ◌+◌, nat_lt, nat_le, length}
 use Rattle.std.specs.Prelude.{Result, ◌&&◌, not, is_some, bytes_eq, slice_get, codes, ◌++◌, ◌∷◌, []}
 use Rattle.std.specs.Str.{is_utf8}
@@ -90,7 +91,8 @@ beside_is name key None = tt
 beside_is name key (Some id) =
     one_of OfDocument (is_text (id_of name key) id) (Ok key) (Err IdMismatch) tt tt
 
-key_is : (name : List ℕ) (key : Tree) (id : Option Tree) → FaultIs OfDocument (documents.key_beside name key id)
+key_is : (name : List ℕ) (key : Tree) (id : Option Tree)
+    → FaultIs OfDocument (documents.key_beside name key id)
 key_is name (text key) id =
     one_of OfDocument (is_key key) (documents.id_beside name key id) (Err BadKey) (beside_is name key id) tt
 key_is name null id = tt

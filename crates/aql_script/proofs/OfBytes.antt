@@ -15,8 +15,8 @@ use Rattle.aql_doc.specs.declared.faults.DocFault.{DocFault}
 use Rattle.aql_doc.specs.declared.faults.DocFault.TheVariants.{NotObject, BadKey, IdMismatch, BadEdge, DuplicateKey, TooMany as DocTooMany, Memory as DocMemory}
 use Rattle.aql_script.specs.Pieces.{pieces, words, first_of}
 use Rattle.aql_script.specs.Directives.{directive}
-use Rattle.aql_script.specs.Lines.{Step, next, query, fault, after, last, read, with_query, without_cr, joined}
-use Rattle.aql_script.specs.Steps.{step, by_first, directed, by_directive, declaration, declaring, index, index_at, indexing, document, with_value, adding, doc_fault, json_fault, shards_of, keys_of}
+use Rattle.aql_script.specs.Lines.{Step, next, query, fault, after, last, read, with_query, without_cr, join_lines}
+use Rattle.aql_script.specs.Steps.{step, by_first, directive_step, by_directive, declaration, declare_step, index, index_at, index_step, document, with_value, add_step, doc_fault, json_fault, shards_of, keys_of}
 use Rattle.aql_script.specs.Script.{lines, script, HasFault, IsOfBytes}
 use Rattle.aql_script.proofs.LowerFaults.{FaultIs, OfCatalog, OfDocument, OfJson, declared_is, indexed_is, added_is, json_is}
 use Rattle.aql_script.specs.declared.loading.Loaded.{Loaded}
@@ -52,23 +52,24 @@ of_json n TooDeep h = tt
 of_json n NotWhole h = tt
 of_json n JsonMemory h = absurd h
 
-of_declaring : (n : ℕ) (r : Result (List Held) CatalogFault) → FaultIs OfCatalog r → StepOf (declaring n r)
+of_declaring : (n : ℕ) (r : Result (List Held) CatalogFault) → FaultIs OfCatalog r → StepOf (declare_step n r)
 of_declaring n (Ok held) h = tt
 of_declaring n (Err Twice) h = tt
 of_declaring n (Err TooMany) h = tt
 of_declaring n (Err CatalogMemory) h = absurd h
 
-of_indexing : (n : ℕ) (r : Result (List Held) CatalogFault) → FaultIs OfCatalog r → StepOf (indexing n r)
+of_indexing : (n : ℕ) (r : Result (List Held) CatalogFault) → FaultIs OfCatalog r → StepOf (index_step n r)
 of_indexing n (Ok held) h = tt
 of_indexing n (Err Twice) h = tt
 of_indexing n (Err TooMany) h = tt
 of_indexing n (Err CatalogMemory) h = absurd h
 
-of_adding : (n : ℕ) (r : Result (List Held) DocFault) → FaultIs OfDocument r → StepOf (adding n r)
+of_adding : (n : ℕ) (r : Result (List Held) DocFault) → FaultIs OfDocument r → StepOf (add_step n r)
 of_adding n (Ok held) h = tt
 of_adding n (Err e) h = of_doc n e h
 
-of_value : (n : ℕ) (held : List Held) (r : Result Tree JsonFault) → FaultIs OfJson r → StepOf (with_value n held r)
+of_value : (n : ℕ) (held : List Held) (r : Result Tree JsonFault) → FaultIs OfJson r
+    → StepOf (with_value n held r)
 of_value n held (Ok value) h =
     of_adding n (added held (length held - 1) value) (added_is held (length held - 1) value)
 of_value n held (Err e) h = of_json n e h
@@ -77,7 +78,7 @@ of_declaration : (n : ℕ) (held : List Held) (edge : Bool) (name : List ℕ) (o
     → StepOf (declaration n held edge name options)
 unfolding declaration
 of_declaration n held edge name options =
-    let does = declaring n (declared held name edge (shards_of options) (keys_of options)) in
+    let does = declare_step n (declared held name edge (shards_of options) (keys_of options)) in
     either (is_some (place_of held name)) (fault (Line n DeclaredTwice))
     (if nat_lt 32 (shards_of options) then fault (Limit (Shards n)) else does) tt
     (either (nat_lt 32 (shards_of options)) (fault (Limit (Shards n))) does tt
@@ -101,8 +102,8 @@ of_directive n held (Some (Declare edge name options)) = of_declaration n held e
 of_directive n held (Some (Index name attributes)) = of_index n held name attributes
 of_directive n held (Some Query) = tt
 
-of_directed : (n : ℕ) (held : List Held) (line : List ℕ) → StepOf (directed n held line)
-unfolding directed
+of_directed : (n : ℕ) (held : List Held) (line : List ℕ) → StepOf (directive_step n held line)
+unfolding directive_step
 of_directed n held line = of_directive n held (directive (words line))
 
 of_document : (n : ℕ) (held : List Held) (line : List ℕ) → StepOf (document n held line)
@@ -114,7 +115,7 @@ of_document n held line =
 of_first : (n : ℕ) (held : List Held) (line : List ℕ) (first : Option ℕ) → StepOf (by_first n held line first)
 of_first n held line None = tt
 of_first n held line (Some b) =
-    either (nat_eq b 37) (directed n held line) (document n held line) (of_directed n held line)
+    either (nat_eq b 37) (directive_step n held line) (document n held line) (of_directed n held line)
     (of_document n held line)
 
 of_step : (n : ℕ) (held : List Held) (line : List ℕ) → StepOf (step n held line)
@@ -151,14 +152,15 @@ of_read n held [] = tt
 of_read n held (l ∷ []) = of_last n held l
 of_read n held (l ∷ m ∷ ls) =
     of_after (n + 1) (step (n + 1) held (without_cr l)) held (λ more. read step (n + 1) more (m ∷ ls))
-    (joined (m ∷ ls)) (of_step (n + 1) held (without_cr l)) (λ more. of_read (n + 1) more (m ∷ ls))
+    (join_lines (m ∷ ls)) (of_step (n + 1) held (without_cr l)) (λ more. of_read (n + 1) more (m ∷ ls))
 
 pub fault_of_bytes : (bytes : List ℕ) (e : LoadFault) → HasFault bytes e → IsOfBytes e
 unfolding script
 fault_of_bytes bytes e h =
     subst (λ r. IfErr r IsOfBytes) h
     (elim (nat_le (length bytes) 67108864)
-    as (λ b. IfErr {T = Loaded} {E = LoadFault} (if b then lines bytes else Err (Limit ScriptBytes)) IsOfBytes) [
+    as (λ b. IfErr {T = Loaded} {E = LoadFault}
+    (if b then lines bytes else Err (Limit ScriptBytes)) IsOfBytes) [
       | true ↦ of_read 0 [] (pieces 10 bytes)
       | false ↦ tt
     ])

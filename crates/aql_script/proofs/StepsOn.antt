@@ -14,7 +14,7 @@ use Rattle.aql_doc.specs.declared.faults.DocFault.{DocFault}
 use Rattle.aql_doc.specs.declared.faults.DocFault.TheVariants.{Memory as DocMemory}
 use Rattle.aql_script.specs.Lines.{Step, next, fault}
 use Rattle.aql_script.specs.Meets.{Refuses}
-use Rattle.aql_script.specs.Steps.{declaration, declaring, declare_fault, index, index_at, indexing, index_fault, document, with_value, adding, doc_fault, json_fault, shards_of, keys_of}
+use Rattle.aql_script.specs.Steps.{declaration, declare_step, declare_fault, index, index_at, index_step, index_fault, document, with_value, add_step, doc_fault, json_fault, shards_of, keys_of}
 use Rattle.aql_script.specs.declared.options.Options.{Options}
 use Rattle.aql_script.specs.declared.faults.LoadFault.{LoadFault}
 use Rattle.aql_script.specs.declared.faults.LoadFault.TheVariants.{Limit, Line, Memory}
@@ -51,11 +51,11 @@ module _ (n : ℕ) (held : List Held) (edge : Bool) (name : List ℕ) (options :
   declared_as : (shards : ℕ) (keys : List (List ℕ)) (r : Result (List Held) CatalogFault)
       → is_some (place_of held name) ≡ false → shards ≤ 32 → shards ≡ shards_of options
       → keys ≡ keys_of options
-      → declared held name edge shards keys ≡ r → declaration n held edge name options ≡ declaring n r
+      → declared held name edge shards keys ≡ r → declaration n held edge name options ≡ declare_step n r
   unfolding declaration
   declared_as shards keys r e h s k d =
       let few : nat_lt 32 (shards_of options) ≡ false = grind (arith, h, s) in
-      picked _ _ _ _ _ e few ∙ ap (declaring n) (sym (ap₂ (λ x y. declared held name edge x y) s k) ∙ d)
+      picked _ _ _ _ _ e few ∙ ap (declare_step n) (sym (ap₂ (λ x y. declared held name edge x y) s k) ∙ d)
 
   pub declares : (shards : ℕ) (keys : List (List ℕ)) (more : List Held) → is_some (place_of held name) ≡ false
       → shards ≤ 32 → shards ≡ shards_of options → keys ≡ keys_of options
@@ -77,9 +77,9 @@ module _ (n : ℕ) (held : List Held) (name : List ℕ) (attributes : List (List
   unknown e = ap (index_at n held attributes) (sym e)
 
   indexed_as : (number : ℕ) (r : Result (List Held) CatalogFault) → Some number ≡ place_of held name
-      → indexed held number attributes ≡ r → index n held name attributes ≡ indexing n r
+      → indexed held number attributes ≡ r → index n held name attributes ≡ index_step n r
   unfolding index
-  indexed_as number r e d = ap (index_at n held attributes) (sym e) ∙ ap (indexing n) d
+  indexed_as number r e d = ap (index_at n held attributes) (sym e) ∙ ap (index_step n) d
 
   pub indexes : (number : ℕ) (more : List Held) → Some number ≡ place_of held name
       → indexed held number attributes ≡ Ok more → index n held name attributes ≡ next more
@@ -113,11 +113,11 @@ module _ (n : ℕ) (held : List Held) (line : List ℕ) where
   pub adds : (value : Tree) (number : ℕ) (more : List Held) → 0 < length held → json_line line ≡ Ok value
       → number ≡ length held - 1 → added held number value ≡ Ok more → document n held line ≡ next more
   adds value number more h j p a =
-      document_as (Ok value) h j ∙ ap (adding n) (ap (λ i. added held i value) (sym p) ∙ a)
+      document_as (Ok value) h j ∙ ap (add_step n) (ap (λ i. added held i value) (sym p) ∙ a)
 
   pub not_added : (value : Tree) (number : ℕ) (e : DocFault) → 0 < length held → json_line line ≡ Ok value
       → number ≡ length held - 1 → (e ≡ DocMemory) ⊎ (added held number value ≡ Err e)
       → Refuses (doc_fault n e) (document n held line)
   not_added value number e h j p =
       passed DocMemory e (doc_fault n) (added held number value ≡ Err e) (document n held line) refl
-      (λ a. document_as (Ok value) h j ∙ ap (adding n) (ap (λ i. added held i value) (sym p) ∙ a))
+      (λ a. document_as (Ok value) h j ∙ ap (add_step n) (ap (λ i. added held i value) (sym p) ∙ a))

@@ -1,13 +1,13 @@
 -- The words of a line, as they are found from left to right.
 use Rattle.std.proofs.Common.{◌≡◌, ◌<◌, ◌≤◌, ◌+◌, ◌-◌, ℕ, suc, zero, List, [], ◌∷◌, ◌++◌, true, false, refl, sym, ap, ◌∙◌, arith, length, take, drop, get_or, append_assoc}
-use Rattle.aql_script.specs.Pieces.{is_blank, ended, words_after}
+use Rattle.aql_script.specs.Pieces.{is_blank, end_word, words_after}
 
-ended_front : (w : List ℕ) (ws : List (List ℕ)) → ended w ws ≡ ended w [] ++ ws
+ended_front : (w : List ℕ) (ws : List (List ℕ)) → end_word w ws ≡ end_word w [] ++ ws
 ended_front [] ws = refl
 ended_front (b ∷ w) ws = refl
 
 at_blank : (w line : List ℕ) (i : ℕ) → i < length line → is_blank (get_or line i 0) ≡ true
-    → words_after w (drop i line) ≡ ended w (words_after [] (drop (i + 1) line))
+    → words_after w (drop i line) ≡ end_word w (words_after [] (drop (i + 1) line))
 at_blank w [] i l h = absurd (omega (arith, l))
 at_blank w (b ∷ bs) zero l h = rw h refl
 at_blank w (b ∷ bs) (suc i) l h = let e : suc i + 1 ≡ suc (i + 1) = omega arith in
@@ -46,13 +46,13 @@ letter out line start i whole s l h inv =
 
 pub blank : (out next : List (List ℕ)) (line : List ℕ) (start i : ℕ) (whole : List (List ℕ))
     → i < length line → is_blank (get_or line i 0) ≡ true
-    → next ≡ out ++ ended (take (i - start) (drop start line)) []
+    → next ≡ out ++ end_word (take (i - start) (drop start line)) []
     → out ++ words_after (take (i - start) (drop start line)) (drop i line) ≡ whole
     → next ++ words_after (take (i + 1 - (i + 1)) (drop (i + 1) line)) (drop (i + 1) line) ≡ whole
 blank out next line start i whole l h e inv =
     let z : i + 1 - (i + 1) ≡ 0 = omega arith in
     rw z (ap (λ ws. ws ++ words_after [] (drop (i + 1) line)) e
-    ∙ append_assoc out (ended (take (i - start) (drop start line)) []) (words_after [] (drop (i + 1) line))
+    ∙ append_assoc out (end_word (take (i - start) (drop start line)) []) (words_after [] (drop (i + 1) line))
     ∙ ap (λ ws. out ++ ws)
     (sym (ended_front (take (i - start) (drop start line)) (words_after [] (drop (i + 1) line)))
     ∙ sym (at_blank (take (i - start) (drop start line)) line i l h)) ∙ inv)

@@ -44,13 +44,13 @@ abbrev pub declaration : Bool → List (List ℕ) → Option Directive
 declaration edge [] = None
 declaration edge (name ∷ options) = declare edge (name_in name) (options_in (Some no_options) options)
 
-abbrev pub indexing : Option (List ℕ) → Option (List (List ℕ)) → Option Directive
-indexing (Some name) (Some attributes) = Some (Index name attributes)
-indexing (Some name) None = None
-indexing None attributes = None
+abbrev pub index_directive : Option (List ℕ) → Option (List (List ℕ)) → Option Directive
+index_directive (Some name) (Some attributes) = Some (Index name attributes)
+index_directive (Some name) None = None
+index_directive None attributes = None
 
 abbrev pub index : List (List ℕ) → Option Directive
-index (name ∷ attributes ∷ []) = indexing (name_in name) (names_in attributes)
+index (name ∷ attributes ∷ []) = index_directive (name_in name) (names_in attributes)
 index words = None
 
 abbrev pub query_alone : List (List ℕ) → Option Directive

@@ -1,5 +1,5 @@
 -- The lines of a script, read in order. A line ends with a line feed, and a carriage return just before it is
--- dropped; the last line may lack the line feed. Every byte behind the line `%query` is the query's text.
+-- dropped; the last line may lack the line feed. Every byte after the line `%query` is the query's text.
 use Rattle.std.specs.Prelude.{ℕ, List, [], ◌∷◌, ◌++◌, Result, Ok, Err, nat_eq, if◌then◌else◌, ◌+◌, ◌-◌, length, take, slice_index}
 use Rattle.std.specs.Str.{is_utf8}
 use Rattle.aql_doc.specs.Held.{Held}
@@ -9,10 +9,10 @@ use Rattle.aql_script.specs.declared.faults.LoadFault.TheVariants.{Line}
 use Rattle.aql_script.specs.declared.faults.LineKind.TheVariants.{NoQuery, QueryNotUtf8}
 
 -- lines put together again
-abbrev pub joined : List (List ℕ) → List ℕ
-joined [] = []
-joined (l ∷ []) = l
-joined (l ∷ m ∷ ls) = l ++ 10 ∷ joined (m ∷ ls)
+abbrev pub join_lines : List (List ℕ) → List ℕ
+join_lines [] = []
+join_lines (l ∷ []) = l
+join_lines (l ∷ m ∷ ls) = l ++ 10 ∷ join_lines (m ∷ ls)
 
 abbrev pub without_cr : List ℕ → List ℕ
 without_cr l = if nat_eq (slice_index l (length l - 1)) 13 then take (length l - 1) l else l
@@ -23,12 +23,12 @@ pub data Step : Type 0 where
   query : Step
   fault : LoadFault → Step
 
--- the script whose query stands behind line n
+-- the script whose query stands after line n
 abbrev pub with_query : ℕ → List Held → List ℕ → Result Loaded LoadFault
 with_query n held text =
     if is_utf8 text then Ok (record { catalog = held; query = text }) else Err (Line n QueryNotUtf8)
 
--- what comes of line n, where the lines behind it go on from what is held then
+-- what comes of line n, where the lines after it go on from what is held then
 abbrev pub after : ℕ → Step → List Held → (List Held → Result Loaded LoadFault) → List ℕ
     → Result Loaded LoadFault
 after n (next more) held go text = go more
@@ -42,10 +42,10 @@ module _ (step : ℕ → List Held → List ℕ → Step) where
   last n held (b ∷ l) =
       after (n + 1) (step (n + 1) held (b ∷ l)) held (λ more. Err (Line (n + 1) NoQuery)) []
 
-  -- what the lines behind line n are, where this is held
+  -- what the lines after line n are, where this is held
   abbrev pub read : ℕ → List Held → List (List ℕ) → Result Loaded LoadFault
   read n held [] = Err (Line n NoQuery)
   read n held (l ∷ []) = last n held l
   read n held (l ∷ m ∷ ls) =
       after (n + 1) (step (n + 1) held (without_cr l)) held (λ more. read (n + 1) more (m ∷ ls))
-      (joined (m ∷ ls))
+      (join_lines (m ∷ ls))

@@ -1,5 +1,5 @@
--- The names and numbers in directives. The name of a collection is a letter or `_` and then letters, digits, `_` and
--- `-` (AQL fundamentals, Syntax, Names); an attribute's is one or more letters, digits and `_`.
+-- The names and numbers in directives. The name of a collection is a letter or `_` and then letters, digits,
+-- `_` and `-` (AQL fundamentals, Syntax, Names); an attribute's is one or more letters, digits and `_`.
 use Rattle.std.specs.Prelude.{ℕ, List, [], ◌∷◌, Bool, false, ◌&&◌, ◌||◌, ◌+◌, ◌*◌, ◌-◌, min, nat_eq, nat_le, nat_lt, length, Option, Some, None, if◌then◌else◌}
 use Rattle.std.specs.List.{list_all}
 use Rattle.aql_script.specs.Pieces.{pieces}
@@ -44,7 +44,7 @@ names_of parts = if nat_le (length parts) 8 then all_attributes parts else None
 unfoldable pub names_in : List ℕ → Option (List (List ℕ))
 names_in word = names_of (pieces 44 word)
 
--- the number that digits write behind those of n
+-- the number that digits write after those of n
 abbrev pub decimal : ℕ → List ℕ → ℕ
 decimal n [] = n
 decimal n (b ∷ digits) = decimal (10 * n + (b - 48)) digits

@@ -1,5 +1,5 @@
--- The script that bytes are, or its first fault: at most 67,108,864 bytes, and then the lines in order. And what
--- a call that loads a script from a source says of the source.
+-- The script that bytes are, or its first fault: at most 67,108,864 bytes, and then the lines in order. And
+-- what a call that loads a script from a source says of the source.
 use Rattle.std.specs.Prelude.{◌≡◌, ◌≤◌, ℕ, List, [], Result, Ok, Err, Option, length, nat_le, if◌then◌else◌}
 use Rattle.std.specs.Io.KnownBytes.{IsAtEnd}
 use Rattle.aql_io.specs.Bytes.{HandsOut}

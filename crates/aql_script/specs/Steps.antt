@@ -1,5 +1,5 @@
--- What one line of a script does, or its first fault. A line of blanks is skipped; one whose first other byte is `%`
--- is a directive; every other line is a document of the collection declared last.
+-- What one line of a script does, or its first fault. A line of blanks is skipped; one whose first other byte
+-- is `%` is a directive; every other line is a document of the collection declared last.
 use Rattle.std.specs.Prelude.{ℕ, List, [], ◌∷◌, ◌-◌, Bool, Option, Some, None, Result, Ok, Err, is_some, codes, length, nat_eq, nat_lt, unwrap_or, if◌then◌else◌}
 use Rattle.aql_value.specs.Tree.{Tree}
 use Rattle.aql_value.specs.JsonLine.{json_line}
@@ -35,15 +35,15 @@ declare_fault n Twice = Line n DeclaredTwice
 declare_fault n TooMany = Limit (Collections n)
 declare_fault n CatalogMemory = Memory
 
-abbrev pub declaring : ℕ → Result (List Held) CatalogFault → Step
-declaring n (Ok held) = next held
-declaring n (Err e) = fault (declare_fault n e)
+abbrev pub declare_step : ℕ → Result (List Held) CatalogFault → Step
+declare_step n (Ok held) = next held
+declare_step n (Err e) = fault (declare_fault n e)
 
 unfoldable pub declaration : ℕ → List Held → Bool → List ℕ → Options → Step
 declaration n held edge name options =
     if is_some (place_of held name) then fault (Line n DeclaredTwice)
     else (if nat_lt 32 (shards_of options) then fault (Limit (Shards n))
-    else declaring n (declared held name edge (shards_of options) (keys_of options)))
+    else declare_step n (declared held name edge (shards_of options) (keys_of options)))
 
 -- an index is never declared twice
 abbrev pub index_fault : ℕ → CatalogFault → LoadFault
@@ -51,12 +51,12 @@ index_fault n Twice = Limit (Indexes n)
 index_fault n TooMany = Limit (Indexes n)
 index_fault n CatalogMemory = Memory
 
-abbrev pub indexing : ℕ → Result (List Held) CatalogFault → Step
-indexing n (Ok held) = next held
-indexing n (Err e) = fault (index_fault n e)
+abbrev pub index_step : ℕ → Result (List Held) CatalogFault → Step
+index_step n (Ok held) = next held
+index_step n (Err e) = fault (index_fault n e)
 
 abbrev pub index_at : ℕ → List Held → List (List ℕ) → Option ℕ → Step
-index_at n held attributes (Some number) = indexing n (indexed held number attributes)
+index_at n held attributes (Some number) = index_step n (indexed held number attributes)
 index_at n held attributes None = fault (Line n UnknownCollection)
 
 unfoldable pub index : ℕ → List Held → List ℕ → List (List ℕ) → Step
@@ -68,8 +68,8 @@ by_directive n held (Some (Declare edge name options)) = declaration n held edge
 by_directive n held (Some (Index name attributes)) = index n held name attributes
 by_directive n held (Some Query) = query
 
-unfoldable pub directed : ℕ → List Held → List ℕ → Step
-directed n held line = by_directive n held (directive (words line))
+unfoldable pub directive_step : ℕ → List Held → List ℕ → Step
+directive_step n held line = by_directive n held (directive (words line))
 
 abbrev pub doc_fault : ℕ → DocFault → LoadFault
 doc_fault n DocNotObject = Line n NotObject
@@ -86,12 +86,12 @@ json_fault n TooDeep = Limit (JsonDepth n)
 json_fault n LineNotWhole = Line n NotWhole
 json_fault n JsonMemory = Memory
 
-abbrev pub adding : ℕ → Result (List Held) DocFault → Step
-adding n (Ok held) = next held
-adding n (Err e) = fault (doc_fault n e)
+abbrev pub add_step : ℕ → Result (List Held) DocFault → Step
+add_step n (Ok held) = next held
+add_step n (Err e) = fault (doc_fault n e)
 
 abbrev pub with_value : ℕ → List Held → Result Tree JsonFault → Step
-with_value n held (Ok value) = adding n (added held (length held - 1) value)
+with_value n held (Ok value) = add_step n (added held (length held - 1) value)
 with_value n held (Err e) = fault (json_fault n e)
 
 unfoldable pub document : ℕ → List Held → List ℕ → Step
@@ -100,7 +100,7 @@ document n held line =
 
 abbrev pub by_first : ℕ → List Held → List ℕ → Option ℕ → Step
 by_first n held line None = next held
-by_first n held line (Some b) = if nat_eq b 37 then directed n held line else document n held line
+by_first n held line (Some b) = if nat_eq b 37 then directive_step n held line else document n held line
 
 -- what line n does to what is held
 unfoldable pub step : ℕ → List Held → List ℕ → Step

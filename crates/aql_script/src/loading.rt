@@ -55,8 +55,8 @@ pub fn load<S: Source>(alloc: Global, source: &mut S) -> Result<Loaded, LoadFaul
     }
 }
 
-/// The fault of a script's bytes is that of a line or a limit: want of memory and a failed read come
-/// to a call alone.
+/// The fault of a script's bytes is that of a line or a limit: want of memory and a failed read
+/// come to a call alone.
 pub fn bytes_have_no_other_fault()
     ensures { (bytes : List ℕ) (fault : LoadFault) → HasFault bytes fault → IsOfBytes fault }
 {}
@@ -71,7 +71,7 @@ fn without_cr(line: &[u8]) -> &[u8]
     line
 }
 
-// The script whose query stands behind a line.
+// The script whose query stands after a line.
 fn with_query(alloc: Global, line: u32, catalog: Catalog, text: &[u8]) -> Result<Loaded, LoadFault>
     ensures { Meets result (with_query line catalog text.now) }
 {
@@ -96,16 +96,16 @@ fn load_lines(alloc: Global, bytes: &[u8]) -> Result<Loaded, LoadFault>
     let mut rest = bytes;
     let mut line: u32 = 0;
     'lines: loop {
-        let Some((piece, behind)) = cut_at(b'\n', rest) else {
+        let Some((piece, after)) = cut_at(b'\n', rest) else {
             return load_last(alloc, line, catalog, rest);
         };
         line += 1;
         match take_line(alloc, line, &mut catalog, without_cr(piece)) {
             Ok(true) => {}
-            Ok(false) => return with_query(alloc, line, catalog, behind),
+            Ok(false) => return with_query(alloc, line, catalog, after),
             Err(fault) => return Err(fault),
         }
-        rest = behind;
+        rest = after;
     }
 }
 

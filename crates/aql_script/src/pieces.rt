@@ -1,13 +1,13 @@
 //! Bytes cut into pieces: lines, words and lists of names.
 
 ghost use Rattle.std.specs.Prelude.{◌≡◌, ◌++◌, ◌∷◌, [], IfOk, OnOk, map, option_map};
-ghost use Rattle.aql_script.specs.Pieces.{cut_at, pieces, is_blank, words, ended, first_of};
+ghost use Rattle.aql_script.specs.Pieces.{cut_at, pieces, is_blank, words, end_word, first_of};
 
 use aql_value::OutOfMemory;
 use memchr::memchr;
 use std::alloc::Global;
 
-// What stands before and behind the first place of a byte.
+// What stands before and after the first place of a byte.
 pub(crate) fn cut_at(at: u8, bytes: &[u8]) -> Option<(&[u8], &[u8])>
     ensures { option_map (λ p. (p.0.now, p.1.now)) result ≡ cut_at at bytes.now }
 {
@@ -27,9 +27,9 @@ pub(crate) fn pieces<'a>(
 {
     let mut out: Vec<&'a [u8]> = Vec::new(alloc);
     let mut rest = bytes;
-    'cuts: while let Some((piece, behind)) = cut_at(at, rest) {
+    'cuts: while let Some((piece, after)) = cut_at(at, rest) {
         add(&mut out, piece)?;
-        rest = behind;
+        rest = after;
     }
     add(&mut out, rest)?;
     Ok(out)
@@ -69,7 +69,7 @@ pub(crate) fn words<'a>(alloc: Global, line: &'a [u8]) -> Result<Vec<&'a [u8]>, 
 // A word ends, unless it has no byte.
 fn end_word<'a>(out: &mut Vec<&'a [u8]>, word: &'a [u8]) -> Result<(), OutOfMemory>
     ensures { OnOk result
-        (map (λ w. w.now) out.new.items ≡ map (λ w. w.now) out.old.items ++ ended word.now []) }
+        (map (λ w. w.now) out.new.items ≡ map (λ w. w.now) out.old.items ++ end_word word.now []) }
 {
     if word.len() > 0 {
         add(out, word)?;
@@ -81,10 +81,5 @@ fn end_word<'a>(out: &mut Vec<&'a [u8]>, word: &'a [u8]) -> Result<(), OutOfMemo
 pub(crate) fn first_of(line: &[u8]) -> Option<u8>
     ensures { result ≡ first_of line.now }
 {
-    for b in line {
-        if !is_blank(*b) {
-            return Some(*b);
-        }
-    }
-    None
+    line.iter().copied().find(|b| !is_blank(*b))
 }

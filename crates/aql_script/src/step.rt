@@ -4,7 +4,7 @@ ghost use Rattle.std.specs.Prelude.{◌≡◌, ◌≤◌, length, IfOk, IfErr, O
 ghost use Rattle.std.specs.Bool.{MatchBool};
 ghost use Rattle.aql_script.specs.Lines.{next, query};
 ghost use Rattle.aql_script.specs.Meets.{Refuses};
-ghost use Rattle.aql_script.specs.Steps.{step, directed, declaration, index, document};
+ghost use Rattle.aql_script.specs.Steps.{step, directive_step, declaration, index, document};
 ghost use Rattle.aql_script.specs.Steps.{keys_of, shards_of, declare_fault, index_fault, doc_fault, json_fault};
 ghost use Rattle.aql_script.specs.declared.faults.LoadFault.TheVariants.{Line};
 
@@ -20,7 +20,7 @@ use std::alloc::Global;
 /// The most bytes of a line before the query.
 const LINE_BYTES: usize = 1_048_576;
 
-// Takes one line, and says whether more lines follow: none behind `%query`.
+// Takes one line, and says whether more lines follow: none after `%query`.
 #[tactic(auto, unfolding(crate::specs::Steps::step))]
 pub(crate) fn take_line(
     alloc: Global,
@@ -47,7 +47,7 @@ pub(crate) fn take_line(
     }
 }
 
-#[tactic(auto, unfolding(crate::specs::Steps::directed))]
+#[tactic(auto, unfolding(crate::specs::Steps::directive_step))]
 fn take_directive(
     alloc: Global,
     line: u32,
@@ -55,9 +55,9 @@ fn take_directive(
     bytes: &[u8],
 ) -> Result<bool, LoadFault>
     ensures { MatchResult result
-        (λ more. MatchBool more (directed line catalog.old bytes.now ≡ next catalog.new)
-        ((directed line catalog.old bytes.now ≡ query) × (catalog.new ≡ catalog.old)))
-        (λ e. Refuses e (directed line catalog.old bytes.now)) }
+        (λ more. MatchBool more (directive_step line catalog.old bytes.now ≡ next catalog.new)
+        ((directive_step line catalog.old bytes.now ≡ query) × (catalog.new ≡ catalog.old)))
+        (λ e. Refuses e (directive_step line catalog.old bytes.now)) }
 {
     let words = words(alloc, bytes)?;
     match directive_in(alloc, words.as_slice())? {

@@ -5,7 +5,7 @@ use crate::{LimitKind, LineKind, LoadFault};
 use aql_value::{OutOfMemory, Text};
 use std::alloc::Global;
 
-/// The text of a fault, as it stands on the error output behind `aql: `.
+/// The text of a fault, as it stands on the error output after `aql: `.
 pub fn fault_text(alloc: Global, fault: LoadFault) -> Result<Text, OutOfMemory>
     ensures { IfOk result (λ t. t ≡ fault_text fault) }
 {
@@ -17,7 +17,7 @@ pub fn fault_text(alloc: Global, fault: LoadFault) -> Result<Text, OutOfMemory>
     }
 }
 
-/// The text of a limit that is exceeded, as it stands on the error output behind `aql: `.
+/// The text of a limit that is exceeded, as it stands on the error output after `aql: `.
 pub fn limit_text(alloc: Global, kind: LimitKind) -> Result<Text, OutOfMemory>
     ensures { IfOk result (λ t. t ≡ limit_text kind) }
 {

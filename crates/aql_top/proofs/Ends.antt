@@ -4,7 +4,6 @@ use Rattle.std.specs.Prelude.{IsSome, IsSomeAnd, IfSome, Result, codes}
 use Rattle.aql_script.specs.Script.{IsScript, HasFault, IsOfBytes}
 use Rattle.aql_script.specs.declared.loading.Loaded.{Loaded}
 use Rattle.aql_script.specs.declared.faults.LoadFault.{LoadFault}
-use Rattle.aql_script.specs.declared.faults.LoadFault.TheVariants as load
 use Rattle.aql_tree.specs.Tree.{QueryTree}
 use Rattle.aql_lift.specs.Lifting.{scoped}
 use Rattle.aql_front.specs.declared.faults.QueryFault.{QueryFault}
@@ -14,11 +13,10 @@ use Rattle.aql_front.specs.Texts.{query_fault_text}
 use Rattle.aql_front.proofs.Once.{only_query, only_fault, written_once}
 use Rattle.aql_run.specs.Forms.{runs}
 use Rattle.aql_top.specs.Forms.{TakesWords, ReadsAs, IsScriptWith, Accepts, HasOtherQuery, HasQueryFault}
-use Rattle.aql_top.specs.Reasons.{fault_status, query_status, Deserves, IsTextOf, told}
+use Rattle.aql_top.specs.Reasons.{fault_status, query_status, Deserves, IsTextOf, as_line}
 use Rattle.aql_top.specs.Faults.{Leads, status_of, line_of, IsMade}
 use Rattle.aql_top.specs.declared.faults.RunFault.{RunFault}
 use Rattle.aql_top.specs.declared.faults.RunFault.TheVariants.{Words, Read, Script, Query, NotYet, Write, Memory}
-use Rattle.aql_top.proofs.Loading.{query_is_late}
 
 -- ---- bytes are one script, or have one fault
 
@@ -56,7 +54,8 @@ one_refusal l e f p q =
 
 one_form : (l : Loaded) (b c : Bool) → ReadsAs l b → ReadsAs l c → b ≡ c
 one_form l b c p q =
-    let e = ap (λ t. runs (scoped [] 1 t).tree) (written_once l.query p.query q.query p.is_written q.is_written) in
+    let e = ap (λ t. runs (scoped [] 1 t).tree)
+    (written_once l.query p.query q.query p.is_written q.is_written) in
     sym p.form_is ∙ e ∙ q.form_is
 
 no_query_fault : (bytes : List ℕ) (form : Bool) (f : QueryFault) → IsScriptWith (λ l. ReadsAs l form) bytes
@@ -112,41 +111,12 @@ pub told_leads : (e t : RunFault) (words : List (List ℕ)) (input : Option (Lis
 told_leads e t words input (inl same) h = subst (λ x. Leads x words input) (sym same) h
 told_leads e t words input (inr made) h = subst (λ x. Leads x words input) (sym made.0) tt
 
--- a fault whose line is made comes of no failed read and no failed write
-made_status : (e : RunFault) (words : List (List ℕ)) (input : Option (List ℕ)) → IsMade e
-    → Leads e words input → (status_of e ≢ 6) × (status_of e ≢ 7)
-made_status (Script load.Read) words input m h = absurd h.1
-made_status (Script load.Memory) words input m h = absurd h.1
-made_status (Script (load.Line n kind)) words input m h = (λ e. omega (arith, e), λ e. omega (arith, e))
-made_status (Script (load.Limit kind)) words input m h = (λ e. omega (arith, e), λ e. omega (arith, e))
-made_status (Query fault) words input m h = let late = query_is_late fault in (late.1, late.2)
-made_status Words words input m h = absurd m
-made_status Read words input m h = absurd m
-made_status NotYet words input m h = absurd m
-made_status Write words input m h = absurd m
-made_status Memory words input m h = absurd m
-
--- what holds at one of the early statuses holds where the fault is told with it
-pub told_at : (e t : RunFault) (n : ℕ) (P : Type 0) → IsToldAs e t → (8 ≢ n) → (status_of e ≡ n → P)
-    → status_of t ≡ n → P
-told_at e t n P (inl same) other h at = h (ap status_of (sym same) ∙ at)
-told_at e t n P (inr made) other h at = absurd (other (ap status_of (sym made.0) ∙ at))
-
-pub told_not_6 : (e t : RunFault) (words : List (List ℕ)) (input : Option (List ℕ)) (P : Type 0)
-    → Leads e words input → IsToldAs e t → (status_of e ≢ 6 → P) → status_of t ≢ 6 → P
-told_not_6 e t words input P l (inl same) h other = h (λ six. other (ap status_of same ∙ six))
-told_not_6 e t words input P l (inr made) h other = h (made_status e words input made.1 l).0
-
-pub told_not_7 : (e t : RunFault) (words : List (List ℕ)) (input : Option (List ℕ)) (P : Type 0)
-    → Leads e words input → IsToldAs e t → (status_of e ≢ 7 → P) → status_of t ≢ 7 → P
-told_not_7 e t words input P l (inl same) h other = h (λ seven. other (ap status_of same ∙ seven))
-told_not_7 e t words input P l (inr made) h other = h (made_status e words input made.1 l).1
-
 -- ---- which status comes of what leads to a fault
 
 module _ (words : List (List ℕ)) where
   pub deserved : (e : RunFault) (input : Option (List ℕ)) → Leads e words input
-      → (text : List ℕ) × ((Deserves input (status_of e) text ⊎ IsTextOf (status_of e) text) × (told text ≡ line_of e))
+      → (text : List ℕ) × ((Deserves input (status_of e) text ⊎ IsTextOf (status_of e) text)
+      × (as_line text ≡ line_of e))
   deserved Words input h = (codes "words", (inr IsTextOf.bad_words, refl))
   deserved Read input h = (codes "read fault", (inr IsTextOf.read_fault, refl))
   deserved (Script fault) input h = (_, (inl (Deserves.bad_script fault h.1 h.2), refl))
@@ -154,20 +124,6 @@ module _ (words : List (List ℕ)) where
   deserved NotYet input h = (codes "not yet", (inl (Deserves.other_form h.1), refl))
   deserved Write input h = (codes "write fault", (inr IsTextOf.write_fault, refl))
   deserved Memory input h = (codes "out of memory", (inr IsTextOf.no_memory, refl))
-
-  pub words_refused : (e : RunFault) (input : Option (List ℕ)) → Leads e words input
-      → (status_of e ≡ 8) ⊎ ((status_of e ≡ 2 → TakesWords words → ⊥) × ((TakesWords words → ⊥) → status_of e ≡ 2))
-  words_refused Words input h = inr (λ _. h, λ _. refl)
-  words_refused Memory input h = inl refl
-  words_refused Read input h = inr (λ e. absurd (omega (arith, e)), λ n. absurd (n h))
-  words_refused (Script load.Read) input h = absurd h.1
-  words_refused (Script load.Memory) input h = absurd h.1
-  words_refused (Script (load.Line n kind)) input h = inr (λ e. absurd (omega (arith, e)), λ n. absurd (n h.0))
-  words_refused (Script (load.Limit kind)) input h = inr (λ e. absurd (omega (arith, e)), λ n. absurd (n h.0))
-  words_refused (Query fault) input h =
-      inr (λ e. absurd ((query_is_late fault).0 e), λ n. absurd (n h.0))
-  words_refused NotYet input h = inr (λ e. absurd (omega (arith, e)), λ n. absurd (n h.0))
-  words_refused Write input h = inr (λ e. absurd (omega (arith, e)), λ n. absurd (n h.0))
 
   module _ (takes : TakesWords words) where
     refuses : (s : ℕ) (t : List ℕ) (e : RunFault) (bytes : List ℕ) → Leads e words (Some bytes)

@@ -51,7 +51,8 @@ first_fault : (e : LoadFault) (before after : Option (List ℕ)) → IsFaulty e 
     → IfSome before (λ bytes. HasFault bytes e)
 first_fault e None after h = tt
 first_fault e (Some input) None h = absurd h.consumed
-first_fault e (Some input) (Some rest) h = same_fault e input h.taken rest _ refl h.consumed h.holds.0 h.holds.1
+first_fault e (Some input) (Some rest) h =
+    same_fault e input h.taken rest _ refl h.consumed h.holds.0 h.holds.1
 
 -- ---- a fault of loading
 
@@ -127,7 +128,7 @@ late_8 = (λ e. omega (arith, e), λ e. omega (arith, e), λ e. omega (arith, e)
 late_9 : IsLate 9
 late_9 = (λ e. omega (arith, e), λ e. omega (arith, e), λ e. omega (arith, e))
 
-pub query_is_late : (fault : QueryFault) → IsLate (query_status fault)
+query_is_late : (fault : QueryFault) → IsLate (query_status fault)
 query_is_late query.TooLong = late_5
 query_is_late (query.Lexical place kind) = late_4
 query_is_late query.TooDeep = late_5
@@ -137,7 +138,8 @@ query_is_late query.WalkTooDeep = late_5
 query_is_late (query.Scope fault) = late_4
 query_is_late query.Memory = late_8
 
-pub no_lines_status : (loaded : Loaded) (fault : RunFault) → HasNoLines loaded fault → IsLate (status_of fault)
+pub no_lines_status : (loaded : Loaded) (fault : RunFault) → HasNoLines loaded fault
+    → IsLate (status_of fault)
 no_lines_status loaded run.Words n = absurd n
 no_lines_status loaded run.Read n = absurd n
 no_lines_status loaded (run.Script fault) n = absurd n

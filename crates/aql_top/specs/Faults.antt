@@ -10,7 +10,7 @@ use Rattle.aql_front.specs.declared.faults.QueryFault.TheVariants as query
 use Rattle.aql_front.specs.Reading.{Refuses}
 use Rattle.aql_front.specs.Texts.{query_fault_text}
 use Rattle.aql_top.specs.Forms.{TakesWords, ReadsAs, Accepts, HasOtherQuery, HasQueryFault}
-use Rattle.aql_top.specs.Reasons.{fault_status, query_status, told}
+use Rattle.aql_top.specs.Reasons.{fault_status, query_status, as_line}
 use Rattle.aql_top.specs.declared.faults.RunFault.{RunFault}
 use Rattle.aql_top.specs.declared.faults.RunFault.TheVariants.{Words, Read, Script, Query, NotYet, Write, Memory}
 
@@ -53,13 +53,13 @@ status_of Write = 7
 status_of Memory = 8
 
 abbrev pub line_of : RunFault → List ℕ
-line_of Words = told (codes "words")
-line_of Read = told (codes "read fault")
-line_of (Script fault) = told (fault_text fault)
-line_of (Query fault) = told (query_fault_text fault)
-line_of NotYet = told (codes "not yet")
-line_of Write = told (codes "write fault")
-line_of Memory = told (codes "out of memory")
+line_of Words = as_line (codes "words")
+line_of Read = as_line (codes "read fault")
+line_of (Script fault) = as_line (fault_text fault)
+line_of (Query fault) = as_line (query_fault_text fault)
+line_of NotYet = as_line (codes "not yet")
+line_of Write = as_line (codes "write fault")
+line_of Memory = as_line (codes "out of memory")
 
 -- its line is made in memory
 abbrev pub IsMade : RunFault → Type 0

@@ -22,13 +22,13 @@ pub record ReadsAs (loaded : Loaded) (form : Bool) : Type 0 where
   pub no_fault : first_fault loaded.catalog query ≡ None
   pub form_is : runs (scoped [] 1 query).tree ≡ form
 
--- the text of the script's query spells a query without fault, and the text is exactly the lines of one answer
--- that the meaning allows for this query as it is written
-pub record Answers (loaded : Loaded) (text : List ℕ) : Type 0 where
+-- the text of the script's query spells a query without fault, and these bytes are exactly the lines of one
+-- answer that the meaning allows for that query as it is written
+pub record Answers (loaded : Loaded) (bytes : List ℕ) : Type 0 where
   pub query : QueryTree
   pub is_written : IsWritten loaded.query query
   pub no_fault : first_fault loaded.catalog query ≡ None
-  pub shows : Shows loaded.catalog query text
+  pub shows : Shows loaded.catalog query bytes
 
 -- the bytes are a script of which something holds
 abbrev pub IsScriptWith : (Loaded → Type 0) → List ℕ → Type 0

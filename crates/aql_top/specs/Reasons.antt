@@ -46,8 +46,8 @@ pub data IsTextOf : ℕ → List ℕ → Type 0 where
   no_memory : IsTextOf 8 (codes "out of memory")
 
 -- a text as a line on the error output
-abbrev pub told : List ℕ → List ℕ
-told text = codes "aql: " ++ (text ++ 10 ∷ [])
+abbrev pub as_line : List ℕ → List ℕ
+as_line text = codes "aql: " ++ (text ++ 10 ∷ [])
 
 -- what was written to the error output: the line, or the front of it where that output failed
 abbrev pub Tells : List ℕ → Option (List ℕ) → Option (List ℕ) → ℕ → ℕ → Type 0

@@ -4,7 +4,7 @@ ghost use Rattle.std.specs.Prelude.{◌≡◌, ◌≢◌, ◌⊎◌, ◌↔◌, 
 ghost use Rattle.std.specs.Io.KnownBytes.{Appends, IsAtEnd};
 ghost use Rattle.aql_io.specs.Bytes.{AppendsPrefix};
 ghost use Rattle.aql_top.specs.Forms.{TakesWords, Accepts};
-ghost use Rattle.aql_top.specs.Reasons.{fault_status, query_status, Deserves, IsTextOf, told, Tells, Prints, RoseWhere};
+ghost use Rattle.aql_top.specs.Reasons.{fault_status, query_status, Deserves, IsTextOf, as_line, Tells, Prints, RoseWhere};
 ghost use Rattle.aql_top.specs.Faults.{Leads, status_of, line_of, IsMade};
 ghost use Rattle.aql_top.specs.declared.faults.RunFault.TheVariants.{Memory};
 
@@ -59,7 +59,7 @@ pub fn run_shell<S: Source, K: Sink, E: Sink>(
     // Each status but 0 has its text: 3, 4, 5 and 9 the one that the bytes of the source deserve.
     ensures line { (result ≢ 0) → (text : List ℕ)
         × (Deserves (S.left source.old) result text ⊎ IsTextOf result text)
-        × Tells (told text) (E.written err.old) (E.written err.new)
+        × Tells (as_line text) (E.written err.old) (E.written err.new)
         (E.faults err.old) (E.faults err.new) }
 
     // What the bytes deserve comes, unless a read fails or memory runs out; where nothing stands
@@ -175,7 +175,7 @@ fn fixed_line(fault: &RunFault) -> Option<&'static [u8]>
     }
 }
 
-// Writes the line of a fault, and gives the fault: want of memory where there was none for the line.
+// Writes the line of a fault, and gives the fault, or want of memory where the line found none.
 fn tell<E: Sink>(alloc: Global, fault: RunFault, err: &mut E) -> RunFault
     ensures line { Tells (line_of result) (E.written err.old) (E.written err.new)
         (E.faults err.old) (E.faults err.new) }
@@ -219,7 +219,7 @@ fn made_line(alloc: Global, fault: &RunFault) -> Result<String, OutOfMemory>
 
 fn made_text(alloc: Global, fault: &RunFault) -> Result<Text, OutOfMemory>
     requires { IsMade fault.now }
-    ensures { IfOk result (λ text. told text ≡ line_of fault.now) }
+    ensures { IfOk result (λ text. as_line text ≡ line_of fault.now) }
 {
     match fault {
         RunFault::Script(fault) => fault_text(alloc, *fault),

@@ -13,18 +13,19 @@ lines-init c = (omega arith, rw c.new-catalog.ensures refl)
 
 pub lines-smaller : goal.lines-smaller
 lines-smaller c =
-    let shorter = cut_length 10 c.lines.rest.now c.in-Some.piece.now c.in-Some.behind.now c.in-Some.ensures in
+    let shorter = cut_length 10 c.lines.rest.now c.in-Some.piece.now c.in-Some.after.now c.in-Some.ensures in
     omega (arith, shorter)
 
 pub lines-preserved : goal.lines-preserved
 lines-preserved c =
-    let shorter = cut_length 10 c.lines.rest.now c.in-Some.piece.now c.in-Some.behind.now c.in-Some.ensures in
+    let shorter = cut_length 10 c.lines.rest.now c.in-Some.piece.now c.in-Some.after.now c.in-Some.ensures in
     let dropped : c.without_cr.result.now ≡ without_cr c.in-Some.piece.now = c.without_cr.ensures in
     let did : step (c.lines.line + 1) c.lines.catalog (without_cr c.in-Some.piece.now)
     ≡ next c.take_line.new.catalog =
     rw (c.in-Ok-true.field-0-test, dropped) at c.in-Ok-true.ensures in (
       omega (arith, c.lines.invariant.0, shorter),
-      goes step c.lines.line c.lines.catalog c.lines.rest.now _ _ _ _ c.in-Some.ensures c.lines.invariant.1 did,
+      goes step c.lines.line c.lines.catalog c.lines.rest.now _ _ _ _ c.in-Some.ensures c.lines.invariant.1
+          did,
     )
 
 pub returns-in-Ok-false : goal.returns-in-Ok-false
@@ -33,8 +34,9 @@ returns-in-Ok-false c =
     let did : (step (c.lines.line + 1) c.lines.catalog (without_cr c.in-Some.piece.now) ≡ query)
     × (c.take_line.new.catalog ≡ c.lines.catalog) =
     rw (c.in-Ok-false.field-0-test, dropped) at c.in-Ok-false.ensures in
-    let is = ap (λ held. with_query (c.lines.line + 1) held c.in-Some.behind.now) did.1
-    ∙ goes step c.lines.line c.lines.catalog c.lines.rest.now _ _ _ query c.in-Some.ensures c.lines.invariant.1 did.0 in
+    let is = ap (λ held. with_query (c.lines.line + 1) held c.in-Some.after.now) did.1
+    ∙ goes step c.lines.line c.lines.catalog c.lines.rest.now _ _ _ query c.in-Some.ensures
+    c.lines.invariant.1 did.0 in
     let P : Result Loaded LoadFault → Type 0 = λ r. Meets c.with_query.result r in
     subst P is c.with_query.ensures
 
@@ -51,5 +53,6 @@ returns-in-Err c =
 pub returns-in_default : goal.returns-in_default
 returns-in_default c =
     let P : Result Loaded LoadFault → Type 0 = λ r. Meets c.load_last.result r in
-    subst P (ends step c.lines.line c.lines.catalog c.lines.rest.now _ c.in_default.ensures c.lines.invariant.1)
-    c.load_last.ensures
+    let is = ends step c.lines.line c.lines.catalog c.lines.rest.now _ c.in_default.ensures
+    c.lines.invariant.1 in
+    subst P is c.load_last.ensures

@@ -31,7 +31,8 @@ returns-in-Ok-clause-ok c =
     (c.find.ensures.value ∙ ap
     (place_of c.args.catalog.now) c.as_str.ensures) c.is_some.ensures c.if-is_some.false in
     declares c.args.line c.args.catalog.now c.args.edge c.args.name c.args.options _ _ _ free
-    c.if-shards-gt-SHARDS.false c.shards_of-shards.ensures.value c.in_ok-keys.ensures.value c.in-Ok.ensures.ok.1
+    c.if-shards-gt-SHARDS.false c.shards_of-shards.ensures.value c.in_ok-keys.ensures.value
+    c.in-Ok.ensures.ok.1
 
 pub returns-in-Err-clause-err : goal.returns-in-Err-clause-err
 returns-in-Err-clause-err c =
@@ -41,4 +42,5 @@ returns-in-Err-clause-err c =
     (place_of c.args.catalog.now) c.as_str.ensures) c.is_some.ensures c.if-is_some.false in
     rw c.declare_fault.ensures
     (not_declared c.args.line c.args.catalog.now c.args.edge c.args.name c.args.options _ _ _ free
-    c.if-shards-gt-SHARDS.false c.shards_of-shards.ensures.value c.in_ok-keys.ensures.value c.in-Err.ensures.err)
+    c.if-shards-gt-SHARDS.false c.shards_of-shards.ensures.value c.in_ok-keys.ensures.value
+    c.in-Err.ensures.err)

@@ -5,14 +5,16 @@ use Rattle.aql_top.proofs.shell.run_shell.Goals as goal
 
 pub returns-in-Ok-clause-refused : goal.returns-in-Ok-clause-refused
 returns-in-Ok-clause-refused g c = λ status text takes tells d.
-    absurd (printed_deserves (g.S.Source.left c.args.source.now) status text c.in-Ok.ensures.accepts.1 tells d)
+    let input = g.S.Source.left c.args.source.now in
+    absurd (printed_deserves input status text c.in-Ok.ensures.accepts.1 tells d)
 
 pub returns-in-Err-clause-line : goal.returns-in-Err-clause-line
 returns-in-Err-clause-line g c = λ _.
     let words = c.args.words.now in
     let input = g.S.Source.left c.args.source.now in
     let fault = c.tell-fault.result in
-    let leads = told_leads c.in-Err.fault fault words input c.tell-fault.ensures.same c.in-Err.ensures.leads in
+    let same = c.tell-fault.ensures.same in
+    let leads = told_leads c.in-Err.fault fault words input same c.in-Err.ensures.leads in
     let due = deserved words fault input leads in (
       due.0,
       subst (λ n. Deserves input n due.0 ⊎ IsTextOf n due.0) (sym c.status.ensures) due.1.0,
@@ -27,7 +29,8 @@ returns-in-Err-clause-refused g c = λ status text takes tells d.
     let words = c.args.words.now in
     let input = g.S.Source.left c.args.source.now in
     let fault = c.tell-fault.result in
-    let leads = told_leads c.in-Err.fault fault words input c.tell-fault.ensures.same c.in-Err.ensures.leads in
+    let same = c.tell-fault.ensures.same in
+    let leads = told_leads c.in-Err.fault fault words input same c.in-Err.ensures.leads in
     subst (λ n. (n ≡ status) ⊎ ((n ≡ 6) ⊎ (n ≡ 8))) (sym c.status.ensures)
     (refused words takes status text fault input leads tells d)
 
@@ -36,6 +39,7 @@ returns-in-Err-clause-complete g c = λ takes accepts.
     let words = c.args.words.now in
     let input = g.S.Source.left c.args.source.now in
     let fault = c.tell-fault.result in
-    let leads = told_leads c.in-Err.fault fault words input c.tell-fault.ensures.same c.in-Err.ensures.leads in
+    let same = c.tell-fault.ensures.same in
+    let leads = told_leads c.in-Err.fault fault words input same c.in-Err.ensures.leads in
     subst (λ n. (n ≡ 0) ⊎ ((n ≡ 6) ⊎ ((n ≡ 7) ⊎ (n ≡ 8)))) (sym c.status.ensures)
     (complete words takes fault input leads accepts)
