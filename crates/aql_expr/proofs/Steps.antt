@@ -31,14 +31,18 @@ part-At e = search (rules, the_lemmas)
 pub part-Each : (f p : Option Expr) → step_part (Each f p) ≡ each (option_map tree f) (option_map tree p)
 part-Each f p = search (rules, the_lemmas)
 
+pub parts_from : (all : List Step) (i : ℕ) (s : Step) (p : StepPart) → i < length all → s ≡ get_or all i s
+    → step_part s ≡ p → map step_part (drop i all) ≡ p ∷ map step_part (drop (i + 1) all)
+parts_from all i s p h e k =
+    ap (map step_part) (left all i s h e) ∙ ap (λ q. q ∷ map step_part (drop (i + 1) all)) k
+
 -- the steps from a place on begin with the step there
 pub from_here : (all : List Step) (i : ℕ) (s : Step) (p : StepPart) → i < length all → s ≡ get_or all i s
     → step_part s ≡ p → (cur : Tree) (row : Row) (t : Tree)
     → stepped (steps (map step_part (drop i all))) cur row t
     ≡ stepped (steps (p ∷ map step_part (drop (i + 1) all))) cur row t
 from_here all i s p h e k cur row t =
-    ap (λ ss. stepped (steps ss) cur row t)
-    (ap (map step_part) (left all i s h e) ∙ ap (λ q. q ∷ map step_part (drop (i + 1) all)) k)
+    ap (λ ss. stepped (steps ss) cur row t) (parts_from all i s p h e k)
 
 module _ (after given tested : Tree → Tree) where
   -- of those that are tested true-like what is given, and what comes after

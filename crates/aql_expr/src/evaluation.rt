@@ -1,4 +1,4 @@
-// The walk over an expression.
+// Evaluation, part by part of an expression.
 ghost use Rattle.std.specs.Prelude.{[], ◌∷◌, ◌≡◌, drop, IfOk, map, OnOk, option_map, true};
 ghost use Rattle.std.specs.Prelude.{unwrap_or};
 ghost use Rattle.aql_value.specs.Database.{Database};
@@ -16,9 +16,9 @@ ghost use Rattle.aql_meaning.specs.Row.{value_at};
 ghost use Rattle.aql_meaning.specs.Value as spec;
 
 use crate::RowView;
-use crate::parts::{chosen, elements, given_or, named};
+use crate::parts::{access, attribute, elements, value_or};
 use crate::quantifiers::quantify;
-use crate::rows::{copied, value_of};
+use crate::rows::{copy_of, value_of};
 use aql_func::{BinOp, arity, binary, call, lookup, range, unary};
 use aql_tree::{Expr, Field, Ident, Link, Step};
 use aql_value::{Items, Members, OutOfMemory, Value, copy, to_number, to_text, truthy};
@@ -39,7 +39,7 @@ pub fn eval<R: RowView>(alloc: Global, expr: &Expr, row: &R) -> Result<Value, Ou
 }
 
 // `cur` is the value of CURRENT; a subquery counts as null.
-#[cycle(walk)]
+#[cycle(evaluation)]
 fn evaluate<R: RowView>(
     alloc: Global,
     expr: &Expr,
@@ -51,7 +51,7 @@ fn evaluate<R: RowView>(
 {
     match expr {
         Expr::Lit(value) => copy(alloc, value),
-        Expr::Var(ident) => copied(alloc, row, ident),
+        Expr::Var(ident) => copy_of(alloc, row, ident),
         Expr::Current => copy(alloc, cur),
         Expr::List(items) => {
             let values = evaluate_all(alloc, items.as_slice(), row, cur)?;
@@ -62,16 +62,16 @@ fn evaluate<R: RowView>(
             Ok(Value::Object(members))
         }
         Expr::Access { of, steps } => match &**of {
-            Expr::Var(ident) => of_variable(alloc, steps.as_slice(), row, cur, ident),
-            Expr::Current => stepped(alloc, steps.as_slice(), 0, row, cur, cur),
+            Expr::Var(ident) => follow_variable(alloc, steps.as_slice(), row, cur, ident),
+            Expr::Current => follow(alloc, steps.as_slice(), 0, row, cur, cur),
             of => {
                 let from = evaluate(alloc, of, row, cur)?;
-                stepped(alloc, steps.as_slice(), 0, row, cur, &from)
+                follow(alloc, steps.as_slice(), 0, row, cur, &from)
             }
         },
         Expr::Call { name, args } => {
             let args = evaluate_all(alloc, args.as_slice(), row, cur)?;
-            called(alloc, name.as_str(), &args)
+            call_by_name(alloc, name.as_str(), &args)
         }
         Expr::Unary { op, of } => {
             let of = evaluate(alloc, of, row, cur)?;
@@ -79,7 +79,7 @@ fn evaluate<R: RowView>(
         }
         Expr::Chain { first, rest } => {
             let first = evaluate(alloc, first, row, cur)?;
-            linked(alloc, rest.as_slice(), row, cur, first)
+            evaluate_links(alloc, rest.as_slice(), row, cur, first)
         }
         Expr::Quant {
             left,
@@ -111,7 +111,7 @@ fn evaluate<R: RowView>(
     }
 }
 
-#[cycle(walk)]
+#[cycle(evaluation)]
 fn evaluate_all<R: RowView>(
     alloc: Global,
     exprs: &[Expr],
@@ -128,7 +128,7 @@ fn evaluate_all<R: RowView>(
     Ok(out)
 }
 
-#[cycle(walk)]
+#[cycle(evaluation)]
 fn evaluate_members<R: RowView>(
     alloc: Global,
     fields: &[Field],
@@ -145,7 +145,7 @@ fn evaluate_members<R: RowView>(
     Ok(out)
 }
 
-#[cycle(walk)]
+#[cycle(evaluation)]
 fn set_member<R: RowView>(
     alloc: Global,
     field: &Field,
@@ -169,9 +169,9 @@ fn set_member<R: RowView>(
     Ok(())
 }
 
-// The steps behind a variable, whose value is only borrowed.
-#[cycle(walk)]
-fn of_variable<R: RowView>(
+// The steps after a variable, whose value is only borrowed.
+#[cycle(evaluation)]
+fn follow_variable<R: RowView>(
     alloc: Global,
     all: &[Step],
     row: &R,
@@ -181,12 +181,12 @@ fn of_variable<R: RowView>(
     ensures { IfOk result (λ v. tree_of v ≡ spec.stepped (steps (map step_part all.now))
         (tree_of cur.now) (R.vars row.now) (value_at (R.vars row.now) ident.now)) }
 {
-    stepped(alloc, all, 0, row, cur, value_of(row, ident, &Value::Null))
+    follow(alloc, all, 0, row, cur, value_of(row, ident, &Value::Null))
 }
 
 // The steps from the one at `start` on.
-#[cycle(walk)]
-fn stepped<R: RowView>(
+#[cycle(evaluation)]
+fn follow<R: RowView>(
     alloc: Global,
     all: &[Step],
     start: usize,
@@ -202,17 +202,17 @@ fn stepped<R: RowView>(
     let mut value = from;
     for at in start..all.len() {
         match &all[at] {
-            Step::Name(name) => value = named(value, name.as_str(), null),
+            Step::Name(name) => value = attribute(value, name.as_str(), null),
             Step::At(which) => {
                 let which = evaluate(alloc, which, row, cur)?;
-                value = chosen(value, &which, null);
+                value = access(value, &which, null);
             }
             Step::Each { filter, project } => {
                 let mut out = Items::new(alloc);
                 for element in elements(value) {
                     if is_kept(alloc, filter, row, element)? {
-                        let given = projected(alloc, project, row, element)?;
-                        out.push(stepped_given(alloc, all, at + 1, row, cur, given, element)?)?;
+                        let given = projection_of(alloc, project, row, element)?;
+                        out.push(follow_given(alloc, all, at + 1, row, cur, given, element)?)?;
                     }
                 }
                 return Ok(Value::List(out));
@@ -223,7 +223,7 @@ fn stepped<R: RowView>(
 }
 
 // Whether an inline operator keeps the element.
-#[cycle(walk)]
+#[cycle(evaluation)]
 fn is_kept<R: RowView>(
     alloc: Global,
     filter: &Option<Expr>,
@@ -240,8 +240,8 @@ fn is_kept<R: RowView>(
 }
 
 // What an inline operator gives for the element; `None` stands for the element itself.
-#[cycle(walk)]
-fn projected<R: RowView>(
+#[cycle(evaluation)]
+fn projection_of<R: RowView>(
     alloc: Global,
     project: &Option<Expr>,
     row: &R,
@@ -257,9 +257,9 @@ fn projected<R: RowView>(
     }
 }
 
-// The steps behind an inline operator, for what it gave for an element.
-#[cycle(walk)]
-fn stepped_given<R: RowView>(
+// The steps after an inline operator, for what it gave for an element.
+#[cycle(evaluation)]
+fn follow_given<R: RowView>(
     alloc: Global,
     all: &[Step],
     at: usize,
@@ -272,11 +272,11 @@ fn stepped_given<R: RowView>(
         (tree_of cur.now) (R.vars row.now)
         (unwrap_or (option_map tree_of given) (tree_of element.now))) }
 {
-    stepped(alloc, all, at, row, cur, given_or(&given, element))
+    follow(alloc, all, at, row, cur, value_or(&given, element))
 }
 
-#[cycle(walk)]
-fn linked<R: RowView>(
+#[cycle(evaluation)]
+fn evaluate_links<R: RowView>(
     alloc: Global,
     all: &[Link],
     row: &R,
@@ -288,14 +288,14 @@ fn linked<R: RowView>(
 {
     let mut left = first;
     for link in all {
-        left = linked_once(alloc, link, row, cur, left)?;
+        left = evaluate_link(alloc, link, row, cur, left)?;
     }
     Ok(left)
 }
 
 // `&&` and `||` take the right side only where the left side does not decide.
-#[cycle(walk)]
-fn linked_once<R: RowView>(
+#[cycle(evaluation)]
+fn evaluate_link<R: RowView>(
     alloc: Global,
     link: &Link,
     row: &R,
@@ -317,7 +317,7 @@ fn linked_once<R: RowView>(
 }
 
 // The value of a call by its name.
-fn called(alloc: Global, name: &str, args: &Items) -> Result<Value, OutOfMemory>
+fn call_by_name(alloc: Global, name: &str, args: &Items) -> Result<Value, OutOfMemory>
     ensures { IfOk result (λ v. tree_of v ≡ call_named name.now args.now) }
 {
     match lookup(name) {

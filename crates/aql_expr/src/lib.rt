@@ -1,10 +1,12 @@
 //! The value of an expression at a row of variables.
 #![tactic(auto)]
 
+mod evaluation;
 mod parts;
+mod paths;
 mod quantifiers;
 mod rows;
-mod walk;
 
+pub use evaluation::eval;
+pub use paths::borrow;
 pub use rows::RowView;
-pub use walk::eval;

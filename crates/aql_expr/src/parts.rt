@@ -17,7 +17,7 @@ pub(crate) fn elements(value: &Value) -> &[Value]
 }
 
 // `value.name`.
-pub(crate) fn named<'a>(value: &'a Value, name: &str, missing: &'a Value) -> &'a Value
+pub(crate) fn attribute<'a>(value: &'a Value, name: &str, missing: &'a Value) -> &'a Value
     requires { tree_of missing.now ≡ null }
     ensures { tree_of result.now ≡ spec.at_name (tree_of value.now) name.now }
 {
@@ -31,18 +31,18 @@ pub(crate) fn named<'a>(value: &'a Value, name: &str, missing: &'a Value) -> &'a
 }
 
 // `value[which]`.
-pub(crate) fn chosen<'a>(value: &'a Value, which: &Value, missing: &'a Value) -> &'a Value
+pub(crate) fn access<'a>(value: &'a Value, which: &Value, missing: &'a Value) -> &'a Value
     requires { tree_of missing.now ≡ null }
     ensures { tree_of result.now ≡ spec.at_value (tree_of value.now) (tree_of which.now) }
 {
     match which {
-        Value::Text(name) => named(value, name.as_str(), missing),
-        Value::Num(place) => placed(elements(value), *place, missing),
+        Value::Text(name) => attribute(value, name.as_str(), missing),
+        Value::Num(place) => element_at(elements(value), *place, missing),
         _ => missing,
     }
 }
 
-fn placed<'a>(values: &'a [Value], place: i64, missing: &'a Value) -> &'a Value
+fn element_at<'a>(values: &'a [Value], place: i64, missing: &'a Value) -> &'a Value
     requires { tree_of missing.now ≡ null }
     ensures { tree_of result.now ≡ spec.at_place (trees_in values.now) place }
 {
@@ -66,7 +66,7 @@ fn value_at<'a>(values: &'a [Value], place: usize, missing: &'a Value) -> &'a Va
 }
 
 // The value that is given, else the other one.
-pub(crate) fn given_or<'a>(given: &'a Option<Value>, other: &'a Value) -> &'a Value
+pub(crate) fn value_or<'a>(given: &'a Option<Value>, other: &'a Value) -> &'a Value
     ensures { tree_of result.now ≡ unwrap_or (option_map tree_of given.now) (tree_of other.now) }
 {
     match given {

@@ -38,7 +38,7 @@ pub(crate) fn value_of<'a, R: RowView>(row: &'a R, ident: &Ident, missing: &'a V
 }
 
 // A copy of the value of a variable; null where the row has no such variable.
-pub(crate) fn copied<R: RowView>(
+pub(crate) fn copy_of<R: RowView>(
     alloc: Global,
     row: &R,
     ident: &Ident,

@@ -6,12 +6,12 @@ use Rattle.aql_value.specs.declared.values.Value.{Value}
 use Rattle.aql_func.specs.Objects.{with_all}
 use Rattle.aql_tree.specs.View.{tree, trees, links, link_part, members, member_part, StepPart, maybe, step_part, steps, name, at, each}
 use Rattle.aql_meaning.specs.Value.{stepped, value, values, value_or, linked, members as values_of}
-use Rattle.aql_expr.proofs.Stepped.{left, part-Name, part-At, part-Each, from_here, taken, one_kept, one_dropped, all_taken, one_member}
-use Rattle.aql_expr.proofs.walk.+walk.Goals as goal
-use Rattle.aql_expr.proofs.walk.+walk.Goals.{stepped-in-Name, stepped-in-At+in_ok-which-in-At, stepped-then-branch+in_ok-given-in-Each+in_ok-stepped_given-in-Each+in_ok-push-in-Each, stepped-else-branch}
+use Rattle.aql_expr.proofs.Steps.{left, part-Name, part-At, part-Each, from_here, taken, one_kept, one_dropped, all_taken, one_member}
+use Rattle.aql_expr.proofs.evaluation.+evaluation.Goals as goal
+use Rattle.aql_expr.proofs.evaluation.+evaluation.Goals.{follow-in-Name, follow-in-At+in_ok-which-in-At, follow-then-branch+in_ok-given-in-Each+in_ok-follow_given-in-Each+in_ok-push-in-Each, follow-else-branch}
 
-pub stepped-loop-at-preserved : goal.stepped-loop-at-preserved
-stepped-loop-at-preserved g t c =
+pub follow-loop-at-preserved : goal.follow-loop-at-preserved
+follow-loop-at-preserved g t c =
     let cur = tree_of c.args.cur.now in
     let row = g.R.RowView.vars c.args.row.now in
     let from = tree_of c.loop-at.value.now in
@@ -20,21 +20,21 @@ stepped-loop-at-preserved g t c =
     from_here c.args.all.now c.loop-at.at c.index-all-at.result p (omega arith) c.index-all-at.is k cur row
     from in
     elim c.match-all-at.branch [
-      | stepped-in-Name w ↦
+      | follow-in-Name w ↦
           ap (λ (v : Bor Value). stepped rest cur row (tree_of v.now)) w.value-is
-          ∙ ap (stepped rest cur row) (w.named-value.ensures ∙ ap (at_name from) w.as_str.ensures)
+          ∙ ap (stepped rest cur row) (w.attribute-value.ensures ∙ ap (at_name from) w.as_str.ensures)
           ∙ sym (here (name w.in-Name.name) (ap step_part w.in-Name.is ∙ part-Name w.in-Name.name))
           ∙ c.loop-at.invariant
-      | stepped-in-At+in_ok-which-in-At w ↦
+      | follow-in-At+in_ok-which-in-At w ↦
           ap (λ (v : Bor Value). stepped rest cur row (tree_of v.now)) w.value-is
           ∙ ap (stepped rest cur row)
-          (w.chosen-value.ensures ∙ ap (at_value from) w.in_ok-which-in-At.ensures)
+          (w.access-value.ensures ∙ ap (at_value from) w.in_ok-which-in-At.ensures)
           ∙ sym (here (at (tree w.in-At.which)) (ap step_part w.in-At.is ∙ part-At w.in-At.which))
           ∙ c.loop-at.invariant
     ]
 
-pub stepped-loop-element-preserved : goal.stepped-loop-element-preserved
-stepped-loop-element-preserved g t c =
+pub follow-loop-element-preserved : goal.follow-loop-element-preserved
+follow-loop-element-preserved g t c =
     let cur = tree_of c.args.cur.now in
     let row = g.R.RowView.vars c.args.row.now in
     let steps_left = steps (map step_part (drop (c.loop-at.at + 1) c.args.all.now)) in
@@ -51,21 +51,21 @@ stepped-loop-element-preserved g t c =
     (sym (ap trees_in (left all c.loop-element.element-index element (omega arith) c.element-item.is)))
     ∙ c.loop-element.invariant in
     elim c.if-branch.branch [
-      | stepped-then-branch+in_ok-given-in-Each+in_ok-stepped_given-in-Each+in_ok-push-in-Each w ↦
+      | follow-then-branch+in_ok-given-in-Each+in_ok-follow_given-in-Each+in_ok-push-in-Each w ↦
           ap (λ out. out ++ taken after given tested rest)
           (w.out-is ∙ w.in_ok-push-in-Each.ensures.ok
           ∙ ap (λ v. done ++ v ∷ [])
-          (w.in_ok-stepped_given-in-Each.ensures ∙ ap after w.in_ok-given-in-Each.ensures))
+          (w.in_ok-follow_given-in-Each.ensures ∙ ap after w.in_ok-given-in-Each.ensures))
           ∙ one_kept after given tested done (tree_of element) rest whole
           (sym c.in_ok-is_kept-in-Each.ensures ∙ w.if-branch.true) begun
-      | stepped-else-branch w ↦
+      | follow-else-branch w ↦
           ap (λ out. out ++ taken after given tested rest) w.out-is
           ∙ one_dropped after given tested done (tree_of element) rest whole
           (sym c.in_ok-is_kept-in-Each.ensures ∙ w.if-branch.false) begun
     ]
 
-pub stepped-returns-in-Each : goal.stepped-returns-in-Each
-stepped-returns-in-Each g t c =
+pub follow-returns-in-Each : goal.follow-returns-in-Each
+follow-returns-in-Each g t c =
     let cur = tree_of c.args.cur.now in
     let row = g.R.RowView.vars c.args.row.now in
     let from = tree_of c.loop-at.value.now in
@@ -110,8 +110,8 @@ evaluate_members-loop-field-preserved g t c =
     (sym (left all i c.field-item.result c.loop-field-test.true c.field-item.is))
     ∙ c.loop-field.invariant
 
-pub linked-loop-link-preserved : goal.linked-loop-link-preserved
-linked-loop-link-preserved g t c =
+pub evaluate_links-loop-link-preserved : goal.evaluate_links-loop-link-preserved
+evaluate_links-loop-link-preserved g t c =
     let cur = tree_of c.args.cur.now in
     let row = g.R.RowView.vars c.args.row.now in
     let all = c.args.all.now in

@@ -5,7 +5,7 @@ use Rattle.aql_func.specs.Objects.{with_all}
 use Rattle.aql_tree.specs.View.{tree, trees, maybe, members, steps, links, member_part, step_part, link_part}
 use Rattle.aql_meaning.specs.Clauses.{kept}
 use Rattle.aql_meaning.specs.Value as spec
-use Rattle.aql_expr.proofs.walk.+walk.Given as goal
+use Rattle.aql_expr.proofs.evaluation.+evaluation.Given as goal
 
 -- The depth of the tree decides, and then how many steps are left.
 
@@ -21,26 +21,26 @@ decreases-evaluate_members g l = goal.size-evaluate_members g l * 2 ^ 66 + 2
 abbrev pub decreases-set_member : goal.decreases-set_member
 decreases-set_member g l = goal.size-set_member g l * 2 ^ 66 + 1
 
-abbrev pub decreases-stepped : goal.decreases-stepped
-decreases-stepped g l = goal.size-stepped g l * 2 ^ 66 + 2 * (length l.all.now - l.start) + 1
+abbrev pub decreases-follow : goal.decreases-follow
+decreases-follow g l = goal.size-follow g l * 2 ^ 66 + 2 * (length l.all.now - l.start) + 1
 
-abbrev pub decreases-of_variable : goal.decreases-of_variable
-decreases-of_variable g l = goal.size-of_variable g l * 2 ^ 66 + 2 * length l.all.now + 2
+abbrev pub decreases-follow_variable : goal.decreases-follow_variable
+decreases-follow_variable g l = goal.size-follow_variable g l * 2 ^ 66 + 2 * length l.all.now + 2
 
-abbrev pub decreases-stepped_given : goal.decreases-stepped_given
-decreases-stepped_given g l = goal.size-stepped_given g l * 2 ^ 66 + 2 * (length l.all.now - l.at) + 2
+abbrev pub decreases-follow_given : goal.decreases-follow_given
+decreases-follow_given g l = goal.size-follow_given g l * 2 ^ 66 + 2 * (length l.all.now - l.at) + 2
 
 abbrev pub decreases-is_kept : goal.decreases-is_kept
 decreases-is_kept g l = goal.size-is_kept g l * 2 ^ 66 + 1
 
-abbrev pub decreases-projected : goal.decreases-projected
-decreases-projected g l = goal.size-projected g l * 2 ^ 66 + 1
+abbrev pub decreases-projection_of : goal.decreases-projection_of
+decreases-projection_of g l = goal.size-projection_of g l * 2 ^ 66 + 1
 
-abbrev pub decreases-linked : goal.decreases-linked
-decreases-linked g l = goal.size-linked g l * 2 ^ 66 + 2
+abbrev pub decreases-evaluate_links : goal.decreases-evaluate_links
+decreases-evaluate_links g l = goal.size-evaluate_links g l * 2 ^ 66 + 2
 
-abbrev pub decreases-linked_once : goal.decreases-linked_once
-decreases-linked_once g l = goal.size-linked_once g l * 2 ^ 66 + 1
+abbrev pub decreases-evaluate_link : goal.decreases-evaluate_link
+decreases-evaluate_link g l = goal.size-evaluate_link g l * 2 ^ 66 + 1
 
 -- What was done, with what is left, is the whole.
 
@@ -58,15 +58,15 @@ invariant-evaluate_members-loop-field g l =
     with_all l.out (spec.members (members (map member_part (drop l.field-index l.fields))) cur row)
     ≡ with_all l.initial.out (spec.members (members (map member_part l.fields)) cur row)
 
-abbrev pub invariant-stepped-loop-at : goal.invariant-stepped-loop-at
-invariant-stepped-loop-at g l =
+abbrev pub invariant-follow-loop-at : goal.invariant-follow-loop-at
+invariant-follow-loop-at g l =
     let cur = tree_of l.cur in
     let row = g.R.RowView.vars l.row in
     spec.stepped (steps (map step_part (drop l.at l.all))) cur row (tree_of l.value)
     ≡ spec.stepped (steps (map step_part (drop l.start l.all))) cur row (tree_of l.from)
 
-abbrev pub invariant-stepped-loop-element : goal.invariant-stepped-loop-element
-invariant-stepped-loop-element g l =
+abbrev pub invariant-follow-loop-element : goal.invariant-follow-loop-element
+invariant-follow-loop-element g l =
     let cur = tree_of l.cur in
     let row = g.R.RowView.vars l.row in
     let rest = steps (map step_part (drop (l.at + 1) l.all)) in
@@ -78,8 +78,8 @@ invariant-stepped-loop-element g l =
     l.out ++ map after (map given (kept left (map tested left)))
     ≡ map after (map given (kept whole (map tested whole)))
 
-abbrev pub invariant-linked-loop-link : goal.invariant-linked-loop-link
-invariant-linked-loop-link g l =
+abbrev pub invariant-evaluate_links-loop-link : goal.invariant-evaluate_links-loop-link
+invariant-evaluate_links-loop-link g l =
     let cur = tree_of l.cur in
     let row = g.R.RowView.vars l.row in
     spec.linked (links (map link_part (drop l.link-index l.all))) cur row (tree_of l.left)

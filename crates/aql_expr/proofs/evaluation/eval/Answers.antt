@@ -8,7 +8,7 @@ use Rattle.aql_tree.specs.View.{tree}
 use Rattle.aql_meaning.specs.Meaning.{Ev}
 use Rattle.aql_meaning.specs.Value.{value}
 use Rattle.aql_meaning.specs.laws.OneValue.{has_value}
-use Rattle.aql_expr.proofs.walk.eval.Goals as goal
+use Rattle.aql_expr.proofs.evaluation.eval.Goals as goal
 
 pub returns-clause-meaning : goal.returns-clause-meaning
 returns-clause-meaning g c =

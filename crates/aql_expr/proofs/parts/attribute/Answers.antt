@@ -4,7 +4,7 @@ use Rattle.aql_value.specs.Parts.{at_name, record_of}
 use Rattle.aql_value.specs.Tree.{Tree, null}
 use Rattle.aql_value.specs.View.{tree_of}
 use Rattle.aql_value.specs.laws.Lists.{fields_list-object_of}
-use Rattle.aql_expr.proofs.parts.named.Goals as goal
+use Rattle.aql_expr.proofs.parts.attribute.Goals as goal
 
 -- what is found among the attributes is the object's
 found : (name : List ℕ) (fs : List (List ℕ × Tree))
