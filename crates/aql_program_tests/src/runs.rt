@@ -2,7 +2,7 @@ ghost use Rattle.std.specs.Prelude.{◌≡◌, IfOk, map};
 ghost use Rattle.aql_tree.specs.View.{clause_tree, query_tree, tree};
 ghost use Rattle.aql_tree.specs.View.{clauses as clause_trees};
 ghost use Rattle.aql_meaning.specs.Plain.{IsPlain};
-ghost use Rattle.aql_lift.specs.Lifted.{ClauseLifted, ClausesLifted, IsLifted};
+ghost use Rattle.aql_meaning.specs.Lifted.{ClauseLifted, ClausesLifted, IsLifted};
 
 use crate::catalogs::declare;
 use crate::pages::expect;

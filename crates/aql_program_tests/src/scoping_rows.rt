@@ -661,7 +661,7 @@ pub static COLLECTS: [(&str, &str); 6] = [
     ),
     (
         "FOR x IN c LET y = x.a COLLECT k = y INTO g RETURN g",
-        "for #1 in c; let #2 = #1.a; collect #3 = #2 into #4 = { y: #2 x: #1 }; return #4 | x \
+        "for #1 in c; let #2 = #1.a; collect #3 = #2 into #4 = { x: #1 y: #2 }; return #4 | x \
             y k g",
     ),
     (
@@ -678,7 +678,7 @@ pub static COLLECTS_WITHIN: [(&str, &str); 7] = [
     ),
     (
         "FOR x IN c COLLECT k = x.k INTO g COLLECT INTO h RETURN h",
-        "for #1 in c; collect #2 = #1.k into #3 = { x: #1 }; collect into #4 = { g: #3 k: #2 \
+        "for #1 in c; collect #2 = #1.k into #3 = { x: #1 }; collect into #4 = { k: #2 g: #3 \
             }; return #4 | x k g h",
     ),
     (
@@ -704,7 +704,7 @@ pub static COLLECTS_WITHIN: [(&str, &str); 7] = [
     ),
     (
         "FOR v, a, p IN OUTBOUND 'c/a' e COLLECT INTO g RETURN g",
-        "walk #1 #2 #3 in 1..1 Outbound 'c/a' over e with Path None; collect into #4 = { p: #3 \
-            a: #2 v: #1 }; return #4 | v a p g",
+        "walk #1 #2 #3 in 1..1 Outbound 'c/a' over e with Path None; collect into #4 = { v: #1 \
+            a: #2 p: #3 }; return #4 | v a p g",
     ),
 ];

@@ -15,7 +15,7 @@ use Rattle.aql_meaning.specs.Value.{value}
 use Rattle.aql_meaning.specs.Plain.{IsPlain}
 use Rattle.aql_meaning.specs.Meaning.{Ev, Through, Answer}
 use Rattle.aql_meaning.specs.laws.OneValue.{one_value, only_zip}
-use Rattle.aql_lift.specs.Lifted.{ClausesLifted, IsLifted}
+use Rattle.aql_meaning.specs.Lifted.{ClausesLifted, IsLifted}
 use Rattle.aql_run.specs.Forms.{only_filters, behind_for, runs}
 use Rattle.aql_run.specs.Given.{all_hold, given, answered}
 

@@ -11,7 +11,7 @@ use Rattle.aql_tree.specs.Tree.{ExprTree, for_documents, ClauseTrees, clause_the
 use Rattle.aql_tree.specs.View.{clause_tree, clauses, query_tree, tree}
 use Rattle.aql_meaning.specs.Row.{Row}
 use Rattle.aql_meaning.specs.Value.{value}
-use Rattle.aql_lift.specs.Lifted.{ClauseLifted, ClausesLifted}
+use Rattle.aql_meaning.specs.Lifted.{ClauseLifted, ClausesLifted}
 use Rattle.aql_run.specs.Forms.{is_filter, only_filters, behind_for, printed}
 use Rattle.aql_run.specs.Given.{all_hold, given}
 

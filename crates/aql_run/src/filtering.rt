@@ -6,7 +6,7 @@ ghost use Rattle.aql_tree.specs.declared.syntax.Ident.TheVariants.{Num};
 ghost use Rattle.aql_tree.specs.View.{clause_tree, clauses, tree};
 ghost use Rattle.aql_meaning.specs.Plain.{IsPlain};
 ghost use Rattle.aql_meaning.specs.Row.{bind, empty_row};
-ghost use Rattle.aql_lift.specs.Lifted.{ClauseLifted};
+ghost use Rattle.aql_meaning.specs.Lifted.{ClauseLifted};
 ghost use Rattle.aql_run.specs.Forms.{printed};
 ghost use Rattle.aql_run.specs.Given as spec;
 

@@ -6,7 +6,7 @@ ghost use Rattle.aql_tree.specs.View.{clause_tree, query_tree, tree};
 ghost use Rattle.aql_tree.specs.View.{clauses as clause_trees};
 ghost use Rattle.aql_meaning.specs.Plain.{IsPlain};
 ghost use Rattle.aql_doc.specs.Held.{database};
-ghost use Rattle.aql_lift.specs.Lifted.{ClausesLifted, IsLifted};
+ghost use Rattle.aql_meaning.specs.Lifted.{ClausesLifted, IsLifted};
 ghost use Rattle.aql_run.specs.Forms.{Shows, printed, runs};
 ghost use Rattle.aql_run.specs.Forms as forms;
 ghost use Rattle.aql_run.specs.Given.{answered};

@@ -7,7 +7,7 @@ use Rattle.aql_meaning.specs.Row.{empty_row}
 use Rattle.aql_meaning.specs.Meaning.{Answer}
 use Rattle.aql_doc.specs.Held.{Held, database}
 use Rattle.aql_script.specs.declared.loading.Loaded.{Loaded}
-use Rattle.aql_lift.specs.Lifted.{IsLifted}
+use Rattle.aql_meaning.specs.Lifted.{IsLifted}
 use Rattle.aql_lift.proofs.LiftedIsPlain.{scoped_is_lifted}
 use Rattle.aql_front.specs.declared.faults.QueryFault.{QueryFault}
 use Rattle.aql_front.specs.declared.faults.QueryFault.TheVariants.{TooLong, Lexical, TooDeep, TooManyClauses, NotInGrammar, WalkTooDeep, Scope, Memory}

@@ -1,6 +1,6 @@
 use Rattle.std.proofs.Common.{sym, subst}
 use Rattle.aql_tree.specs.Tree.{ClauseTrees}
-use Rattle.aql_lift.specs.Lifted.{ClausesLifted}
+use Rattle.aql_meaning.specs.Lifted.{ClausesLifted}
 use Rattle.aql_run.proofs.Lines.{behind_is_lifted, lifted_at}
 use Rattle.aql_run.proofs.running.lines.Goals as goal
 

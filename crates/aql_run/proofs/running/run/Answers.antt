@@ -4,7 +4,7 @@ use Rattle.aql_tree.specs.View.{clause_tree, clauses, tree}
 use Rattle.aql_meaning.specs.Meaning.{Answer}
 use Rattle.aql_meaning.specs.Row.{empty_row}
 use Rattle.aql_doc.specs.Held.{database}
-use Rattle.aql_lift.specs.Lifted.{IsLifted}
+use Rattle.aql_meaning.specs.Lifted.{IsLifted}
 use Rattle.aql_run.specs.Forms.{printed, runs}
 use Rattle.aql_run.specs.Given.{answered}
 use Rattle.aql_run.proofs.Answered.{runs_answers}
