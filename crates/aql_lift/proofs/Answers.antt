@@ -433,7 +433,7 @@ module _ (db : Database) where
         record {
           criteria = criteria_back es c.0 xs names n q r m.criteria b g.0 h.criteria;
           arguments = arguments_back gs c.1 names s.next q r m.arguments b' g'.0 h.arguments;
-          taken = taken_back i c.2 own names vars t.next q r m.taken b'' g'.1 h.taken;
+          into_value = taken_back i c.2 own names vars t.next q r m.taken b'' g'.1 h.into_value;
         }) ts rs k.0 a k.1 in
         let p = collected_back xs es gs i outer own n origin start k.0 out bo o k.2 in
         (p.0, (k.0, ms, p.1), p.2)
