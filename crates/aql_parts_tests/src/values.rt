@@ -330,6 +330,10 @@ fn set(alloc: Global, members: &mut Members, name: &str, number: i64) -> bool {
     }
 }
 
+static MEMBERS: [(&str, i64); 4] = [("b", 1), ("a", 2), ("b", 3), ("c", 4)];
+
+static PLACES: [(usize, &str, i64); 3] = [(0, "a", 2), (1, "b", 3), (2, "c", 4)];
+
 fn stands_at(members: &Members, at: usize, name: &str, number: i64) -> bool {
     is_name(members.name(at), name)
         && is_number(members.value_at(at), number)
