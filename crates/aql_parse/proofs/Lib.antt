@@ -1,2 +1,1 @@
 mod ParseLaws
-mod Levels
