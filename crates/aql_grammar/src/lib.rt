@@ -12,7 +12,8 @@ mod traversals;
 pub use cursor::Cursor;
 pub use faults::ParseFault;
 pub use limits::{Effect, has_too_many_marks, nests_too_deep};
-pub use operators::{begins_clause, begins_quantifier, begins_query, begins_step};
-pub use operators::{is_name, is_number, unary_at};
+pub use operators::{
+    begins_clause, begins_quantifier, begins_query, begins_step, is_name, is_number, unary_at,
+};
 pub use precedence::Precedence;
 pub use traversals::{Depth, TraversalNames};

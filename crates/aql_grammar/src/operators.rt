@@ -83,9 +83,7 @@ pub fn begins_quantifier(next: Option<&TokenKind>) -> bool
 {
     matches!(
         next,
-        Some(TokenKind::Keyword(
-            Keyword::All | Keyword::Any | Keyword::None
-        ))
+        Some(TokenKind::Keyword(Keyword::All | Keyword::Any | Keyword::None))
     )
 }
 

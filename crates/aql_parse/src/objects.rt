@@ -9,6 +9,7 @@ ghost use Rattle.aql_grammar.specs.Reader as reader;
 ghost use Rattle.aql_lex.specs.declared.vocabulary.Symbol.TheVariants as symbol;
 
 use crate::parser::Parser;
+use crate::primaries::word_value;
 use aql_grammar::{Cursor, ParseFault};
 use aql_lex::{Symbol, TokenKind};
 use aql_tree::{Expr, Exprs, Field, Fields};
@@ -60,8 +61,8 @@ impl<F: Fn(Global, &mut Cursor<'_>, usize, bool) -> Result<Expr, ParseFault>> Pa
     #[tactic(auto, unfolding(aql_grammar::specs::Reader::member))]
     fn member(&self, tokens: &mut Cursor<'_>) -> Result<Field, ParseFault>
         requires { ReadsDeeper self.now.depth (F.pre self.now.deeper) (F.post self.now.deeper) }
-        ensures { ReadsAs member_part (reader.member (reader.expr self.now.depth)
-            self.now.inside tokens.old) result tokens.new }
+        ensures { ReadsAs member_part (reader.member (reader.expr self.now.depth) self.now.inside
+            tokens.old) result tokens.new }
     {
         match tokens.peek() {
             Some(TokenKind::Word(name)) => {

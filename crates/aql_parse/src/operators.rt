@@ -28,8 +28,8 @@ impl<F: Fn(Global, &mut Cursor<'_>, usize, bool) -> Result<Expr, ParseFault>> Pa
     // The turns bound the operators.
     fn unary_from(&self, tokens: &mut Cursor<'_>, turns: usize) -> Result<Expr, ParseFault>
         requires { ReadsDeeper self.now.depth (F.pre self.now.deeper) (F.post self.now.deeper) }
-        ensures { ReadsAs tree (reader.unary_from (reader.expr self.now.depth)
-            self.now.inside turns tokens.old) result tokens.new }
+        ensures { ReadsAs tree (reader.unary_from (reader.expr self.now.depth) self.now.inside turns
+            tokens.old) result tokens.new }
     {
         if turns == 0 {
             return Err(ParseFault::NotInGrammar);
@@ -47,8 +47,8 @@ impl<F: Fn(Global, &mut Cursor<'_>, usize, bool) -> Result<Expr, ParseFault>> Pa
     #[tactic(auto, unfolding(aql_grammar::specs::Reader::unary))]
     fn unary(&self, tokens: &mut Cursor<'_>) -> Result<Expr, ParseFault>
         requires { ReadsDeeper self.now.depth (F.pre self.now.deeper) (F.post self.now.deeper) }
-        ensures { ReadsAs tree (reader.unary (reader.expr self.now.depth)
-            self.now.inside tokens.old) result tokens.new }
+        ensures { ReadsAs tree (reader.unary (reader.expr self.now.depth) self.now.inside
+            tokens.old) result tokens.new }
     {
         let turns = tokens.left();
         self.unary_from(tokens, turns)
@@ -59,7 +59,8 @@ impl<F: Fn(Global, &mut Cursor<'_>, usize, bool) -> Result<Expr, ParseFault>> Pa
     #[tactic(auto, unfolding(aql_grammar::specs::Reader::link))]
     fn link(&self, tokens: &mut Cursor<'_>, precedence: Precedence) -> Result<Link, ParseFault>
         requires { ReadsDeeper self.now.depth (F.pre self.now.deeper) (F.post self.now.deeper) }
-        ensures { ReadsAs link_part (reader.link (reader.operand (reader.expr self.now.depth) self.now.inside precedence) tokens.old) result tokens.new }
+        ensures { ReadsAs link_part (reader.link (reader.operand (reader.expr self.now.depth)
+            self.now.inside precedence) tokens.old) result tokens.new }
     {
         let op = tokens.operator()?;
         let right = self.operand(tokens, precedence)?;
@@ -69,7 +70,9 @@ impl<F: Fn(Global, &mut Cursor<'_>, usize, bool) -> Result<Expr, ParseFault>> Pa
     #[cycle(level)]
     fn links(&self, tokens: &mut Cursor<'_>, precedence: Precedence) -> Result<Links, ParseFault>
         requires { ReadsDeeper self.now.depth (F.pre self.now.deeper) (F.post self.now.deeper) }
-        ensures { ReadsAs (map link_part) (many (reader.sees_operator precedence) (reader.link (reader.operand (reader.expr self.now.depth) self.now.inside precedence)) tokens.old) result tokens.new }
+        ensures { ReadsAs (map link_part) (many (reader.sees_operator precedence) (reader.link
+            (reader.operand (reader.expr self.now.depth) self.now.inside precedence)) tokens.old)
+            result tokens.new }
     {
         let mut found = Seq::new(self.alloc);
         for _turn in 0..tokens.left() {
@@ -85,7 +88,8 @@ impl<F: Fn(Global, &mut Cursor<'_>, usize, bool) -> Result<Expr, ParseFault>> Pa
     #[tactic(auto, unfolding(aql_grammar::specs::Reader::chain))]
     fn chain(&self, tokens: &mut Cursor<'_>, precedence: Precedence) -> Result<Expr, ParseFault>
         requires { ReadsDeeper self.now.depth (F.pre self.now.deeper) (F.post self.now.deeper) }
-        ensures { ReadsAs tree (reader.chain precedence (reader.operand (reader.expr self.now.depth) self.now.inside precedence) tokens.old) result tokens.new }
+        ensures { ReadsAs tree (reader.chain precedence (reader.operand (reader.expr self.now.depth)
+            self.now.inside precedence) tokens.old) result tokens.new }
     {
         let first = self.operand(tokens, precedence)?;
         let rest = self.links(tokens, precedence)?;
@@ -96,7 +100,8 @@ impl<F: Fn(Global, &mut Cursor<'_>, usize, bool) -> Result<Expr, ParseFault>> Pa
     #[tactic(auto, unfolding(aql_grammar::specs::Reader::range))]
     fn range(&self, tokens: &mut Cursor<'_>) -> Result<Expr, ParseFault>
         requires { ReadsDeeper self.now.depth (F.pre self.now.deeper) (F.post self.now.deeper) }
-        ensures { ReadsAs tree (reader.range (reader.operand (reader.expr self.now.depth) self.now.inside Precedence.Range) tokens.old) result tokens.new }
+        ensures { ReadsAs tree (reader.range (reader.operand (reader.expr self.now.depth)
+            self.now.inside Precedence.Range) tokens.old) result tokens.new }
     {
         let low = self.operand(tokens, Precedence::Range)?;
         if tokens.eat(Symbol::Range) {
@@ -111,7 +116,8 @@ impl<F: Fn(Global, &mut Cursor<'_>, usize, bool) -> Result<Expr, ParseFault>> Pa
     #[tactic(auto, unfolding(aql_grammar::specs::Reader::array_comparison))]
     fn array_comparison(&self, tokens: &mut Cursor<'_>) -> Result<Expr, ParseFault>
         requires { ReadsDeeper self.now.depth (F.pre self.now.deeper) (F.post self.now.deeper) }
-        ensures { ReadsAs tree (reader.array_comparison (reader.operand (reader.expr self.now.depth) self.now.inside Precedence.ArrayComparison) tokens.old) result tokens.new }
+        ensures { ReadsAs tree (reader.array_comparison (reader.operand (reader.expr self.now.depth)
+            self.now.inside Precedence.ArrayComparison) tokens.old) result tokens.new }
     {
         let left = self.operand(tokens, Precedence::ArrayComparison)?;
         if !begins_quantifier(tokens.peek()) {
@@ -127,7 +133,8 @@ impl<F: Fn(Global, &mut Cursor<'_>, usize, bool) -> Result<Expr, ParseFault>> Pa
     #[cycle(level)]
     fn level(&self, tokens: &mut Cursor<'_>, precedence: Precedence) -> Result<Expr, ParseFault>
         requires { ReadsDeeper self.now.depth (F.pre self.now.deeper) (F.post self.now.deeper) }
-        ensures { ReadsAs tree (reader.level_at (reader.expr self.now.depth) self.now.inside precedence tokens.old) result tokens.new }
+        ensures { ReadsAs tree (reader.level_at (reader.expr self.now.depth) self.now.inside
+            precedence tokens.old) result tokens.new }
     {
         match precedence {
             Precedence::Range => self.range(tokens),
@@ -140,7 +147,8 @@ impl<F: Fn(Global, &mut Cursor<'_>, usize, bool) -> Result<Expr, ParseFault>> Pa
     #[cycle(level)]
     fn operand(&self, tokens: &mut Cursor<'_>, precedence: Precedence) -> Result<Expr, ParseFault>
         requires { ReadsDeeper self.now.depth (F.pre self.now.deeper) (F.post self.now.deeper) }
-        ensures { ReadsAs tree (reader.operand (reader.expr self.now.depth) self.now.inside precedence tokens.old) result tokens.new }
+        ensures { ReadsAs tree (reader.operand (reader.expr self.now.depth) self.now.inside
+            precedence tokens.old) result tokens.new }
     {
         match precedence.tighter() {
             Some(tighter) => self.level(tokens, tighter),
@@ -152,8 +160,8 @@ impl<F: Fn(Global, &mut Cursor<'_>, usize, bool) -> Result<Expr, ParseFault>> Pa
     #[tactic(auto, unfolding(aql_grammar::specs::Reader::ternary_of))]
     fn ternary_of(&self, tokens: &mut Cursor<'_>, test: Expr) -> Result<Expr, ParseFault>
         requires { ReadsDeeper self.now.depth (F.pre self.now.deeper) (F.post self.now.deeper) }
-        ensures { ReadsAs tree (reader.ternary_of (reader.expr self.now.depth) self.now.inside
-            (tree test) tokens.old) result tokens.new }
+        ensures { ReadsAs tree (reader.ternary_of (reader.expr self.now.depth) self.now.inside (tree
+            test) tokens.old) result tokens.new }
     {
         if tokens.eat(Symbol::Colon) {
             let no = self.expr(tokens)?;
@@ -168,8 +176,8 @@ impl<F: Fn(Global, &mut Cursor<'_>, usize, bool) -> Result<Expr, ParseFault>> Pa
     #[tactic(auto, unfolding(aql_grammar::specs::Reader::conditional))]
     pub fn conditional(&self, tokens: &mut Cursor<'_>) -> Result<Expr, ParseFault>
         requires { ReadsDeeper self.now.depth (F.pre self.now.deeper) (F.post self.now.deeper) }
-        ensures { ReadsAs tree (reader.conditional (reader.expr self.now.depth)
-            self.now.inside tokens.old) result tokens.new }
+        ensures { ReadsAs tree (reader.conditional (reader.expr self.now.depth) self.now.inside
+            tokens.old) result tokens.new }
     {
         let test = self.level(tokens, Precedence::Disjunction)?;
         if tokens.eat(Symbol::Question) {

@@ -322,10 +322,10 @@ module _ (R : Bool → Parser ExprTree) (E : Bool → ExprTree → Tokens → To
   abbrev OneClause : Keyword → ClauseTree → Tokens → Tokens → Type 0
   OneClause keyword c a b = IsClause E inside (c ∷ []) (k.Keyword keyword ∷ a) b
 
-  count_sound : (ls : List LetPart) (i : Option IntoPart) (g : AggregatePart) → says ls (g ∷ []) i ≡ true
-  count_sound [] None g = refl
-  count_sound [] (Some i) g = refl
-  count_sound (l ∷ ls) i g = refl
+  count_says : (ls : List LetPart) (i : Option IntoPart) (g : AggregatePart) → says ls (g ∷ []) i ≡ true
+  count_says [] None g = refl
+  count_says [] (Some i) g = refl
+  count_says (l ∷ ls) i g = refl
 
   collect_sound : Sound (collect R inside) (OneClause w.Collect)
   unfolding collect
@@ -338,7 +338,7 @@ module _ (R : Bool → Parser ExprTree) (E : Bool → ExprTree → Tokens → To
       let n = count_sound (next ls.0.1) v.0 v.1 in
       done (OneClause w.Collect) ts _ v.0.1 y v.2
       (IsClause.collect (subst (λ r. AreAny (IsAssigned E inside) ls.0.0 ts r) m.0 spelt)
-      (IsTail.count n.1.0 n.1.1) (count_sound ls.0.0 None _)))
+      (IsTail.count n.1.0 n.1.1) (count_says ls.0.0 None _)))
       (λ m.
       let gs = bind_some (aggregates R inside ls.0.1) _ y m.1 in
       let i = bind_some (into R inside gs.0.1) _ y gs.2 in

@@ -216,7 +216,7 @@ module _ (P : ExprTree → Tokens → Tokens → Type 0) (shrinks : Shrinks P) w
   chain_shrinks precedence x a b (IsChain.alone h) = shrinks x a b h
   chain_shrinks precedence x a b (IsChain.linked {x = first} {l = l} {ls = ls} {b = c} h more) =
       let i = shrinks first a c h in let j = many_falls (IsLink precedence P) (link_shrinks precedence)
-          (l ∷ ls) c b
+      (l ∷ ls) c b
       more in omega arith
 
   pub range_shrinks : Shrinks (IsRange P)

@@ -14,19 +14,19 @@ pub returns-in_err-of-in-Some : goal.returns-in_err-of-in-Some
 unfolding unary_from
 returns-in_err-of-in-Some g t c =
     let e = deeper (λ n. unary_from (expr c.args.self.now.depth) c.args.self.now.inside n c.args.tokens.now)
-        c.args.turns (omega arith) in
+    c.args.turns (omega arith) in
     first_of (search rules, grind (arith, common_steps))
 
 pub returns-in-None : goal.returns-in-None
 unfolding unary_from
 returns-in-None g t c =
     let e = deeper (λ n. unary_from (expr c.args.self.now.depth) c.args.self.now.inside n c.args.tokens.now)
-        c.args.turns (omega arith) in
+    c.args.turns (omega arith) in
     first_of (search rules, grind (arith, common_steps))
 
 pub returns-in_ok-unary-in-Some : goal.returns-in_ok-unary-in-Some
 unfolding unary_from
 returns-in_ok-unary-in-Some g t c =
     let e = deeper (λ n. unary_from (expr c.args.self.now.depth) c.args.self.now.inside n c.args.tokens.now)
-        c.args.turns (omega arith) in
+    c.args.turns (omega arith) in
     first_of (search rules, grind (arith, common_steps))
