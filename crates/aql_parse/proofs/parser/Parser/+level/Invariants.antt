@@ -30,6 +30,7 @@ decreases-array_comparison g l = 36
 
 abbrev pub invariant-links-loop-turn : goal.invariant-links-loop-turn
 invariant-links-loop-turn g l =
-    many (sees_operator l.precedence) (link (operand (expr l.self.depth) l.self.inside l.precedence)) l.fn.tokens
+    many (sees_operator l.precedence) (link (operand (expr l.self.depth) l.self.inside l.precedence))
+    l.fn.tokens
     ≡ many_from (sees_operator l.precedence) (link (operand (expr l.self.depth) l.self.inside l.precedence))
     (l._turn-end - l._turn) (map link_part l.found) l.tokens
