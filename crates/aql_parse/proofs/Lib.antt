@@ -1,1 +1,2 @@
 mod ParseLaws
+mod Levels
