@@ -1,8 +1,9 @@
 //! The parts of COLLECT.
 
+ghost use Rattle.aql_grammar.specs.Clauses.{says};
 ghost use Rattle.aql_grammar.specs.Input.{ReadsAs, separated};
 ghost use Rattle.aql_parse.specs.Deeper.{ReadsDeeper};
-ghost use Rattle.aql_tree.specs.View.{tree, aggregates, clause_tree, let_part, aggregate_part};
+ghost use Rattle.aql_tree.specs.View.{tree, clause_tree, let_part, aggregate_part};
 ghost use Rattle.aql_tree.specs.View.{into_part};
 ghost use Rattle.std.specs.Prelude.{◌≡◌, ◌∷◌, IfOk, map, option_map, option_copied, codes, None};
 ghost use Rattle.std.specs.Prelude.{[]};

@@ -2,7 +2,7 @@
 
 ghost use Rattle.aql_grammar.specs.Input.{ReadsAs, many, at_front};
 ghost use Rattle.aql_parse.specs.Deeper.{ReadsDeeper};
-ghost use Rattle.aql_tree.specs.View.{tree, steps, step_part};
+ghost use Rattle.aql_tree.specs.View.{tree, step_part};
 ghost use Rattle.std.specs.Prelude.{◌≡◌, IfOk, map, option_map};
 ghost use Rattle.aql_grammar.specs.Reader as reader;
 
