@@ -1,7 +1,7 @@
 -- How tokens spell an expression (AQL manual, Operators, and AQL fundamentals, Syntax): one rule for
 -- each level of precedence, from the tightest on. `E` is the rule for expressions one bracket deeper,
 -- and `inside` says whether the place is in the FILTER or RETURN of an inline operator.
-use Rattle.std.specs.Prelude.{ℤ, Bool, true, false, List, [], ◌∷◌, Option, Some, None}
+use Rattle.std.specs.Prelude.{ℕ, ℤ, Bool, true, false, List, [], ◌∷◌, Option, Some, None}
 use Rattle.aql_lex.specs.declared.kinds.TokenKind.TheVariants as k
 use Rattle.aql_lex.specs.declared.vocabulary.Keyword.TheVariants as w
 use Rattle.aql_lex.specs.declared.vocabulary.Symbol.TheVariants as s

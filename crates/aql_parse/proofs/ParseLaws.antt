@@ -18,7 +18,7 @@ use Rattle.aql_parse.specs.Parsed.{WithinLimits, IsShallow, HasNoTree, Traverses
 use Rattle.aql_parse.specs.Parsed.{ReadsWhole}
 
 pub no_tree : (ts : Tokens) → whole_query ts ≡ None → HasNoTree ts
-no_tree ts none q a = let p = tree_whole_query ts q a in absurd (cc)
+no_tree ts none q a = let p = tree_whole ts q a in absurd (cc)
 
 -- what the grammar refuses within the limits
 pub refused : (ts : Tokens) (e : ParseFault) → ReadsWhole (whole_query ts) (Err e) → nesting ts ≤ 64
