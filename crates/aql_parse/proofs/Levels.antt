@@ -1,29 +1,13 @@
 -- The precedences, from the tightest on.
-use Rattle.std.proofs.Common.{◌≡◌, ◌<◌, ◌+◌, Bool, Some, refl, subst, arith}
+use Rattle.std.proofs.Common.{◌≡◌, Bool, refl}
 use Rattle.std.specs.Prelude.{◌≢◌}
 use Rattle.aql_tree.specs.Tree.{ExprTree}
 use Rattle.aql_grammar.specs.declared.precedence.Precedence.{Precedence}
 use Rattle.aql_grammar.specs.declared.precedence.Precedence.TheVariants as level
 use Rattle.aql_grammar.specs.Kinds.{Tokens}
-use Rattle.aql_grammar.specs.Operators.{tighter}
 use Rattle.aql_grammar.specs.Input.{Parser}
 use Rattle.aql_grammar.specs.Reader.{level_at, operand, chain, product, sum, relation, membership, equality}
 use Rattle.aql_grammar.specs.Reader.{conjunction, disjunction}
-use Rattle.aql_grammar.specs.laws.OperatorLaws.{order}
-
-falls : (t u : Precedence) → t ≡ u → order t < order t + 1 → order u < order t + 1
-falls t u e h = let P : Precedence → Type 0 = λ q. order q < order t + 1 in subst P e h
-
-pub order_tighter : (p t : Precedence) → tighter p ≡ Some t → order t < order p
-order_tighter level.Product t h = absurd (cc)
-order_tighter level.Sum t h = falls level.Product t (let e : level.Product ≡ t = cc in e) (omega arith)
-order_tighter level.Range t h = falls level.Sum t (let e : level.Sum ≡ t = cc in e) (omega arith)
-order_tighter level.Relation t h = falls level.Range t (let e : level.Range ≡ t = cc in e) (omega arith)
-order_tighter level.Membership t h = falls level.Relation t (let e : level.Relation ≡ t = cc in e) (omega arith)
-order_tighter level.Equality t h = falls level.Membership t (let e : level.Membership ≡ t = cc in e) (omega arith)
-order_tighter level.ArrayComparison t h = falls level.Equality t (let e : level.Equality ≡ t = cc in e) (omega arith)
-order_tighter level.Conjunction t h = falls level.ArrayComparison t (let e : level.ArrayComparison ≡ t = cc in e) (omega arith)
-order_tighter level.Disjunction t h = falls level.Conjunction t (let e : level.Conjunction ≡ t = cc in e) (omega arith)
 
 -- a level whose operators form chains
 pub chain_level : (E : Bool → Parser ExprTree) (inside : Bool) (p : Precedence) (ts : Tokens) → p ≢ level.Range

@@ -139,7 +139,7 @@ impl<F: Fn(Global, &mut Cursor<'_>, usize, bool) -> Result<Expr, ParseFault>> Pa
         match precedence {
             Precedence::Range => self.range(tokens),
             Precedence::ArrayComparison => self.array_comparison(tokens),
-            other => self.chain(tokens, other),
+            _ => self.chain(tokens, precedence),
         }
     }
 

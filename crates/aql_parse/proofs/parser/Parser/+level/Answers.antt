@@ -3,9 +3,10 @@ use Rattle.std.proofs.lemmas.Grind.{common_steps}
 use Rattle.aql_tree.specs.View.{LinkPart, link_part}
 use Rattle.aql_grammar.specs.Kinds.{Tokens}
 use Rattle.aql_grammar.specs.Input.{Outcome, many, many_from}
-use Rattle.aql_grammar.specs.Reader.{expr, sees_operator, link, operand, level_at}
+use Rattle.aql_grammar.specs.Reader.{expr, sees_operator, link, operand, level_at, span, comparison_level}
 use Rattle.aql_grammar.specs.declared.precedence.Precedence.{Precedence}
 use Rattle.aql_grammar.specs.laws.Turns.{one_more, no_more}
+use Rattle.aql_parse.proofs.Levels.{chain_level}
 use Rattle.aql_parse.proofs.parser.Parser.+level.Goals as goal
 
 -- what is read in the turns that are left
@@ -48,3 +49,20 @@ links-returns g t c =
     (map link_part c.loop-turn.found) c.loop-turn.tokens) c.left-turn-end.result c.loop-turn._turn
     (omega arith) c.loop-turn.invariant in
     first_of (search rules, grind (arith, common_steps))
+
+pub level-returns-in-Range : goal.level-returns-in-Range
+unfolding span
+level-returns-in-Range g t c =
+    rw (ap (λ p. level_at (expr c.args.self.now.depth) c.args.self.now.inside p c.args.tokens.now) c.in-Range.is)
+    c.range.ensures
+
+pub level-returns-in-ArrayComparison : goal.level-returns-in-ArrayComparison
+unfolding comparison_level
+level-returns-in-ArrayComparison g t c =
+    rw (ap (λ p. level_at (expr c.args.self.now.depth) c.args.self.now.inside p c.args.tokens.now)
+    c.in-ArrayComparison.is) c.array_comparison.ensures
+
+pub level-returns-in_default : goal.level-returns-in_default
+level-returns-in_default g t c =
+    rw (chain_level (expr c.args.self.now.depth) c.args.self.now.inside c.args.precedence c.args.tokens.now
+    c.in_default.not-Range c.in_default.not-ArrayComparison) c.chain.ensures
