@@ -1,4 +1,4 @@
-use Rattle.std.proofs.Common.{◌≡◌, ℕ, Bool, List, map, ap, rules, arith}
+use Rattle.std.proofs.Common.{ℕ, Bool, List, map, ap, rules, arith}
 use Rattle.std.proofs.lemmas.Grind.{common_steps}
 use Rattle.aql_tree.specs.View.{LinkPart, link_part}
 use Rattle.aql_grammar.specs.Kinds.{Tokens}
