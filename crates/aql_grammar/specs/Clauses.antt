@@ -121,7 +121,7 @@ module _ (E : Bool → ExprTree → Tokens → Tokens → Type 0) (inside : Bool
     for_paths : {names : e.WalkNames} {least greatest : ℕ} {way : Direction} {start : ExprTree}
         {edges : List (List ℕ)} {prune : Option ExprTree} {ms : List MemberPart}
         {a b c d f g h i : Tokens} → AreTraversalNames names a (k.Keyword w.In ∷ b)
-            → IsDepth least greatest b c
+        → IsDepth least greatest b c
         → IsDirection way c d → E inside start d f
         → AreSeparated IsName edges f g → IsPrune prune g h → AreOptions ms h i
         → IsClause (walked (e.traversal names least greatest way start edges prune ms) ∷ [])

@@ -13,6 +13,8 @@ use Rattle.aql_tree.specs.Tree as tree
 use Rattle.aql_tree.specs.View.{MemberPart, StepPart, LinkPart}
 use Rattle.aql_tree.specs.View as part
 use Rattle.aql_tree.specs.Made as e
+use Rattle.aql_grammar.specs.declared.precedence.Precedence.{Precedence}
+use Rattle.aql_grammar.specs.declared.precedence.Precedence.TheVariants as level
 use Rattle.aql_grammar.specs.Kinds.{Tokens}
 use Rattle.aql_grammar.specs.Spelling.{IsName, AreMany, AreAny, AreItems}
 use Rattle.aql_grammar.specs.Operators.{IsOperator, IsComparison, IsQuantifier, IsUnaryOperator}
@@ -75,18 +77,20 @@ module _ (E : Bool → ExprTree → Tokens → Tokens → Type 0) (inside : Bool
     applied : {op : UnaryOp} {x : ExprTree} {a b c : Tokens} → IsUnaryOperator op a b → IsUnary x b c
         → IsUnary (unary_of op x) a c
 
--- an operator of a level and its right side
-pub data IsLink (level : ℕ) (P : ExprTree → Tokens → Tokens → Type 0) : LinkPart → Tokens → Tokens
+-- an operator of a precedence and its right side
+pub data IsLink (precedence : Precedence) (P : ExprTree → Tokens → Tokens → Type 0) : LinkPart → Tokens
+    → Tokens
     → Type 0 where
-  link : {op : BinOp} {x : ExprTree} {a b c : Tokens} → IsOperator level op a b → P x b c
-      → IsLink level P (e.link op x) a c
+  link : {op : BinOp} {x : ExprTree} {a b c : Tokens} → IsOperator precedence op a b → P x b c
+      → IsLink precedence P (e.link op x) a c
 
--- P {operator P}, with the operators of a level
-pub data IsChain (level : ℕ) (P : ExprTree → Tokens → Tokens → Type 0) : ExprTree → Tokens → Tokens
+-- P {operator P}, with the operators of a precedence
+pub data IsChain (precedence : Precedence) (P : ExprTree → Tokens → Tokens → Type 0) : ExprTree → Tokens
+    → Tokens
     → Type 0 where
-  alone : {x : ExprTree} {a b : Tokens} → P x a b → IsChain level P x a b
+  alone : {x : ExprTree} {a b : Tokens} → P x a b → IsChain precedence P x a b
   linked : {x : ExprTree} {l : LinkPart} {ls : List LinkPart} {a b c : Tokens} → P x a b
-      → AreMany (IsLink level P) (l ∷ ls) b c → IsChain level P (e.linked x l ls) a c
+      → AreMany (IsLink precedence P) (l ∷ ls) b c → IsChain precedence P (e.linked x l ls) a c
 
 -- P [".." P]
 pub data IsRange (P : ExprTree → Tokens → Tokens → Type 0) : ExprTree → Tokens → Tokens → Type 0 where
@@ -104,11 +108,11 @@ pub data IsQuantified (P : ExprTree → Tokens → Tokens → Type 0) : ExprTree
 module _ (E : Bool → ExprTree → Tokens → Tokens → Type 0) (inside : Bool) where
   -- Unary {("*" | "/" | "%") Unary}
   abbrev pub IsProduct : ExprTree → Tokens → Tokens → Type 0
-  IsProduct = IsChain 1 (IsUnary E inside)
+  IsProduct = IsChain level.Product (IsUnary E inside)
 
   -- Product {("+" | "-") Product}
   abbrev pub IsSum : ExprTree → Tokens → Tokens → Type 0
-  IsSum = IsChain 2 IsProduct
+  IsSum = IsChain level.Sum IsProduct
 
   -- Sum [".." Sum]
   abbrev pub IsSpan : ExprTree → Tokens → Tokens → Type 0
@@ -116,15 +120,15 @@ module _ (E : Bool → ExprTree → Tokens → Tokens → Type 0) (inside : Bool
 
   -- Span {("<" | "<=" | ">" | ">=") Span}
   abbrev pub IsRelation : ExprTree → Tokens → Tokens → Type 0
-  IsRelation = IsChain 4 IsSpan
+  IsRelation = IsChain level.Relation IsSpan
 
   -- Relation {("IN" | "NOT" "IN") Relation}
   abbrev pub IsMembership : ExprTree → Tokens → Tokens → Type 0
-  IsMembership = IsChain 5 IsRelation
+  IsMembership = IsChain level.Membership IsRelation
 
   -- Membership {("==" | "!=" | "LIKE" | "NOT" "LIKE") Membership}
   abbrev pub IsEquality : ExprTree → Tokens → Tokens → Type 0
-  IsEquality = IsChain 6 IsMembership
+  IsEquality = IsChain level.Equality IsMembership
 
   -- Equality [("ALL" | "ANY" | "NONE") Comparison Equality]
   abbrev pub IsArrayComparison : ExprTree → Tokens → Tokens → Type 0
@@ -132,11 +136,11 @@ module _ (E : Bool → ExprTree → Tokens → Tokens → Type 0) (inside : Bool
 
   -- ArrayComparison {("&&" | "AND") ArrayComparison}
   abbrev pub IsConjunction : ExprTree → Tokens → Tokens → Type 0
-  IsConjunction = IsChain 8 IsArrayComparison
+  IsConjunction = IsChain level.Conjunction IsArrayComparison
 
   -- Conjunction {("||" | "OR") Conjunction}
   abbrev pub IsDisjunction : ExprTree → Tokens → Tokens → Type 0
-  IsDisjunction = IsChain 9 IsConjunction
+  IsDisjunction = IsChain level.Disjunction IsConjunction
 
   -- Disjunction ["?" [Expr] ":" Expr]
   pub data IsConditional : ExprTree → Tokens → Tokens → Type 0 where

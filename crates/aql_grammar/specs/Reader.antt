@@ -21,7 +21,12 @@ use Rattle.aql_tree.specs.View.{MemberPart, StepPart, LinkPart, KeyPart, sort, L
 use Rattle.aql_tree.specs.View.{IntoPart, grouped, walked}
 use Rattle.aql_tree.specs.View as part
 use Rattle.aql_tree.specs.Made as e
+use Rattle.aql_grammar.specs.declared.precedence.Precedence.{Precedence}
+use Rattle.aql_grammar.specs.declared.precedence.Precedence.TheVariants as level
+use Rattle.aql_grammar.specs.contracts.precedence.Precedence as precedence
+use denote.Enum.Bare.{sameb}
 use Rattle.aql_grammar.specs.Kinds.{Tokens}
+use Rattle.aql_grammar.specs.Operators.{tighter}
 use Rattle.aql_grammar.specs.Objects.{word_value}
 use Rattle.aql_grammar.specs.Clauses.{depth_number, says}
 use Rattle.aql_grammar.specs.Input.{Parser, ◌>>=◌, ◌>>◌, ◌<$>◌, pure, refuse, peek, look, head, next}
@@ -39,44 +44,44 @@ word = peek >>= word_by
 
 -- ---- operators
 
--- the level of an operator, and the operator
-abbrev pub operator_of_symbol : Symbol → Option (ℕ × BinOp)
-operator_of_symbol s.Star = Some (1, op.Mul)
-operator_of_symbol s.Slash = Some (1, op.Div)
-operator_of_symbol s.Percent = Some (1, op.Rem)
-operator_of_symbol s.Plus = Some (2, op.Add)
-operator_of_symbol s.Minus = Some (2, op.Sub)
-operator_of_symbol s.Less = Some (4, op.Lt)
-operator_of_symbol s.LessOrEqual = Some (4, op.Le)
-operator_of_symbol s.Greater = Some (4, op.Gt)
-operator_of_symbol s.GreaterOrEqual = Some (4, op.Ge)
-operator_of_symbol s.Equal = Some (6, op.Eq)
-operator_of_symbol s.NotEqual = Some (6, op.Ne)
-operator_of_symbol s.And = Some (8, op.And)
-operator_of_symbol s.Or = Some (9, op.Or)
+-- the precedence of an operator, and the operator
+abbrev pub operator_of_symbol : Symbol → Option (Precedence × BinOp)
+operator_of_symbol s.Star = Some (level.Product, op.Mul)
+operator_of_symbol s.Slash = Some (level.Product, op.Div)
+operator_of_symbol s.Percent = Some (level.Product, op.Rem)
+operator_of_symbol s.Plus = Some (level.Sum, op.Add)
+operator_of_symbol s.Minus = Some (level.Sum, op.Sub)
+operator_of_symbol s.Less = Some (level.Relation, op.Lt)
+operator_of_symbol s.LessOrEqual = Some (level.Relation, op.Le)
+operator_of_symbol s.Greater = Some (level.Relation, op.Gt)
+operator_of_symbol s.GreaterOrEqual = Some (level.Relation, op.Ge)
+operator_of_symbol s.Equal = Some (level.Equality, op.Eq)
+operator_of_symbol s.NotEqual = Some (level.Equality, op.Ne)
+operator_of_symbol s.And = Some (level.Conjunction, op.And)
+operator_of_symbol s.Or = Some (level.Disjunction, op.Or)
 operator_of_symbol other = None
 
-abbrev pub operator_of_keyword : Keyword → Option (ℕ × BinOp)
-operator_of_keyword w.In = Some (5, op.IsIn)
-operator_of_keyword w.Like = Some (6, op.Like)
-operator_of_keyword w.And = Some (8, op.And)
-operator_of_keyword w.Or = Some (9, op.Or)
+abbrev pub operator_of_keyword : Keyword → Option (Precedence × BinOp)
+operator_of_keyword w.In = Some (level.Membership, op.IsIn)
+operator_of_keyword w.Like = Some (level.Equality, op.Like)
+operator_of_keyword w.And = Some (level.Conjunction, op.And)
+operator_of_keyword w.Or = Some (level.Disjunction, op.Or)
 operator_of_keyword other = None
 
 -- after `NOT`
-abbrev pub operator_after_not : Option TokenKind → Option (ℕ × BinOp)
-operator_after_not (Some (k.Keyword w.In)) = Some (5, op.NotIn)
-operator_after_not (Some (k.Keyword w.Like)) = Some (6, op.NotLike)
+abbrev pub operator_after_not : Option TokenKind → Option (Precedence × BinOp)
+operator_after_not (Some (k.Keyword w.In)) = Some (level.Membership, op.NotIn)
+operator_after_not (Some (k.Keyword w.Like)) = Some (level.Equality, op.NotLike)
 operator_after_not other = None
 
 -- by the first token and the second
-abbrev pub operator_by : Option TokenKind → Option TokenKind → Option (ℕ × BinOp)
+abbrev pub operator_by : Option TokenKind → Option TokenKind → Option (Precedence × BinOp)
 operator_by (Some (k.Symbol symbol)) u = operator_of_symbol symbol
 operator_by (Some (k.Keyword w.Not)) u = operator_after_not u
 operator_by (Some (k.Keyword keyword)) u = operator_of_keyword keyword
 operator_by other u = None
 
-unfoldable pub operator_ahead : Tokens → Option (ℕ × BinOp)
+unfoldable pub operator_ahead : Tokens → Option (Precedence × BinOp)
 operator_ahead i = operator_by (head i) (head (next i))
 
 abbrev pub has_two_words : BinOp → Bool
@@ -98,14 +103,14 @@ compares other = false
 unfoldable pub after_operator : BinOp → Tokens → Tokens
 after_operator o i = if has_two_words o then next (next i) else next i
 
-abbrev pub operator_then : Option (ℕ × BinOp) → Parser BinOp
+abbrev pub operator_then : Option (Precedence × BinOp) → Parser BinOp
 operator_then (Some p) = λ i. Some (p.1, after_operator p.1 i)
 operator_then None = refuse
 
 unfoldable pub operator : Parser BinOp
 operator = look operator_ahead >>= operator_then
 
-abbrev pub is_comparison : Option (ℕ × BinOp) → Bool
+abbrev pub is_comparison : Option (Precedence × BinOp) → Bool
 is_comparison (Some p) = compares p.1
 is_comparison None = false
 
@@ -117,26 +122,16 @@ comparison = do
   is_there ← look begins_comparison
   if is_there then operator else refuse
 
--- of a token that is no such operator
-abbrev pub other_rank : Option TokenKind → ℕ
-other_rank (Some (k.Symbol s.Dot)) = 0
-other_rank (Some (k.Symbol s.OpenBracket)) = 0
-other_rank (Some (k.Symbol s.OpenParen)) = 0
-other_rank (Some (k.Symbol s.Range)) = 3
-other_rank (Some (k.Keyword w.All)) = 7
-other_rank (Some (k.Keyword w.Any)) = 7
-other_rank (Some (k.Keyword w.None)) = 7
-other_rank (Some (k.Symbol s.Question)) = 10
-other_rank other = 11
+unfoldable pub same_precedence : Precedence → Precedence → Bool
+same_precedence = sameb precedence.the_type
 
-abbrev pub rank_by : Option (ℕ × BinOp) → Option TokenKind → ℕ
-rank_by (Some p) t = p.0
-rank_by None t = other_rank t
+abbrev pub has_precedence : Precedence → Option (Precedence × BinOp) → Bool
+has_precedence precedence (Some p) = same_precedence p.0 precedence
+has_precedence precedence None = false
 
--- the level of what the tokens would go on with after an operand: 0 for a step or a call, 10 for
--- the ternary, 11 for nothing
-unfoldable pub rank : Tokens → ℕ
-rank i = rank_by (operator_ahead i) (head i)
+-- whether an operator of this precedence comes next
+unfoldable pub sees_operator : Precedence → Tokens → Bool
+sees_operator precedence i = has_precedence precedence (operator_ahead i)
 
 abbrev pub quantifier_by : Option TokenKind → Parser QuantKind
 quantifier_by (Some (k.Keyword w.All)) = skip >> pure quant.All
@@ -146,6 +141,12 @@ quantifier_by other = refuse
 
 unfoldable pub quantifier : Parser QuantKind
 quantifier = peek >>= quantifier_by
+
+abbrev pub begins_quantifier : Option TokenKind → Bool
+begins_quantifier (Some (k.Keyword w.All)) = true
+begins_quantifier (Some (k.Keyword w.Any)) = true
+begins_quantifier (Some (k.Keyword w.None)) = true
+begins_quantifier other = false
 
 abbrev pub unary_at : Option TokenKind → Option UnaryOp
 unary_at (Some (k.Symbol s.Plus)) = Some un.Plus
@@ -510,7 +511,7 @@ module _ (expr : Bool → Parser ExprTree) (inside : Bool) where
     steps ← many (at_front begins_step) step
     pure (access_of of steps)
 
-  -- ---- operators, level by level
+  -- ---- operators, from the tightest on
 
   -- the number bounds the operators
   unfoldable pub unary_from : ℕ → Parser ExprTree
@@ -527,13 +528,10 @@ link part = do
   o ← operator
   e.link o <$> part
 
-abbrev pub at_level : ℕ → Tokens → Bool
-at_level level i = rank i == level
-
-unfoldable pub chain : ℕ → Parser ExprTree → Parser ExprTree
-chain level part = do
+unfoldable pub chain : Precedence → Parser ExprTree → Parser ExprTree
+chain precedence part = do
   first ← part
-  rest ← many (at_level level) (link part)
+  rest ← many (sees_operator precedence) (link part)
   pure (chain_of first rest)
 
 unfoldable pub range : Parser ExprTree → Parser ExprTree
@@ -545,21 +543,60 @@ range part = do
 unfoldable pub array_comparison : Parser ExprTree → Parser ExprTree
 array_comparison part = do
   left ← part
-  is_quantified ← look (at_level 7)
+  is_quantified ← look (at_front begins_quantifier)
   if is_quantified then (do
     kind ← quantifier
     o ← comparison
     tree.quantified left kind o <$> part)
       else pure left
 
-abbrev pub level_by : ℕ → Parser ExprTree → Parser ExprTree
-level_by level part = if level == 3 then range part else if level == 7 then array_comparison part else chain
-    level part
-
 module _ (expr : Bool → Parser ExprTree) (inside : Bool) where
-  unfoldable pub level_at : ℕ → Parser ExprTree
-  level_at zero = unary expr inside
-  level_at (suc k) = level_by (suc k) (level_at k)
+  unfoldable pub product : Parser ExprTree
+  product = chain level.Product (unary expr inside)
+
+  unfoldable pub sum : Parser ExprTree
+  sum = chain level.Sum product
+
+  unfoldable pub span : Parser ExprTree
+  span = range sum
+
+  unfoldable pub relation : Parser ExprTree
+  relation = chain level.Relation span
+
+  unfoldable pub membership : Parser ExprTree
+  membership = chain level.Membership relation
+
+  unfoldable pub equality : Parser ExprTree
+  equality = chain level.Equality membership
+
+  unfoldable pub comparison_level : Parser ExprTree
+  comparison_level = array_comparison equality
+
+  unfoldable pub conjunction : Parser ExprTree
+  conjunction = chain level.Conjunction comparison_level
+
+  unfoldable pub disjunction : Parser ExprTree
+  disjunction = chain level.Disjunction conjunction
+
+  -- an expression whose operators bind at least so tightly
+  abbrev pub level_at : Precedence → Parser ExprTree
+  level_at level.Product = product
+  level_at level.Sum = sum
+  level_at level.Range = span
+  level_at level.Relation = relation
+  level_at level.Membership = membership
+  level_at level.Equality = equality
+  level_at level.ArrayComparison = comparison_level
+  level_at level.Conjunction = conjunction
+  level_at level.Disjunction = disjunction
+
+  abbrev pub tighter_level : Option Precedence → Parser ExprTree
+  tighter_level (Some precedence) = level_at precedence
+  tighter_level None = unary expr inside
+
+  -- what stands on both sides of an operator of this precedence
+  abbrev pub operand : Precedence → Parser ExprTree
+  operand precedence = tighter_level (tighter precedence)
 
   -- after the question mark
   unfoldable pub ternary_of : ExprTree → Parser ExprTree
@@ -572,7 +609,7 @@ module _ (expr : Bool → Parser ExprTree) (inside : Bool) where
 
   unfoldable pub conditional : Parser ExprTree
   conditional = do
-    test ← level_at 9
+    test ← disjunction
     is_choice ← eat s.Question
     if is_choice then ternary_of test else pure test
 

@@ -40,9 +40,14 @@ impl Model for Open {
 
     ghost use Rattle.std.specs.Prelude.{reverse, ◌≡◌, ◌+◌, length};
 
-    ghost view = { λ o. record { inner = o.inner; outer = reverse o.outer.items; signs = o.signs } };
+    ghost view = { λ o. record {
+      inner = o.inner;
+      outer = reverse o.outer.items;
+      signs = o.signs;
+    } };
 
-    ghost invariant = { λ o. o.around ≡ length (reverse o.outer.items) + limits.total (reverse o.outer.items) };
+    ghost invariant = { λ o. o.around ≡ length (reverse o.outer.items)
+        + limits.total (reverse o.outer.items) };
 }
 
 impl Open {

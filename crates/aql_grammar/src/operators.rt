@@ -7,62 +7,51 @@ ghost use Rattle.aql_grammar.specs.Reader as reader;
 
 use crate::ParseFault;
 use crate::cursor::Cursor;
+use crate::precedence::Precedence;
 use aql_func::{BinOp, UnaryOp};
 use aql_lex::{Keyword, Symbol, TokenKind};
 use aql_tree::{Direction, QuantKind};
 
-fn operator_of_symbol(symbol: Symbol) -> Option<(u8, BinOp)>
+fn operator_of_symbol(symbol: Symbol) -> Option<(Precedence, BinOp)>
     ensures { result ≡ reader.operator_of_symbol symbol }
 {
     match symbol {
-        Symbol::Star => Some((1, BinOp::Mul)),
-        Symbol::Slash => Some((1, BinOp::Div)),
-        Symbol::Percent => Some((1, BinOp::Rem)),
-        Symbol::Plus => Some((2, BinOp::Add)),
-        Symbol::Minus => Some((2, BinOp::Sub)),
-        Symbol::Less => Some((4, BinOp::Lt)),
-        Symbol::LessOrEqual => Some((4, BinOp::Le)),
-        Symbol::Greater => Some((4, BinOp::Gt)),
-        Symbol::GreaterOrEqual => Some((4, BinOp::Ge)),
-        Symbol::Equal => Some((6, BinOp::Eq)),
-        Symbol::NotEqual => Some((6, BinOp::Ne)),
-        Symbol::And => Some((8, BinOp::And)),
-        Symbol::Or => Some((9, BinOp::Or)),
+        Symbol::Star => Some((Precedence::Product, BinOp::Mul)),
+        Symbol::Slash => Some((Precedence::Product, BinOp::Div)),
+        Symbol::Percent => Some((Precedence::Product, BinOp::Rem)),
+        Symbol::Plus => Some((Precedence::Sum, BinOp::Add)),
+        Symbol::Minus => Some((Precedence::Sum, BinOp::Sub)),
+        Symbol::Less => Some((Precedence::Relation, BinOp::Lt)),
+        Symbol::LessOrEqual => Some((Precedence::Relation, BinOp::Le)),
+        Symbol::Greater => Some((Precedence::Relation, BinOp::Gt)),
+        Symbol::GreaterOrEqual => Some((Precedence::Relation, BinOp::Ge)),
+        Symbol::Equal => Some((Precedence::Equality, BinOp::Eq)),
+        Symbol::NotEqual => Some((Precedence::Equality, BinOp::Ne)),
+        Symbol::And => Some((Precedence::Conjunction, BinOp::And)),
+        Symbol::Or => Some((Precedence::Disjunction, BinOp::Or)),
         _ => None,
     }
 }
 
-fn operator_of_keyword(keyword: Keyword) -> Option<(u8, BinOp)>
+fn operator_of_keyword(keyword: Keyword) -> Option<(Precedence, BinOp)>
     ensures { result ≡ reader.operator_of_keyword keyword }
 {
     match keyword {
-        Keyword::In => Some((5, BinOp::IsIn)),
-        Keyword::Like => Some((6, BinOp::Like)),
-        Keyword::And => Some((8, BinOp::And)),
-        Keyword::Or => Some((9, BinOp::Or)),
+        Keyword::In => Some((Precedence::Membership, BinOp::IsIn)),
+        Keyword::Like => Some((Precedence::Equality, BinOp::Like)),
+        Keyword::And => Some((Precedence::Conjunction, BinOp::And)),
+        Keyword::Or => Some((Precedence::Disjunction, BinOp::Or)),
         _ => None,
     }
 }
 
-fn operator_after_not(next: Option<&TokenKind>) -> Option<(u8, BinOp)>
+fn operator_after_not(next: Option<&TokenKind>) -> Option<(Precedence, BinOp)>
     ensures { result ≡ reader.operator_after_not (option_copied next.entry) }
 {
     match next {
-        Some(TokenKind::Keyword(Keyword::In)) => Some((5, BinOp::NotIn)),
-        Some(TokenKind::Keyword(Keyword::Like)) => Some((6, BinOp::NotLike)),
+        Some(TokenKind::Keyword(Keyword::In)) => Some((Precedence::Membership, BinOp::NotIn)),
+        Some(TokenKind::Keyword(Keyword::Like)) => Some((Precedence::Equality, BinOp::NotLike)),
         _ => None,
-    }
-}
-
-fn other_rank(next: Option<&TokenKind>) -> u8
-    ensures { result ≡ reader.other_rank (option_copied next.entry) }
-{
-    match next {
-        Some(TokenKind::Symbol(Symbol::Dot | Symbol::OpenBracket | Symbol::OpenParen)) => 0,
-        Some(TokenKind::Symbol(Symbol::Range)) => 3,
-        Some(TokenKind::Keyword(Keyword::All | Keyword::Any | Keyword::None)) => 7,
-        Some(TokenKind::Symbol(Symbol::Question)) => 10,
-        _ => 11,
     }
 }
 
@@ -86,6 +75,16 @@ fn has_two_words(op: BinOp) -> bool
     ensures { result ≡ reader.has_two_words op }
 {
     matches!(op, BinOp::NotIn | BinOp::NotLike)
+}
+
+/// Whether ALL, ANY or NONE stands there.
+pub fn begins_quantifier(next: Option<&TokenKind>) -> bool
+    ensures { result ≡ reader.begins_quantifier (option_copied next.entry) }
+{
+    matches!(
+        next,
+        Some(TokenKind::Keyword(Keyword::All | Keyword::Any | Keyword::None))
+    )
 }
 
 pub fn unary_at(next: Option<&TokenKind>) -> Option<UnaryOp>
@@ -147,9 +146,9 @@ pub fn is_number(next: Option<&TokenKind>) -> bool
 }
 
 impl<'a> Cursor<'a> {
-    /// The operator that comes next, with its level of precedence.
+    // The operator that comes next, with its precedence.
     #[tactic(auto, unfolding(crate::specs::Reader::operator_ahead))]
-    fn operator_ahead(&self) -> Option<(u8, BinOp)>
+    fn operator_ahead(&self) -> Option<(Precedence, BinOp)>
         ensures { result ≡ reader.operator_ahead self.now }
     {
         match self.peek() {
@@ -160,15 +159,14 @@ impl<'a> Cursor<'a> {
         }
     }
 
-    /// The level of what the next token would go on with after an operand: 0 for a step or a call,
-    /// 1 to 9 for an operator, 10 for the ternary, 11 for nothing.
-    #[tactic(auto, unfolding(crate::specs::Reader::rank))]
-    pub fn rank(&self) -> u8
-        ensures { result ≡ reader.rank self.now }
+    /// Whether an operator of this precedence comes next.
+    #[tactic(auto, unfolding(crate::specs::Reader::sees_operator, crate::specs::Reader::same_precedence))]
+    pub fn sees_operator(&self, precedence: Precedence) -> bool
+        ensures { result ≡ reader.sees_operator precedence self.now }
     {
         match self.operator_ahead() {
-            Some((level, _)) => level,
-            None => other_rank(self.peek()),
+            Some((found, _)) => found == precedence,
+            None => false,
         }
     }
 

@@ -1,20 +1,24 @@
--- The levels of precedence as the code tells them apart.
-use Rattle.std.proofs.Common.{◌≡◌, ℕ, zero, suc, ◌-◌, Bool, false, ⊎_elim, refl, ap}
-use Rattle.std.proofs.Common.{arith}
-use Rattle.std.specs.Prelude.{◌==◌, ◌≢◌}
-use Rattle.std.proofs.lemmas.Bool.Decides.{eqb_tells}
+-- The precedences, from the tightest on.
+use Rattle.std.proofs.Common.{◌≡◌, Bool, refl}
+use Rattle.std.specs.Prelude.{◌≢◌}
 use Rattle.aql_tree.specs.Tree.{ExprTree}
+use Rattle.aql_grammar.specs.declared.precedence.Precedence.{Precedence}
+use Rattle.aql_grammar.specs.declared.precedence.Precedence.TheVariants as level
 use Rattle.aql_grammar.specs.Kinds.{Tokens}
 use Rattle.aql_grammar.specs.Input.{Parser}
-use Rattle.aql_grammar.specs.Reader.{level_at, chain}
+use Rattle.aql_grammar.specs.Reader.{level_at, operand, chain, product, sum, relation, membership, equality}
+use Rattle.aql_grammar.specs.Reader.{conjunction, disjunction}
 
-unequal : (m n : ℕ) → m ≢ n → (m == n) ≡ false
-unequal m n h = ⊎_elim (λ m. absurd (h m.1)) (λ m. m.0) (eqb_tells m n)
-
-pub level_other : (E : Bool → Parser ExprTree) (inside : Bool) (n : ℕ) (ts : Tokens) → n ≢ 0 → n ≢ 3 → n ≢ 7
-    → level_at E inside n ts ≡ chain n (level_at E inside (n - 1)) ts
-unfolding level_at
-level_other E inside zero ts some three seven = absurd (some refl)
-level_other E inside (suc k) ts some three seven = rw (unequal (suc k) 3 three)
-    (rw (unequal (suc k) 7 seven) (ap (λ m. chain (suc k) (level_at E inside m) ts)
-    (let e : k ≡ suc k - 1 = omega arith in e)))
+-- a level whose operators form chains
+pub chain_level : (E : Bool → Parser ExprTree) (inside : Bool) (p : Precedence) (ts : Tokens) → p ≢ level.Range
+    → p ≢ level.ArrayComparison → level_at E inside p ts ≡ chain p (operand E inside p) ts
+unfolding product sum relation membership equality conjunction disjunction
+chain_level E inside level.Product ts range comparison = refl
+chain_level E inside level.Sum ts range comparison = refl
+chain_level E inside level.Range ts range comparison = absurd (range refl)
+chain_level E inside level.Relation ts range comparison = refl
+chain_level E inside level.Membership ts range comparison = refl
+chain_level E inside level.Equality ts range comparison = refl
+chain_level E inside level.ArrayComparison ts range comparison = absurd (comparison refl)
+chain_level E inside level.Conjunction ts range comparison = refl
+chain_level E inside level.Disjunction ts range comparison = refl

@@ -55,8 +55,7 @@ impl<F: Fn(Global, &mut Cursor<'_>, usize, bool) -> Result<Expr, ParseFault>> Pa
     ) -> Result<Clauses, ParseFault>
         requires { ReadsDeeper self.now.depth (F.pre self.now.deeper) (F.post self.now.deeper) }
         ensures { ReadsAs (map clause_tree) (separated_onto (reader.let_clause (reader.expr
-            self.now.depth) self.now.inside) (map clause_tree found) tokens.old) result
-            tokens.new }
+            self.now.depth) self.now.inside) (map clause_tree found) tokens.old) result tokens.new }
     {
         for _turn in 0..tokens.left() {
             found.push(self.let_clause(tokens)?)?;
@@ -84,8 +83,8 @@ impl<F: Fn(Global, &mut Cursor<'_>, usize, bool) -> Result<Expr, ParseFault>> Pa
 
     fn sort_keys(&self, tokens: &mut Cursor<'_>) -> Result<Keys, ParseFault>
         requires { ReadsDeeper self.now.depth (F.pre self.now.deeper) (F.post self.now.deeper) }
-        ensures { ReadsAs (map key_part) (separated (reader.sort_key (reader.expr
-            self.now.depth) self.now.inside) tokens.old) result tokens.new }
+        ensures { ReadsAs (map key_part) (separated (reader.sort_key (reader.expr self.now.depth)
+            self.now.inside) tokens.old) result tokens.new }
     {
         let mut found = Seq::new(self.alloc);
         for _turn in 0..tokens.left() {

@@ -40,8 +40,8 @@ impl<F: Fn(Global, &mut Cursor<'_>, usize, bool) -> Result<Expr, ParseFault>> Pa
     #[tactic(auto, unfolding(aql_grammar::specs::Reader::assignment))]
     fn assignment(&self, tokens: &mut Cursor<'_>) -> Result<Let, ParseFault>
         requires { ReadsDeeper self.now.depth (F.pre self.now.deeper) (F.post self.now.deeper) }
-        ensures { ReadsAs let_part (reader.assignment (reader.expr self.now.depth)
-            self.now.inside tokens.old) result tokens.new }
+        ensures { ReadsAs let_part (reader.assignment (reader.expr self.now.depth) self.now.inside
+            tokens.old) result tokens.new }
     {
         let name = tokens.name(self.alloc)?;
         tokens.expect(Symbol::Assign)?;
@@ -51,8 +51,8 @@ impl<F: Fn(Global, &mut Cursor<'_>, usize, bool) -> Result<Expr, ParseFault>> Pa
 
     fn assignments(&self, tokens: &mut Cursor<'_>) -> Result<Lets, ParseFault>
         requires { ReadsDeeper self.now.depth (F.pre self.now.deeper) (F.post self.now.deeper) }
-        ensures { ReadsAs (map let_part) (separated (reader.assignment (reader.expr
-            self.now.depth) self.now.inside) tokens.old) result tokens.new }
+        ensures { ReadsAs (map let_part) (separated (reader.assignment (reader.expr self.now.depth)
+            self.now.inside) tokens.old) result tokens.new }
     {
         let mut found = Seq::new(self.alloc);
         for _turn in 0..tokens.left() {
@@ -67,8 +67,8 @@ impl<F: Fn(Global, &mut Cursor<'_>, usize, bool) -> Result<Expr, ParseFault>> Pa
     #[tactic(auto, unfolding(aql_grammar::specs::Reader::groups))]
     fn groups(&self, tokens: &mut Cursor<'_>) -> Result<Lets, ParseFault>
         requires { ReadsDeeper self.now.depth (F.pre self.now.deeper) (F.post self.now.deeper) }
-        ensures { ReadsAs (map let_part) (reader.groups (reader.expr self.now.depth)
-            self.now.inside tokens.old) result tokens.new }
+        ensures { ReadsAs (map let_part) (reader.groups (reader.expr self.now.depth) self.now.inside
+            tokens.old) result tokens.new }
     {
         if is_name(tokens.peek()) {
             self.assignments(tokens)
@@ -81,8 +81,8 @@ impl<F: Fn(Global, &mut Cursor<'_>, usize, bool) -> Result<Expr, ParseFault>> Pa
     #[tactic(auto, unfolding(aql_grammar::specs::Reader::optional_argument))]
     fn optional_argument(&self, tokens: &mut Cursor<'_>) -> Result<Option<Expr>, ParseFault>
         requires { ReadsDeeper self.now.depth (F.pre self.now.deeper) (F.post self.now.deeper) }
-        ensures { ReadsAs (option_map tree) (reader.optional_argument (reader.expr
-            self.now.depth) self.now.inside tokens.old) result tokens.new }
+        ensures { ReadsAs (option_map tree) (reader.optional_argument (reader.expr self.now.depth)
+            self.now.inside tokens.old) result tokens.new }
     {
         if tokens.eat(Symbol::CloseParen) {
             return Ok(None);
@@ -168,8 +168,8 @@ impl<F: Fn(Global, &mut Cursor<'_>, usize, bool) -> Result<Expr, ParseFault>> Pa
     #[tactic(auto, unfolding(aql_grammar::specs::Reader::collect))]
     pub fn collect(&self, tokens: &mut Cursor<'_>) -> Result<Clause, ParseFault>
         requires { ReadsDeeper self.now.depth (F.pre self.now.deeper) (F.post self.now.deeper) }
-        ensures { ReadsAs clause_tree (reader.collect (reader.expr self.now.depth)
-            self.now.inside tokens.old) result tokens.new }
+        ensures { ReadsAs clause_tree (reader.collect (reader.expr self.now.depth) self.now.inside
+            tokens.old) result tokens.new }
     {
         let groups = self.groups(tokens)?;
         if tokens.eat_keyword(Keyword::With) {

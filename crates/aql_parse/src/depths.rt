@@ -195,7 +195,7 @@ fn clauses_within(all: &[Clause], most: u32) -> bool
     true
 }
 
-/// Whether the greatest depth of each traversal in the query, wherever it stands, is at most `most`.
+/// Whether each traversal of the query, wherever it stands, goes at most `most` edges deep.
 #[cycle(within)]
 pub fn traversals_within(query: &Query, most: u32) -> bool
     ensures { result ≡ spec.traversals_within most (query_tree query.now) }

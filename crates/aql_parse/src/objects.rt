@@ -61,8 +61,8 @@ impl<F: Fn(Global, &mut Cursor<'_>, usize, bool) -> Result<Expr, ParseFault>> Pa
     #[tactic(auto, unfolding(aql_grammar::specs::Reader::member))]
     fn member(&self, tokens: &mut Cursor<'_>) -> Result<Field, ParseFault>
         requires { ReadsDeeper self.now.depth (F.pre self.now.deeper) (F.post self.now.deeper) }
-        ensures { ReadsAs member_part (reader.member (reader.expr self.now.depth)
-            self.now.inside tokens.old) result tokens.new }
+        ensures { ReadsAs member_part (reader.member (reader.expr self.now.depth) self.now.inside
+            tokens.old) result tokens.new }
     {
         match tokens.peek() {
             Some(TokenKind::Word(name)) => {

@@ -57,8 +57,8 @@ impl<F: Fn(Global, &mut Cursor<'_>, usize, bool) -> Result<Expr, ParseFault>> Pa
     /// A colon with the expression after it.
     pub fn value(&self, tokens: &mut Cursor<'_>) -> Result<Expr, ParseFault>
         requires { ReadsDeeper self.now.depth (F.pre self.now.deeper) (F.post self.now.deeper) }
-        ensures { ReadsAs tree (value (reader.expr self.now.depth self.now.inside) tokens.old) result
-            tokens.new }
+        ensures { ReadsAs tree (value (reader.expr self.now.depth self.now.inside) tokens.old)
+            result tokens.new }
     {
         tokens.expect(Symbol::Colon)?;
         self.expr(tokens)

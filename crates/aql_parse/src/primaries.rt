@@ -32,8 +32,8 @@ impl<F: Fn(Global, &mut Cursor<'_>, usize, bool) -> Result<Expr, ParseFault>> Pa
     #[tactic(auto, unfolding(aql_grammar::specs::Reader::argument))]
     fn argument(&self, tokens: &mut Cursor<'_>) -> Result<Expr, ParseFault>
         requires { ReadsDeeper self.now.depth (F.pre self.now.deeper) (F.post self.now.deeper) }
-        ensures { ReadsAs tree (reader.argument (reader.expr self.now.depth)
-            self.now.inside tokens.old) result tokens.new }
+        ensures { ReadsAs tree (reader.argument (reader.expr self.now.depth) self.now.inside
+            tokens.old) result tokens.new }
     {
         if begins_query(tokens.peek()) {
             let query = self.query(tokens, Seq::new(self.alloc))?;
@@ -45,9 +45,8 @@ impl<F: Fn(Global, &mut Cursor<'_>, usize, bool) -> Result<Expr, ParseFault>> Pa
 
     fn argument_list(&self, tokens: &mut Cursor<'_>) -> Result<Exprs, ParseFault>
         requires { ReadsDeeper self.now.depth (F.pre self.now.deeper) (F.post self.now.deeper) }
-        ensures { ReadsAs (map tree) (separated (reader.argument (reader.expr
-            self.now.depth) self.now.inside) tokens.old) result
-            tokens.new }
+        ensures { ReadsAs (map tree) (separated (reader.argument (reader.expr self.now.depth)
+            self.now.inside) tokens.old) result tokens.new }
     {
         let mut found = Seq::new(self.alloc);
         for _turn in 0..tokens.left() {
@@ -63,8 +62,8 @@ impl<F: Fn(Global, &mut Cursor<'_>, usize, bool) -> Result<Expr, ParseFault>> Pa
     #[tactic(auto, unfolding(aql_grammar::specs::Reader::arguments))]
     fn arguments(&self, tokens: &mut Cursor<'_>) -> Result<Exprs, ParseFault>
         requires { ReadsDeeper self.now.depth (F.pre self.now.deeper) (F.post self.now.deeper) }
-        ensures { ReadsAs (map tree) (reader.arguments (reader.expr self.now.depth)
-            self.now.inside tokens.old) result tokens.new }
+        ensures { ReadsAs (map tree) (reader.arguments (reader.expr self.now.depth) self.now.inside
+            tokens.old) result tokens.new }
     {
         if tokens.eat(Symbol::CloseParen) {
             return Ok(Seq::new(self.alloc));
@@ -78,8 +77,8 @@ impl<F: Fn(Global, &mut Cursor<'_>, usize, bool) -> Result<Expr, ParseFault>> Pa
     #[tactic(auto, unfolding(aql_grammar::specs::Reader::call_or_name))]
     fn call_or_name(&self, tokens: &mut Cursor<'_>, name: Text) -> Result<Expr, ParseFault>
         requires { ReadsDeeper self.now.depth (F.pre self.now.deeper) (F.post self.now.deeper) }
-        ensures { ReadsAs tree (reader.call_or_name (reader.expr self.now.depth)
-            self.now.inside name tokens.old) result tokens.new }
+        ensures { ReadsAs tree (reader.call_or_name (reader.expr self.now.depth) self.now.inside
+            name tokens.old) result tokens.new }
     {
         if tokens.eat(Symbol::OpenParen) {
             let args = self.arguments(tokens)?;
@@ -92,8 +91,8 @@ impl<F: Fn(Global, &mut Cursor<'_>, usize, bool) -> Result<Expr, ParseFault>> Pa
     #[tactic(auto, unfolding(aql_grammar::specs::Reader::parentheses))]
     fn parentheses(&self, tokens: &mut Cursor<'_>) -> Result<Expr, ParseFault>
         requires { ReadsDeeper self.now.depth (F.pre self.now.deeper) (F.post self.now.deeper) }
-        ensures { ReadsAs tree (reader.parentheses (reader.expr self.now.depth)
-            self.now.inside tokens.old) result tokens.new }
+        ensures { ReadsAs tree (reader.parentheses (reader.expr self.now.depth) self.now.inside
+            tokens.old) result tokens.new }
     {
         let found = self.argument(tokens)?;
         tokens.expect(Symbol::CloseParen)?;
@@ -103,8 +102,8 @@ impl<F: Fn(Global, &mut Cursor<'_>, usize, bool) -> Result<Expr, ParseFault>> Pa
     #[tactic(auto, unfolding(aql_grammar::specs::Reader::primary))]
     fn primary(&self, tokens: &mut Cursor<'_>) -> Result<Expr, ParseFault>
         requires { ReadsDeeper self.now.depth (F.pre self.now.deeper) (F.post self.now.deeper) }
-        ensures { ReadsAs tree (reader.primary (reader.expr self.now.depth)
-            self.now.inside tokens.old) result tokens.new }
+        ensures { ReadsAs tree (reader.primary (reader.expr self.now.depth) self.now.inside
+            tokens.old) result tokens.new }
     {
         match tokens.peek() {
             Some(TokenKind::Number(number)) => {
@@ -154,8 +153,8 @@ impl<F: Fn(Global, &mut Cursor<'_>, usize, bool) -> Result<Expr, ParseFault>> Pa
     #[tactic(auto, unfolding(aql_grammar::specs::Reader::postfix))]
     pub fn postfix(&self, tokens: &mut Cursor<'_>) -> Result<Expr, ParseFault>
         requires { ReadsDeeper self.now.depth (F.pre self.now.deeper) (F.post self.now.deeper) }
-        ensures { ReadsAs tree (reader.postfix (reader.expr self.now.depth)
-            self.now.inside tokens.old) result tokens.new }
+        ensures { ReadsAs tree (reader.postfix (reader.expr self.now.depth) self.now.inside
+            tokens.old) result tokens.new }
     {
         let of = self.primary(tokens)?;
         let steps = self.steps(tokens)?;

@@ -29,8 +29,8 @@ impl<F: Fn(Global, &mut Cursor<'_>, usize, bool) -> Result<Expr, ParseFault>> Pa
     #[tactic(auto, unfolding(aql_grammar::specs::Reader::query))]
     pub fn query(&self, tokens: &mut Cursor<'_>, with: Names) -> Result<Query, ParseFault>
         requires { ReadsDeeper self.now.depth (F.pre self.now.deeper) (F.post self.now.deeper) }
-        ensures { ReadsAs query_tree (reader.query (reader.expr self.now.depth)
-            self.now.inside with tokens.old) result tokens.new }
+        ensures { ReadsAs query_tree (reader.query (reader.expr self.now.depth) self.now.inside with
+            tokens.old) result tokens.new }
     {
         let clauses = self.clauses(tokens)?;
         tokens.expect_keyword(Keyword::Return)?;

@@ -58,8 +58,8 @@ impl<F: Fn(Global, &mut Cursor<'_>, usize, bool) -> Result<Expr, ParseFault>> Pa
     #[tactic(auto, unfolding(aql_grammar::specs::Reader::step))]
     fn step(&self, tokens: &mut Cursor<'_>) -> Result<Step, ParseFault>
         requires { ReadsDeeper self.now.depth (F.pre self.now.deeper) (F.post self.now.deeper) }
-        ensures { ReadsAs step_part (reader.step (reader.expr self.now.depth)
-            self.now.inside tokens.old) result tokens.new }
+        ensures { ReadsAs step_part (reader.step (reader.expr self.now.depth) self.now.inside
+            tokens.old) result tokens.new }
     {
         match tokens.peek() {
             Some(TokenKind::Symbol(Symbol::Dot)) => {
@@ -77,9 +77,8 @@ impl<F: Fn(Global, &mut Cursor<'_>, usize, bool) -> Result<Expr, ParseFault>> Pa
     /// The steps after an expression, if there are any.
     pub fn steps(&self, tokens: &mut Cursor<'_>) -> Result<Steps, ParseFault>
         requires { ReadsDeeper self.now.depth (F.pre self.now.deeper) (F.post self.now.deeper) }
-        ensures { ReadsAs (map step_part)
-            (many (at_front reader.begins_step) (reader.step (reader.expr self.now.depth)
-            self.now.inside) tokens.old) result tokens.new }
+        ensures { ReadsAs (map step_part) (many (at_front reader.begins_step) (reader.step
+            (reader.expr self.now.depth) self.now.inside) tokens.old) result tokens.new }
     {
         let mut found = Seq::new(self.alloc);
         for _turn in 0..tokens.left() {

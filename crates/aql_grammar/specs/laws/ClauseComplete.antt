@@ -457,7 +457,7 @@ module _ (R : Bool → Parser ExprTree) (E : Bool → ExprTree → Tokens → To
       let l5 = prune_falls E shrinks inside p g h hp in
       let started = complete inside start c f (omega arith) hs (names_front edges f g he) in
       let begun = traversal_direction_begins d b c hw
-          (no_comparison_first (R inside) (starts inside) c (start, f) started)
+      (no_comparison_first (R inside) (starts inside) c (start, f) started)
       in (
         traversal_begins m n a b hd begun.0 begun.1.0 begun.1.1,
         bind_here _ _ ((m, n), b) _ (traversal_depth_complete m n a b hd begun.1.0 begun.1.1)
@@ -497,7 +497,7 @@ module _ (R : Bool → Parser ExprTree) (E : Bool → ExprTree → Tokens → To
       {f = f'} {g = g'} {h = h'} hn hd hw hs he hp ho) stop =
       let i = traversal_names_shrink names a' (k.Keyword w.In ∷ b') hn in
       let read = traversal_complete names m n d start edges p ms b' c' d' f' g' h' b
-          (omega arith) hd hw hs he hp
+      (omega arith) hd hw hs he hp
       ho stop in
       bind_here _ _ (walked (e.traversal names m n d start edges p ms), b) _
       (bind_here _ _ (names, k.Keyword w.In ∷ b') _

@@ -18,10 +18,10 @@ use Rattle.aql_grammar.specs.Spelling.{IsName, IsWord}
 use Rattle.aql_grammar.specs.Clauses.{IsDirection, IsDepth}
 use Rattle.aql_grammar.specs.Input.{Parser, head, next, sees, sees_keyword, sees_word, is_name, is_number}
 use Rattle.aql_grammar.specs.Input.{same_symbol}
-use Rattle.aql_grammar.specs.Reader.{rank, operator_ahead, begins_query, begins_clause, begins_comparison}
+use Rattle.aql_grammar.specs.Reader.{operator_ahead, begins_query, begins_clause, begins_comparison}
 use Rattle.aql_grammar.specs.Reader.{begins_direction, begins_after_number, begins_traversal}
 use Rattle.aql_grammar.specs.laws.Steps.{decide, seen_keyword, seen_word, not_seen, Refuses}
-use Rattle.aql_grammar.specs.laws.OperatorLaws.{Ends}
+use Rattle.aql_grammar.specs.laws.OperatorLaws.{Ends, rank}
 
 pub ends_by : (ts : Tokens) → rank ts ≡ 11 → Ends ts
 ends_by ts e = omega arith

@@ -12,6 +12,8 @@ use Rattle.aql_lex.specs.declared.vocabulary.Keyword.TheVariants as w
 use Rattle.aql_tree.specs.Tree.{ExprTree, QueryTree, range_of}
 use Rattle.aql_tree.specs.View.{StepPart, LinkPart}
 use Rattle.aql_tree.specs.Made as e
+use Rattle.aql_grammar.specs.declared.precedence.Precedence.{Precedence}
+use Rattle.aql_grammar.specs.declared.precedence.Precedence.TheVariants as level
 use Rattle.aql_grammar.specs.Kinds.{Tokens}
 use Rattle.aql_grammar.specs.Spelling.{IsName, AreMany, AreAny}
 use Rattle.aql_grammar.specs.Objects.{IsVariable, IsObject}
@@ -23,11 +25,13 @@ use Rattle.aql_grammar.specs.Tree.{IsExpr, IsTop}
 use Rattle.aql_grammar.specs.Input.{Parser, head, next, sees, sees_keyword, same_symbol, same_keyword}
 use Rattle.aql_grammar.specs.Input.{at_front, is_number, many}
 use Rattle.aql_grammar.specs.Reader.{operator_ahead, comparison, begins_comparison, quantifier}
-use Rattle.aql_grammar.specs.Reader.{unary_at, rank, at_level, begins_step, begins_direction}
+use Rattle.aql_grammar.specs.Reader.{unary_at, sees_operator, begins_step, begins_direction}
 use Rattle.aql_grammar.specs.Reader.{begins_after_number, begins_traversal, access_of, chain_of, argument}
 use Rattle.aql_grammar.specs.Reader.{arguments}
 use Rattle.aql_grammar.specs.Reader.{call_or_name, parentheses, primary, element, bracket_step, step, postfix}
-use Rattle.aql_grammar.specs.Reader.{unary_from, unary, link, chain, range, array_comparison, level_at}
+use Rattle.aql_grammar.specs.Reader.{unary_from, unary, link, chain, range, array_comparison, product, sum}
+use Rattle.aql_grammar.specs.Reader.{span, relation}
+use Rattle.aql_grammar.specs.Reader.{membership, equality, comparison_level, conjunction, disjunction}
 use Rattle.aql_grammar.specs.Reader.{ternary_of, conditional, expr, top}
 use Rattle.aql_grammar.specs.laws.Steps.{Complete, Shrinks, Always, bind_here, if_true, if_false}
 use Rattle.aql_grammar.specs.laws.Steps.{expect_then, eat_then, eat_else, eat_keyword_then}
@@ -38,7 +42,8 @@ use Rattle.aql_grammar.specs.laws.ListLaws.{items_complete, many_complete, many_
 use Rattle.aql_grammar.specs.laws.OperatorLaws.{Follow, Ends, operator_read, operator_shrinks}
 use Rattle.aql_grammar.specs.laws.OperatorLaws.{comparison_read, comparison_shrinks, quantifier_read}
 use Rattle.aql_grammar.specs.laws.OperatorLaws.{quantifier_shrinks, unary_read, unary_shrinks, no_operator}
-use Rattle.aql_grammar.specs.laws.OperatorLaws.{is_at, at_rank, no_call, no_range, no_question, no_step}
+use Rattle.aql_grammar.specs.laws.OperatorLaws.{order, rank, operator_rank, quantifier_rank, no_quantifier}
+use Rattle.aql_grammar.specs.laws.OperatorLaws.{no_call, no_range, no_question, no_step}
 use Rattle.aql_grammar.specs.laws.Shrinking.{argument_shrinks, filter_falls, primary_shrinks, step_shrinks}
 use Rattle.aql_grammar.specs.laws.Shrinking.{unary_rule_shrinks, link_shrinks}
 use Rattle.aql_grammar.specs.laws.Shrinking.{product_shrinks, sum_shrinks, span_shrinks, relation_shrinks}
@@ -238,42 +243,46 @@ module _ (R : Bool → Parser ExprTree) (E : Bool → ExprTree → Tokens → To
 
 -- ---- one level over another
 
-module _ (R : Parser ExprTree) (P : ExprTree → Tokens → Tokens → Type 0) (bound below level : ℕ)
-    (above : below < level) (complete : Complete R P (Follow below) bound) (shrinks : Shrinks P) where
-  link_complete : Complete (link R) (IsLink level P) (Follow below) bound
+module _ (R : Parser ExprTree) (P : ExprTree → Tokens → Tokens → Type 0) (bound below : ℕ)
+    (precedence : Precedence) (above : below < order precedence)
+    (complete : Complete R P (Follow below) bound) (shrinks : Shrinks P) where
+  link_complete : Complete (link R) (IsLink precedence P) (Follow below) bound
   unfolding link
   link_complete l a b short (IsLink.link {op = op} {x = x} {b = c} o h) f =
-      let i = operator_shrinks level op a c o in
-      bind_here _ _ (op, c) _ (operator_read level op a c o).1
+      let i = operator_shrinks precedence op a c o in
+      bind_here _ _ (op, c) _ (operator_read precedence op a c o).1
       (bind_here _ _ (x, b) _ (complete x c b (omega arith) h f) refl)
 
-  link_begins : (l : LinkPart) (a b : Tokens) → IsLink level P l a b → at_level level a ≡ true
-  link_begins l a b (IsLink.link {op = op} {b = c} o h) = is_at level a (operator_read level op a c o).0
+  link_begins : (l : LinkPart) (a b : Tokens) → IsLink precedence P l a b → sees_operator precedence a ≡ true
+  link_begins l a b (IsLink.link {op = op} {b = c} o h) = (operator_read precedence op a c o).0
 
-  level_follows : (ts : Tokens) → at_level level ts ≡ true → Follow below ts
-  level_follows ts on = let e = at_rank level ts on in omega arith
+  level_follows : (ts : Tokens) → sees_operator precedence ts ≡ true → Follow below ts
+  level_follows ts on = let e = operator_rank precedence ts on in omega arith
 
-  pub chain_complete : Complete (chain level R) (IsChain level P) (Follow level) bound
+  pub chain_complete : Complete (chain precedence R) (IsChain precedence P) (Follow (order precedence)) bound
   unfolding chain chain_of
   chain_complete x a b short (IsChain.alone h) f =
       let i = shrinks x a b h in
       let g : Follow below b = omega arith in
       bind_here _ _ (x, b) _ (complete x a b short h g)
       (bind_here _ _ ([], b) _
-      (many_complete (at_level level) (link R) (IsLink level P) (Follow below) bound link_complete
-      (link_shrinks P shrinks level) link_begins level_follows [] b b AreMany.none (omega arith) g
-      (no_operator level b f)) refl)
+      (many_complete (sees_operator precedence) (link R) (IsLink precedence P)
+      (Follow below) bound link_complete
+      (link_shrinks P shrinks precedence) link_begins level_follows [] b b AreMany.none (omega arith) g
+      (no_operator precedence b f)) refl)
   chain_complete x a b short (IsChain.linked {x = first} {l = l} {ls = ls} {b = c} h others) f =
       let i = shrinks first a c h in
       let g : Follow below b = omega arith in
       bind_here _ _ (first, c) _
-      (complete first a c short h (many_follow (at_level level) (link R) (IsLink level P) (Follow below)
-      bound link_complete (link_shrinks P shrinks level) link_begins level_follows (l ∷ ls) c b others
+      (complete first a c short h
+      (many_follow (sees_operator precedence) (link R) (IsLink precedence P) (Follow below)
+      bound link_complete (link_shrinks P shrinks precedence) link_begins level_follows (l ∷ ls) c b others
       g))
       (bind_here _ _ (l ∷ ls, b) _
-      (many_complete (at_level level) (link R) (IsLink level P) (Follow below) bound link_complete
-      (link_shrinks P shrinks level) link_begins level_follows (l ∷ ls) c b others (omega arith) g
-      (no_operator level b f)) refl)
+      (many_complete (sees_operator precedence) (link R) (IsLink precedence P)
+      (Follow below) bound link_complete
+      (link_shrinks P shrinks precedence) link_begins level_follows (l ∷ ls) c b others (omega arith) g
+      (no_operator precedence b f)) refl)
 
 range_follows : (ts : Tokens) → Follow 2 (k.Symbol s.Range ∷ ts)
 unfolding rank operator_ahead
@@ -301,18 +310,18 @@ module _ (R : Parser ExprTree) (P : ExprTree → Tokens → Tokens → Type 0) (
     unfolding array_comparison
     quantified_complete complete x a b short (IsQuantified.alone h) f =
         let g : Follow 6 b = omega arith in
-        bind_here _ _ (x, b) _ (complete x a b short h g) (if_false _ _ _ b _ (no_operator 7 b f) refl)
+        bind_here _ _ (x, b) _ (complete x a b short h g) (if_false _ _ _ b _ (no_quantifier b f) refl)
     quantified_complete complete x a b short (IsQuantified.quantified {x = left} {y = right} {kind = kind}
         {op = op} {b = c} {c = d} {d = r} h q o g) f =
         let there = quantifier_read kind c d q in
-        let rank7 = there.0 in
+        let rank_here = quantifier_rank kind c d q in
         let i = shrinks left a c h in
         let j = quantifier_shrinks kind c d q in
         let l = comparison_shrinks op d r o in
         let before : Follow 6 c = omega arith in
         let after : Follow 6 b = omega arith in
         bind_here _ _ (left, c) _ (complete left a c short h before)
-        (if_true _ _ _ c _ (is_at 7 c there.0)
+        (if_true _ _ _ c _ there.0
         (bind_here _ _ (kind, d) _ there.1
         (bind_here _ _ (op, r) _ (comparison_read op d r o).1
         (bind_here _ _ (right, b) _ (complete right r b (omega arith) g after) refl))))
@@ -321,50 +330,56 @@ module _ (R : Bool → Parser ExprTree) (E : Bool → ExprTree → Tokens → To
     (complete : (inside : Bool) → Complete (R inside) (E inside) Ends bound)
     (shrinks : (inside : Bool) → Shrinks (E inside)) (starts : (inside : Bool) → Starts (R inside))
     (inside : Bool) where
-  product_complete : Complete (level_at R inside 1) (IsProduct E inside) (Follow 1) (suc bound)
-  unfolding level_at
-  product_complete = chain_complete (unary R inside) (IsUnary E inside) (suc bound) 0 1 (omega arith)
+  product_complete : Complete (product R inside) (IsProduct E inside) (Follow 1) (suc bound)
+  unfolding product
+  product_complete = chain_complete (unary R inside) (IsUnary E inside) (suc bound) 0 level.Product
+      (omega arith)
       (unary_complete R E bound complete shrinks starts inside) (unary_rule_shrinks E shrinks inside)
 
-  sum_complete : Complete (level_at R inside 2) (IsSum E inside) (Follow 2) (suc bound)
-  unfolding level_at
-  sum_complete = chain_complete (level_at R inside 1) (IsProduct E inside) (suc bound) 1 2 (omega arith)
+  sum_complete : Complete (sum R inside) (IsSum E inside) (Follow 2) (suc bound)
+  unfolding sum
+  sum_complete = chain_complete (product R inside) (IsProduct E inside) (suc bound) 1 level.Sum (omega arith)
       product_complete (product_shrinks E shrinks inside)
 
-  span_complete : Complete (level_at R inside 3) (IsSpan E inside) (Follow 3) (suc bound)
-  unfolding level_at
-  span_complete = range_complete (level_at R inside 2) (IsSum E inside) (suc bound)
+  span_complete : Complete (span R inside) (IsSpan E inside) (Follow 3) (suc bound)
+  unfolding span
+  span_complete = range_complete (sum R inside) (IsSum E inside) (suc bound)
       (sum_shrinks E shrinks inside) sum_complete
 
-  relation_complete : Complete (level_at R inside 4) (IsRelation E inside) (Follow 4) (suc bound)
-  unfolding level_at
-  relation_complete = chain_complete (level_at R inside 3) (IsSpan E inside) (suc bound) 3 4 (omega arith)
+  relation_complete : Complete (relation R inside) (IsRelation E inside) (Follow 4) (suc bound)
+  unfolding relation
+  relation_complete = chain_complete (span R inside) (IsSpan E inside) (suc bound) 3 level.Relation
+      (omega arith)
       span_complete (span_shrinks E shrinks inside)
 
-  membership_complete : Complete (level_at R inside 5) (IsMembership E inside) (Follow 5) (suc bound)
-  unfolding level_at
-  membership_complete = chain_complete (level_at R inside 4) (IsRelation E inside) (suc bound) 4 5
+  membership_complete : Complete (membership R inside) (IsMembership E inside) (Follow 5) (suc bound)
+  unfolding membership
+  membership_complete = chain_complete (relation R inside) (IsRelation E inside)
+      (suc bound) 4 level.Membership
       (omega arith) relation_complete (relation_shrinks E shrinks inside)
 
-  pub equality_complete : Complete (level_at R inside 6) (IsEquality E inside) (Follow 6) (suc bound)
-  unfolding level_at
-  equality_complete = chain_complete (level_at R inside 5) (IsMembership E inside) (suc bound) 5 6
+  pub equality_complete : Complete (equality R inside) (IsEquality E inside) (Follow 6) (suc bound)
+  unfolding equality
+  equality_complete = chain_complete (membership R inside) (IsMembership E inside)
+      (suc bound) 5 level.Equality
       (omega arith) membership_complete (membership_shrinks E shrinks inside)
 
-  comparison_level_complete : Complete (level_at R inside 7) (IsArrayComparison E inside) (Follow 7)
+  comparison_level_complete : Complete (comparison_level R inside) (IsArrayComparison E inside) (Follow 7)
       (suc bound)
-  unfolding level_at
-  comparison_level_complete = quantified_complete (level_at R inside 6) (IsEquality E inside) (suc bound)
+  unfolding comparison_level
+  comparison_level_complete = quantified_complete (equality R inside) (IsEquality E inside) (suc bound)
       (equality_shrinks E shrinks inside) equality_complete
 
-  conjunction_complete : Complete (level_at R inside 8) (IsConjunction E inside) (Follow 8) (suc bound)
-  unfolding level_at
-  conjunction_complete = chain_complete (level_at R inside 7) (IsArrayComparison E inside) (suc bound) 7 8
+  conjunction_complete : Complete (conjunction R inside) (IsConjunction E inside) (Follow 8) (suc bound)
+  unfolding conjunction
+  conjunction_complete = chain_complete (comparison_level R inside) (IsArrayComparison E inside)
+      (suc bound) 7 level.Conjunction
       (omega arith) comparison_level_complete (comparison_level_shrinks E shrinks inside)
 
-  disjunction_complete : Complete (level_at R inside 9) (IsDisjunction E inside) (Follow 9) (suc bound)
-  unfolding level_at
-  disjunction_complete = chain_complete (level_at R inside 8) (IsConjunction E inside) (suc bound) 8 9
+  disjunction_complete : Complete (disjunction R inside) (IsDisjunction E inside) (Follow 9) (suc bound)
+  unfolding disjunction
+  disjunction_complete = chain_complete (conjunction R inside) (IsConjunction E inside)
+      (suc bound) 8 level.Disjunction
       (omega arith) conjunction_complete (conjunction_shrinks E shrinks inside)
 
   pub conditional_complete : Complete (conditional R inside) (IsConditional E inside) Ends (suc bound)
@@ -396,9 +411,10 @@ module _ (R : Bool → Parser ExprTree) (E : Bool → ExprTree → Tokens → To
 
 -- ---- what no expression begins with
 
-chain_none : (level : ℕ) (R : Parser ExprTree) (ts : Tokens) → R ts ≡ None → chain level R ts ≡ None
+chain_none : (precedence : Precedence) (R : Parser ExprTree) (ts : Tokens) → R ts ≡ None
+    → chain precedence R ts ≡ None
 unfolding chain
-chain_none level R ts h = rw h refl
+chain_none precedence R ts h = rw h refl
 
 range_none : (R : Parser ExprTree) (ts : Tokens) → R ts ≡ None → range R ts ≡ None
 unfolding range
@@ -414,19 +430,21 @@ module _ (R : Bool → Parser ExprTree) (inside : Bool) where
   unfolding unary unary_from postfix
   unary_none t ts u p = rw u (rw p refl)
 
-  from_seven : (ts : Tokens) → level_at R inside 7 ts ≡ None → conditional R inside ts ≡ None
-  unfolding conditional level_at
-  from_seven ts h = rw (chain_none 9 (level_at R inside 8) ts (chain_none 8 (level_at R inside 7) ts h))
+  from_comparison_level : (ts : Tokens) → comparison_level R inside ts ≡ None → conditional R inside ts ≡ None
+  unfolding conditional disjunction conjunction
+  from_comparison_level ts h = rw
+      (chain_none level.Disjunction (conjunction R inside) ts
+      (chain_none level.Conjunction (comparison_level R inside) ts h))
       refl
 
   level_none : (ts : Tokens) → unary R inside ts ≡ None → conditional R inside ts ≡ None
-  unfolding level_at
+  unfolding product sum span relation membership equality comparison_level
   level_none ts h =
-      from_seven ts (quantified_none (level_at R inside 6) ts
-      (chain_none 6 (level_at R inside 5) ts
-      (chain_none 5 (level_at R inside 4) ts (chain_none 4 (level_at R inside 3) ts
-      (range_none (level_at R inside 2) ts
-      (chain_none 2 (level_at R inside 1) ts (chain_none 1 (unary R inside) ts h)))))))
+      from_comparison_level ts (quantified_none (equality R inside) ts
+      (chain_none level.Equality (membership R inside) ts
+      (chain_none level.Membership (relation R inside) ts (chain_none level.Relation (span R inside) ts
+      (range_none (sum R inside) ts
+      (chain_none level.Sum (product R inside) ts (chain_none level.Product (unary R inside) ts h)))))))
 
   symbol_none : (symbol : Symbol) (ts : Tokens) → is_refused symbol ≡ true
       → unary R inside (k.Symbol symbol ∷ ts) ≡ None
@@ -541,10 +559,10 @@ module _ (R : Bool → Parser ExprTree) (starts : (inside : Bool) → Starts (R 
 
   span_any : (x : ExprTree) (a b : Tokens) → IsSpan Nothing inside x a (k.Keyword w.Any ∷ b)
       → begins_comparison b ≡ false → conditional R inside a ≡ None
-  unfolding level_at
+  unfolding comparison_level
   span_any x a b h none =
-      from_seven R inside a
-      (any_none (level_at R inside 6) x a b
+      from_comparison_level R inside a
+      (any_none (equality R inside) x a b
       (equality_complete R Nothing (length a) (nothing_complete (length a)) nothing_shrinks starts inside x
       a (k.Keyword w.Any ∷ b) (omega arith) (IsChain.alone (IsChain.alone (IsChain.alone h)))
       (any_follows b))

@@ -13,6 +13,8 @@ use Rattle.aql_tree.specs.Tree as tree
 use Rattle.aql_tree.specs.View.{MemberPart, StepPart, LinkPart}
 use Rattle.aql_tree.specs.View as part
 use Rattle.aql_tree.specs.Made as e
+use Rattle.aql_grammar.specs.declared.precedence.Precedence.{Precedence}
+use Rattle.aql_grammar.specs.declared.precedence.Precedence.TheVariants as level
 use Rattle.aql_grammar.specs.Kinds.{Tokens}
 use Rattle.aql_grammar.specs.Spelling.{IsName, AreMany, AreAny}
 use Rattle.aql_grammar.specs.Objects.{word_value, IsVariable}
@@ -26,14 +28,16 @@ use Rattle.aql_grammar.specs.Reader.{operator, comparison, quantifier, unary_at,
 use Rattle.aql_grammar.specs.Reader.{begins_query, access_of, chain_of, argument, arguments, call_or_name}
 use Rattle.aql_grammar.specs.Reader.{parentheses}
 use Rattle.aql_grammar.specs.Reader.{primary, primary_by, members, element, bracket_step, step, step_by}
-use Rattle.aql_grammar.specs.Reader.{postfix, apply, unary_from, unary, link, at_level, chain, range}
-use Rattle.aql_grammar.specs.Reader.{array_comparison, level_at, ternary_of, conditional, expr}
+use Rattle.aql_grammar.specs.Reader.{postfix, apply, unary_from, unary, link, sees_operator, chain, range}
+use Rattle.aql_grammar.specs.Reader.{begins_quantifier, array_comparison, product, sum, span, relation}
+use Rattle.aql_grammar.specs.Reader.{membership, equality, comparison_level, conjunction, disjunction}
+use Rattle.aql_grammar.specs.Reader.{ternary_of, conditional, expr}
 use Rattle.aql_grammar.specs.Reader.{query, top}
 use Rattle.aql_grammar.specs.laws.Steps.{Sound, bind_some, done, expect_some, eat_cases}
 use Rattle.aql_grammar.specs.laws.Steps.{keyword_cases, if_cases, name_sound}
 use Rattle.aql_grammar.specs.laws.ListLaws.{separated_sound, items_sound, many_sound, Closed}
 use Rattle.aql_grammar.specs.laws.OperatorLaws.{operator_sound, comparison_sound, quantifier_sound}
-use Rattle.aql_grammar.specs.laws.OperatorLaws.{unary_sound, at_rank}
+use Rattle.aql_grammar.specs.laws.OperatorLaws.{unary_sound}
 use Rattle.aql_grammar.specs.laws.ClauseSound.{object_sound, query_sound}
 
 apply_cases : {A : Type 0} (o : Option UnaryOp) (f : UnaryOp → Parser A) (p : Parser A) (ts : Tokens)
@@ -232,31 +236,33 @@ module _ (R : Bool → Parser ExprTree) (E : Bool → ExprTree → Tokens → To
 
 -- ---- one level over another
 
-chain_spelt : (level : ℕ) (P : ExprTree → Tokens → Tokens → Type 0) (first : ExprTree)
-    (ls : List LinkPart) (a b c : Tokens) → P first a b → AreMany (IsLink level P) ls b c
-    → IsChain level P (chain_of first ls) a c
+chain_spelt : (precedence : Precedence) (P : ExprTree → Tokens → Tokens → Type 0) (first : ExprTree)
+    (ls : List LinkPart) (a b c : Tokens) → P first a b → AreMany (IsLink precedence P) ls b c
+    → IsChain precedence P (chain_of first ls) a c
 unfolding chain_of
-chain_spelt level P first [] a b c h AreMany.none = IsChain.alone h
-chain_spelt level P first (l ∷ ls) a b c h more = IsChain.linked h more
+chain_spelt precedence P first [] a b c h AreMany.none = IsChain.alone h
+chain_spelt precedence P first (l ∷ ls) a b c h more = IsChain.linked h more
 
 module _ (R : Parser ExprTree) (P : ExprTree → Tokens → Tokens → Type 0) (sound : Sound R P) where
-  link_sound : (level : ℕ) (ts : Tokens) (y : LinkPart × Tokens) → at_level level ts ≡ true
-      → link R ts ≡ Some y → IsLink level P y.0 ts y.1
+  link_sound : (precedence : Precedence) (ts : Tokens) (y : LinkPart × Tokens)
+      → sees_operator precedence ts ≡ true
+      → link R ts ≡ Some y → IsLink precedence P y.0 ts y.1
   unfolding link
-  link_sound level ts y on h =
+  link_sound precedence ts y on h =
       let o = bind_some (operator ts) _ y h in
       let x = bind_some (R o.0.1) _ y o.2 in
-      done (IsLink level P) ts (e.link o.0.0 x.0.0) x.0.1 y x.2
-      (IsLink.link (operator_sound level ts o.0 (at_rank level ts on) o.1) (sound o.0.1 x.0 x.1))
+      done (IsLink precedence P) ts (e.link o.0.0 x.0.0) x.0.1 y x.2
+      (IsLink.link (operator_sound precedence ts o.0 on o.1) (sound o.0.1 x.0 x.1))
 
-  pub chain_sound : (level : ℕ) → Sound (chain level R) (IsChain level P)
+  pub chain_sound : (precedence : Precedence) → Sound (chain precedence R) (IsChain precedence P)
   unfolding chain
-  chain_sound level ts y h =
+  chain_sound precedence ts y h =
       let x = bind_some (R ts) _ y h in
-      let ls = bind_some (many (at_level level) (link R) x.0.1) _ y x.2 in
-      done (IsChain level P) ts (chain_of x.0.0 ls.0.0) ls.0.1 y ls.2
-      (chain_spelt level P x.0.0 ls.0.0 ts x.0.1 ls.0.1 (sound ts x.0 x.1)
-      (many_sound (at_level level) (link R) (IsLink level P) (link_sound level) x.0.1 ls.0 ls.1))
+      let ls = bind_some (many (sees_operator precedence) (link R) x.0.1) _ y x.2 in
+      done (IsChain precedence P) ts (chain_of x.0.0 ls.0.0) ls.0.1 y ls.2
+      (chain_spelt precedence P x.0.0 ls.0.0 ts x.0.1 ls.0.1 (sound ts x.0 x.1)
+      (many_sound (sees_operator precedence) (link R) (IsLink precedence P)
+      (link_sound precedence) x.0.1 ls.0 ls.1))
 
   pub range_sound : Sound (range R) (IsRange P)
   unfolding range
@@ -283,46 +289,49 @@ module _ (R : Parser ExprTree) (P : ExprTree → Tokens → Tokens → Type 0) (
       (IsQuantified.quantified (sound ts x.0 x.1) (quantifier_sound x.0.1 q.0 q.1)
       (comparison_sound q.0.1 o.0 o.1) (sound o.0.1 z.0 z.1)))
       (λ m. done (IsQuantified P) ts x.0.0 x.0.1 y m.1 (IsQuantified.alone (sound ts x.0 x.1)))
-      (if_cases (at_level 7 x.0.1) _ _ x.0.1 y x.2)
+      (if_cases (begins_quantifier (head x.0.1)) _ _ x.0.1 y x.2)
 
 module _ (R : Bool → Parser ExprTree) (E : Bool → ExprTree → Tokens → Tokens → Type 0)
     (sound : (inside : Bool) → Sound (R inside) (E inside)) (inside : Bool) where
-  product_sound : Sound (level_at R inside 1) (IsProduct E inside)
-  unfolding level_at
-  product_sound = chain_sound (unary R inside) (IsUnary E inside) (unary_rule_sound R E sound inside) 1
+  product_sound : Sound (product R inside) (IsProduct E inside)
+  unfolding product
+  product_sound = chain_sound (unary R inside) (IsUnary E inside)
+      (unary_rule_sound R E sound inside) level.Product
 
-  sum_sound : Sound (level_at R inside 2) (IsSum E inside)
-  unfolding level_at
-  sum_sound = chain_sound (level_at R inside 1) (IsProduct E inside) product_sound 2
+  sum_sound : Sound (sum R inside) (IsSum E inside)
+  unfolding sum
+  sum_sound = chain_sound (product R inside) (IsProduct E inside) product_sound level.Sum
 
-  span_sound : Sound (level_at R inside 3) (IsSpan E inside)
-  unfolding level_at
-  span_sound = range_sound (level_at R inside 2) (IsSum E inside) sum_sound
+  span_sound : Sound (span R inside) (IsSpan E inside)
+  unfolding span
+  span_sound = range_sound (sum R inside) (IsSum E inside) sum_sound
 
-  relation_sound : Sound (level_at R inside 4) (IsRelation E inside)
-  unfolding level_at
-  relation_sound = chain_sound (level_at R inside 3) (IsSpan E inside) span_sound 4
+  relation_sound : Sound (relation R inside) (IsRelation E inside)
+  unfolding relation
+  relation_sound = chain_sound (span R inside) (IsSpan E inside) span_sound level.Relation
 
-  membership_sound : Sound (level_at R inside 5) (IsMembership E inside)
-  unfolding level_at
-  membership_sound = chain_sound (level_at R inside 4) (IsRelation E inside) relation_sound 5
+  membership_sound : Sound (membership R inside) (IsMembership E inside)
+  unfolding membership
+  membership_sound = chain_sound (relation R inside) (IsRelation E inside) relation_sound level.Membership
 
-  equality_sound : Sound (level_at R inside 6) (IsEquality E inside)
-  unfolding level_at
-  equality_sound = chain_sound (level_at R inside 5) (IsMembership E inside) membership_sound 6
+  equality_sound : Sound (equality R inside) (IsEquality E inside)
+  unfolding equality
+  equality_sound = chain_sound (membership R inside) (IsMembership E inside) membership_sound level.Equality
 
-  comparison_level_sound : Sound (level_at R inside 7) (IsArrayComparison E inside)
-  unfolding level_at
-  comparison_level_sound = quantified_sound (level_at R inside 6) (IsEquality E inside) equality_sound
+  comparison_level_sound : Sound (comparison_level R inside) (IsArrayComparison E inside)
+  unfolding comparison_level
+  comparison_level_sound = quantified_sound (equality R inside) (IsEquality E inside) equality_sound
 
-  conjunction_sound : Sound (level_at R inside 8) (IsConjunction E inside)
-  unfolding level_at
-  conjunction_sound = chain_sound (level_at R inside 7) (IsArrayComparison E inside) comparison_level_sound
-      8
+  conjunction_sound : Sound (conjunction R inside) (IsConjunction E inside)
+  unfolding conjunction
+  conjunction_sound = chain_sound (comparison_level R inside)
+      (IsArrayComparison E inside) comparison_level_sound
+      level.Conjunction
 
-  disjunction_sound : Sound (level_at R inside 9) (IsDisjunction E inside)
-  unfolding level_at
-  disjunction_sound = chain_sound (level_at R inside 8) (IsConjunction E inside) conjunction_sound 9
+  disjunction_sound : Sound (disjunction R inside) (IsDisjunction E inside)
+  unfolding disjunction
+  disjunction_sound = chain_sound (conjunction R inside)
+      (IsConjunction E inside) conjunction_sound level.Disjunction
 
   choice_sound : (test : ExprTree) (a ts : Tokens) (y : ExprTree × Tokens) → IsDisjunction E inside test a
       (k.Symbol s.Question ∷ ts) → ternary_of R inside test ts ≡ Some y → IsConditional E inside y.0 a y.1
@@ -346,7 +355,7 @@ module _ (R : Bool → Parser ExprTree) (E : Bool → ExprTree → Tokens → To
   pub conditional_sound : Sound (conditional R inside) (IsConditional E inside)
   unfolding conditional
   conditional_sound ts y h =
-      let test = bind_some (level_at R inside 9 ts) _ y h in
+      let test = bind_some (disjunction R inside ts) _ y h in
       let spelt = disjunction_sound ts test.0 test.1 in
       ⊎_elim
       (λ m. choice_sound test.0.0 ts (next test.0.1) y (subst (λ r. IsDisjunction E inside test.0.0 ts r)

@@ -1,8 +1,9 @@
 -- Operators: what is read is spelt so, what is spelt is read, and what may stand after an operand.
 use Rattle.std.proofs.Common.{◌≡◌, ℕ, ◌<◌, true, false, [], ◌∷◌}
-use Rattle.std.proofs.Common.{Some, ⊎_elim, refl, ap, subst}
-use Rattle.std.proofs.Common.{arith}
-use Rattle.std.proofs.lemmas.Bool.Decides.{eqb_tells}
+use Rattle.std.proofs.Common.{Option, Some, None, ⊎_elim, refl, ap, subst}
+use Rattle.std.proofs.Common.{rules, arith}
+use denote.Enum.Bare.{same_true}
+use Rattle.aql_lex.specs.declared.kinds.TokenKind.{TokenKind}
 use Rattle.aql_lex.specs.declared.kinds.TokenKind.TheVariants as k
 use Rattle.aql_lex.specs.declared.vocabulary.Symbol.{Symbol}
 use Rattle.aql_lex.specs.declared.vocabulary.Symbol.TheVariants as s
@@ -11,46 +12,64 @@ use Rattle.aql_func.specs.declared.operators.BinOp.{BinOp}
 use Rattle.aql_func.specs.declared.operators.UnaryOp.{UnaryOp}
 use Rattle.aql_tree.specs.declared.syntax.QuantKind.{QuantKind}
 use Rattle.aql_tree.specs.declared.syntax.Direction.{Direction}
+use Rattle.aql_grammar.specs.declared.precedence.Precedence.{Precedence}
+use Rattle.aql_grammar.specs.declared.precedence.Precedence.TheVariants as level
+use Rattle.aql_grammar.specs.contracts.precedence.Precedence as precedence_type
 use Rattle.aql_grammar.specs.Kinds.{Tokens}
 use Rattle.aql_grammar.specs.Operators.{IsOperator, IsComparison, IsQuantifier, IsUnaryOperator}
 use Rattle.aql_grammar.specs.Clauses.{IsDirection}
 use Rattle.aql_grammar.specs.Input.{head, next, sees}
 use Rattle.aql_grammar.specs.Reader.{operator, operator_ahead, after_operator, comparison, begins_comparison}
-use Rattle.aql_grammar.specs.Reader.{quantifier, unary_at, traversal_direction, rank, at_level, begins_step}
-use Rattle.aql_grammar.specs.laws.Steps.{Sound, Shrinks, done, if_cases, not_seen}
+use Rattle.aql_grammar.specs.Reader.{quantifier, unary_at, traversal_direction, begins_step, sees_operator}
+use Rattle.aql_grammar.specs.Reader.{same_precedence, has_precedence, begins_quantifier}
+use Rattle.aql_grammar.specs.laws.Steps.{Sound, Shrinks, done, if_cases, decide, not_seen}
 
 -- ---- back
 
-operator_spelt : (ts : Tokens) (y : BinOp × Tokens) → operator ts ≡ Some y → IsOperator (rank ts) y.0 ts y.1
-unfolding operator operator_ahead after_operator rank
+-- the precedence of what was found, if it is an operator
+abbrev precedence_of : Option (Precedence × BinOp) → Precedence
+precedence_of (Some p) = p.0
+precedence_of None = level.Disjunction
+
+found_precedence : (precedence : Precedence) (found : Option (Precedence × BinOp))
+    → has_precedence precedence found ≡ true → precedence_of found ≡ precedence
+unfolding same_precedence
+found_precedence precedence (Some p) h = same_true precedence_type.the_type (search rules) p.0 precedence h
+found_precedence precedence None h = absurd (cc)
+
+operator_spelt : (ts : Tokens) (y : BinOp × Tokens) → operator ts ≡ Some y
+    → IsOperator (precedence_of (operator_ahead ts)) y.0 ts y.1
+unfolding operator operator_ahead after_operator
 operator_spelt [] y h = absurd (cc)
 operator_spelt (k.Number n ∷ ts) y h = absurd (cc)
 operator_spelt (k.Word v ∷ ts) y h = absurd (cc)
 operator_spelt (k.Quoted v ∷ ts) y h = absurd (cc)
 operator_spelt (k.Text v ∷ ts) y h = absurd (cc)
-operator_spelt (k.Symbol s.Star ∷ ts) y h = done (IsOperator 1) _ _ ts y h IsOperator.times
-operator_spelt (k.Symbol s.Slash ∷ ts) y h = done (IsOperator 1) _ _ ts y h IsOperator.divided
-operator_spelt (k.Symbol s.Percent ∷ ts) y h = done (IsOperator 1) _ _ ts y h IsOperator.remainder
-operator_spelt (k.Symbol s.Plus ∷ ts) y h = done (IsOperator 2) _ _ ts y h IsOperator.plus
-operator_spelt (k.Symbol s.Minus ∷ ts) y h = done (IsOperator 2) _ _ ts y h IsOperator.minus
-operator_spelt (k.Symbol s.Less ∷ ts) y h = done (IsOperator 4) _ _ ts y h IsOperator.less
-operator_spelt (k.Symbol s.LessOrEqual ∷ ts) y h = done (IsOperator 4) _ _ ts y h IsOperator.less_equal
-operator_spelt (k.Symbol s.Greater ∷ ts) y h = done (IsOperator 4) _ _ ts y h IsOperator.greater
-operator_spelt (k.Symbol s.GreaterOrEqual ∷ ts) y h = done (IsOperator 4) _ _ ts y h
+operator_spelt (k.Symbol s.Star ∷ ts) y h = done (IsOperator level.Product) _ _ ts y h IsOperator.times
+operator_spelt (k.Symbol s.Slash ∷ ts) y h = done (IsOperator level.Product) _ _ ts y h IsOperator.divided
+operator_spelt (k.Symbol s.Percent ∷ ts) y h = done (IsOperator level.Product) _ _ ts y h IsOperator.remainder
+operator_spelt (k.Symbol s.Plus ∷ ts) y h = done (IsOperator level.Sum) _ _ ts y h IsOperator.plus
+operator_spelt (k.Symbol s.Minus ∷ ts) y h = done (IsOperator level.Sum) _ _ ts y h IsOperator.minus
+operator_spelt (k.Symbol s.Less ∷ ts) y h = done (IsOperator level.Relation) _ _ ts y h IsOperator.less
+operator_spelt (k.Symbol s.LessOrEqual ∷ ts) y h = done
+    (IsOperator level.Relation) _ _ ts y h IsOperator.less_equal
+operator_spelt (k.Symbol s.Greater ∷ ts) y h = done (IsOperator level.Relation) _ _ ts y h IsOperator.greater
+operator_spelt (k.Symbol s.GreaterOrEqual ∷ ts) y h = done (IsOperator level.Relation) _ _ ts y h
     IsOperator.greater_equal
-operator_spelt (k.Symbol s.Equal ∷ ts) y h = done (IsOperator 6) _ _ ts y h IsOperator.equal
-operator_spelt (k.Symbol s.NotEqual ∷ ts) y h = done (IsOperator 6) _ _ ts y h IsOperator.not_equal
-operator_spelt (k.Symbol s.And ∷ ts) y h = done (IsOperator 8) _ _ ts y h IsOperator.and_sign
-operator_spelt (k.Symbol s.Or ∷ ts) y h = done (IsOperator 9) _ _ ts y h IsOperator.or_sign
+operator_spelt (k.Symbol s.Equal ∷ ts) y h = done (IsOperator level.Equality) _ _ ts y h IsOperator.equal
+operator_spelt (k.Symbol s.NotEqual ∷ ts) y h = done
+    (IsOperator level.Equality) _ _ ts y h IsOperator.not_equal
+operator_spelt (k.Symbol s.And ∷ ts) y h = done (IsOperator level.Conjunction) _ _ ts y h IsOperator.and_sign
+operator_spelt (k.Symbol s.Or ∷ ts) y h = done (IsOperator level.Disjunction) _ _ ts y h IsOperator.or_sign
 operator_spelt (k.Symbol _ ∷ ts) y h = absurd (cc)
-operator_spelt (k.Keyword w.In ∷ ts) y h = done (IsOperator 5) _ _ ts y h IsOperator.is_in
-operator_spelt (k.Keyword w.Like ∷ ts) y h = done (IsOperator 6) _ _ ts y h IsOperator.like
-operator_spelt (k.Keyword w.And ∷ ts) y h = done (IsOperator 8) _ _ ts y h IsOperator.and_word
-operator_spelt (k.Keyword w.Or ∷ ts) y h = done (IsOperator 9) _ _ ts y h IsOperator.or_word
+operator_spelt (k.Keyword w.In ∷ ts) y h = done (IsOperator level.Membership) _ _ ts y h IsOperator.is_in
+operator_spelt (k.Keyword w.Like ∷ ts) y h = done (IsOperator level.Equality) _ _ ts y h IsOperator.like
+operator_spelt (k.Keyword w.And ∷ ts) y h = done (IsOperator level.Conjunction) _ _ ts y h IsOperator.and_word
+operator_spelt (k.Keyword w.Or ∷ ts) y h = done (IsOperator level.Disjunction) _ _ ts y h IsOperator.or_word
 operator_spelt (k.Keyword w.Not ∷ []) y h = absurd (cc)
-operator_spelt (k.Keyword w.Not ∷ k.Keyword w.In ∷ ts) y h = done (IsOperator 5) _ _ ts y h
+operator_spelt (k.Keyword w.Not ∷ k.Keyword w.In ∷ ts) y h = done (IsOperator level.Membership) _ _ ts y h
     IsOperator.not_in
-operator_spelt (k.Keyword w.Not ∷ k.Keyword w.Like ∷ ts) y h = done (IsOperator 6) _ _ ts y h
+operator_spelt (k.Keyword w.Not ∷ k.Keyword w.Like ∷ ts) y h = done (IsOperator level.Equality) _ _ ts y h
     IsOperator.not_like
 operator_spelt (k.Keyword w.Not ∷ k.Keyword _ ∷ ts) y h = absurd (cc)
 operator_spelt (k.Keyword w.Not ∷ k.Number n ∷ ts) y h = absurd (cc)
@@ -60,9 +79,12 @@ operator_spelt (k.Keyword w.Not ∷ k.Text v ∷ ts) y h = absurd (cc)
 operator_spelt (k.Keyword w.Not ∷ k.Symbol v ∷ ts) y h = absurd (cc)
 operator_spelt (k.Keyword _ ∷ ts) y h = absurd (cc)
 
-pub operator_sound : (level : ℕ) (ts : Tokens) (y : BinOp × Tokens) → rank ts ≡ level → operator ts ≡ Some y
-    → IsOperator level y.0 ts y.1
-operator_sound level ts y e h = subst (λ l. IsOperator l y.0 ts y.1) e (operator_spelt ts y h)
+pub operator_sound : (precedence : Precedence) (ts : Tokens) (y : BinOp × Tokens)
+    → sees_operator precedence ts ≡ true → operator ts ≡ Some y → IsOperator precedence y.0 ts y.1
+unfolding sees_operator
+operator_sound precedence ts y on h =
+    subst (λ p. IsOperator p y.0 ts y.1) (found_precedence precedence (operator_ahead ts) on)
+    (operator_spelt ts y h)
 
 comparison_spelt : (ts : Tokens) (y : BinOp × Tokens) → begins_comparison ts ≡ true → operator ts ≡ Some y
     → IsComparison y.0 ts y.1
@@ -142,49 +164,49 @@ unary_sound (k.Text v ∷ ts) o h = absurd (cc)
 
 -- ---- forth
 
-pub operator_read : (level : ℕ) (o : BinOp) (a b : Tokens) → IsOperator level o a b → (rank a ≡ level)
-    × (operator a ≡ Some (o, b))
-unfolding operator operator_ahead after_operator rank
-operator_read level o a b IsOperator.times = (refl, refl)
-operator_read level o a b IsOperator.divided = (refl, refl)
-operator_read level o a b IsOperator.remainder = (refl, refl)
-operator_read level o a b IsOperator.plus = (refl, refl)
-operator_read level o a b IsOperator.minus = (refl, refl)
-operator_read level o a b IsOperator.less = (refl, refl)
-operator_read level o a b IsOperator.less_equal = (refl, refl)
-operator_read level o a b IsOperator.greater = (refl, refl)
-operator_read level o a b IsOperator.greater_equal = (refl, refl)
-operator_read level o a b IsOperator.is_in = (refl, refl)
-operator_read level o a b IsOperator.not_in = (refl, refl)
-operator_read level o a b IsOperator.equal = (refl, refl)
-operator_read level o a b IsOperator.not_equal = (refl, refl)
-operator_read level o a b IsOperator.like = (refl, refl)
-operator_read level o a b IsOperator.not_like = (refl, refl)
-operator_read level o a b IsOperator.and_sign = (refl, refl)
-operator_read level o a b IsOperator.and_word = (refl, refl)
-operator_read level o a b IsOperator.or_sign = (refl, refl)
-operator_read level o a b IsOperator.or_word = (refl, refl)
+pub operator_read : (precedence : Precedence) (o : BinOp) (a b : Tokens) → IsOperator precedence o a b
+    → (sees_operator precedence a ≡ true) × (operator a ≡ Some (o, b))
+unfolding operator operator_ahead after_operator sees_operator same_precedence
+operator_read precedence o a b IsOperator.times = (refl, refl)
+operator_read precedence o a b IsOperator.divided = (refl, refl)
+operator_read precedence o a b IsOperator.remainder = (refl, refl)
+operator_read precedence o a b IsOperator.plus = (refl, refl)
+operator_read precedence o a b IsOperator.minus = (refl, refl)
+operator_read precedence o a b IsOperator.less = (refl, refl)
+operator_read precedence o a b IsOperator.less_equal = (refl, refl)
+operator_read precedence o a b IsOperator.greater = (refl, refl)
+operator_read precedence o a b IsOperator.greater_equal = (refl, refl)
+operator_read precedence o a b IsOperator.is_in = (refl, refl)
+operator_read precedence o a b IsOperator.not_in = (refl, refl)
+operator_read precedence o a b IsOperator.equal = (refl, refl)
+operator_read precedence o a b IsOperator.not_equal = (refl, refl)
+operator_read precedence o a b IsOperator.like = (refl, refl)
+operator_read precedence o a b IsOperator.not_like = (refl, refl)
+operator_read precedence o a b IsOperator.and_sign = (refl, refl)
+operator_read precedence o a b IsOperator.and_word = (refl, refl)
+operator_read precedence o a b IsOperator.or_sign = (refl, refl)
+operator_read precedence o a b IsOperator.or_word = (refl, refl)
 
-pub operator_shrinks : (level : ℕ) → Shrinks (IsOperator level)
-operator_shrinks level o a b IsOperator.times = omega arith
-operator_shrinks level o a b IsOperator.divided = omega arith
-operator_shrinks level o a b IsOperator.remainder = omega arith
-operator_shrinks level o a b IsOperator.plus = omega arith
-operator_shrinks level o a b IsOperator.minus = omega arith
-operator_shrinks level o a b IsOperator.less = omega arith
-operator_shrinks level o a b IsOperator.less_equal = omega arith
-operator_shrinks level o a b IsOperator.greater = omega arith
-operator_shrinks level o a b IsOperator.greater_equal = omega arith
-operator_shrinks level o a b IsOperator.is_in = omega arith
-operator_shrinks level o a b IsOperator.not_in = omega arith
-operator_shrinks level o a b IsOperator.equal = omega arith
-operator_shrinks level o a b IsOperator.not_equal = omega arith
-operator_shrinks level o a b IsOperator.like = omega arith
-operator_shrinks level o a b IsOperator.not_like = omega arith
-operator_shrinks level o a b IsOperator.and_sign = omega arith
-operator_shrinks level o a b IsOperator.and_word = omega arith
-operator_shrinks level o a b IsOperator.or_sign = omega arith
-operator_shrinks level o a b IsOperator.or_word = omega arith
+pub operator_shrinks : (precedence : Precedence) → Shrinks (IsOperator precedence)
+operator_shrinks precedence o a b IsOperator.times = omega arith
+operator_shrinks precedence o a b IsOperator.divided = omega arith
+operator_shrinks precedence o a b IsOperator.remainder = omega arith
+operator_shrinks precedence o a b IsOperator.plus = omega arith
+operator_shrinks precedence o a b IsOperator.minus = omega arith
+operator_shrinks precedence o a b IsOperator.less = omega arith
+operator_shrinks precedence o a b IsOperator.less_equal = omega arith
+operator_shrinks precedence o a b IsOperator.greater = omega arith
+operator_shrinks precedence o a b IsOperator.greater_equal = omega arith
+operator_shrinks precedence o a b IsOperator.is_in = omega arith
+operator_shrinks precedence o a b IsOperator.not_in = omega arith
+operator_shrinks precedence o a b IsOperator.equal = omega arith
+operator_shrinks precedence o a b IsOperator.not_equal = omega arith
+operator_shrinks precedence o a b IsOperator.like = omega arith
+operator_shrinks precedence o a b IsOperator.not_like = omega arith
+operator_shrinks precedence o a b IsOperator.and_sign = omega arith
+operator_shrinks precedence o a b IsOperator.and_word = omega arith
+operator_shrinks precedence o a b IsOperator.or_sign = omega arith
+operator_shrinks precedence o a b IsOperator.or_word = omega arith
 
 pub comparison_read : (o : BinOp) (a b : Tokens) → IsComparison o a b → (begins_comparison a ≡ true)
     × (comparison a ≡ Some (o, b))
@@ -208,9 +230,9 @@ comparison_shrinks o a b IsComparison.greater_equal = omega arith
 comparison_shrinks o a b IsComparison.is_in = omega arith
 comparison_shrinks o a b IsComparison.not_in = omega arith
 
-pub quantifier_read : (q : QuantKind) (a b : Tokens) → IsQuantifier q a b → (rank a ≡ 7)
-    × (quantifier a ≡ Some (q, b))
-unfolding quantifier rank operator_ahead
+pub quantifier_read : (q : QuantKind) (a b : Tokens) → IsQuantifier q a b
+    → (begins_quantifier (head a) ≡ true) × (quantifier a ≡ Some (q, b))
+unfolding quantifier
 quantifier_read q a b IsQuantifier.all = (refl, refl)
 quantifier_read q a b IsQuantifier.any = (refl, refl)
 quantifier_read q a b IsQuantifier.none = (refl, refl)
@@ -247,6 +269,39 @@ unary_shrinks o a b IsUnaryOperator.not_word = omega arith
 
 -- ---- what may stand after an operand of a level
 
+-- the precedences, counted from the tightest on
+abbrev pub order : Precedence → ℕ
+order level.Product = 1
+order level.Sum = 2
+order level.Range = 3
+order level.Relation = 4
+order level.Membership = 5
+order level.Equality = 6
+order level.ArrayComparison = 7
+order level.Conjunction = 8
+order level.Disjunction = 9
+
+-- of a token that is no operator between two operands
+abbrev pub other_rank : Option TokenKind → ℕ
+other_rank (Some (k.Symbol s.Dot)) = 0
+other_rank (Some (k.Symbol s.OpenBracket)) = 0
+other_rank (Some (k.Symbol s.OpenParen)) = 0
+other_rank (Some (k.Symbol s.Range)) = 3
+other_rank (Some (k.Keyword w.All)) = 7
+other_rank (Some (k.Keyword w.Any)) = 7
+other_rank (Some (k.Keyword w.None)) = 7
+other_rank (Some (k.Symbol s.Question)) = 10
+other_rank other = 11
+
+abbrev pub rank_by : Option (Precedence × BinOp) → Option TokenKind → ℕ
+rank_by (Some p) t = order p.0
+rank_by None t = other_rank t
+
+-- what the tokens would go on with after an operand: 0 for a step or a call, 10 for the ternary, 11
+-- for nothing, and between them the precedences
+unfoldable pub rank : Tokens → ℕ
+rank i = rank_by (operator_ahead i) (head i)
+
 abbrev pub Follow : ℕ → Tokens → Type 0
 Follow level ts = level < rank ts
 
@@ -254,18 +309,41 @@ Follow level ts = level < rank ts
 abbrev pub Ends : Tokens → Type 0
 Ends ts = 10 < rank ts
 
-not_at : (level : ℕ) (ts : Tokens) → level < rank ts → at_level level ts ≡ false
-not_at level ts h = ⊎_elim (λ m. absurd (let e = m.1 in omega arith)) (λ m. m.0) (eqb_tells (rank ts) level)
+found_rank : (precedence : Precedence) (found : Option (Precedence × BinOp)) (t : Option TokenKind)
+    → has_precedence precedence found ≡ true → rank_by found t ≡ order precedence
+found_rank precedence (Some p) t h = ap order (found_precedence precedence (Some p) h)
+found_rank precedence None t h = absurd (cc)
 
--- no operator of a level stands where only looser ones may
-pub no_operator : (level : ℕ) (ts : Tokens) → Follow level ts → at_level level ts ≡ false
-no_operator level ts h = not_at level ts h
+pub operator_rank : (precedence : Precedence) (ts : Tokens) → sees_operator precedence ts ≡ true
+    → rank ts ≡ order precedence
+unfolding sees_operator rank
+operator_rank precedence ts h = found_rank precedence (operator_ahead ts) (head ts) h
 
-pub is_at : (level : ℕ) (ts : Tokens) → rank ts ≡ level → at_level level ts ≡ true
-is_at level ts e = ⊎_elim (λ m. m.0) (λ m. absurd (m.1 e)) (eqb_tells (rank ts) level)
+-- no operator of a precedence stands where only looser ones may
+pub no_operator : (precedence : Precedence) (ts : Tokens) → Follow (order precedence) ts
+    → sees_operator precedence ts ≡ false
+no_operator precedence ts h =
+    ⊎_elim (λ t. let e = operator_rank precedence ts t in absurd (omega arith)) (λ f. f)
+    (decide (sees_operator precedence ts))
 
-pub at_rank : (level : ℕ) (ts : Tokens) → at_level level ts ≡ true → rank ts ≡ level
-at_rank level ts h = ⊎_elim (λ m. m.1) (λ m. absurd (let e = m.0 in cc)) (eqb_tells (rank ts) level)
+pub quantifier_rank : (q : QuantKind) (a b : Tokens) → IsQuantifier q a b → rank a ≡ 7
+unfolding rank operator_ahead
+quantifier_rank q a b IsQuantifier.all = refl
+quantifier_rank q a b IsQuantifier.any = refl
+quantifier_rank q a b IsQuantifier.none = refl
+
+pub no_quantifier : (ts : Tokens) → 7 < rank ts → begins_quantifier (head ts) ≡ false
+unfolding rank operator_ahead
+no_quantifier [] h = refl
+no_quantifier (k.Keyword w.All ∷ ts) h = absurd (omega arith)
+no_quantifier (k.Keyword w.Any ∷ ts) h = absurd (omega arith)
+no_quantifier (k.Keyword w.None ∷ ts) h = absurd (omega arith)
+no_quantifier (k.Keyword _ ∷ ts) h = refl
+no_quantifier (k.Symbol v ∷ ts) h = refl
+no_quantifier (k.Number n ∷ ts) h = refl
+no_quantifier (k.Word v ∷ ts) h = refl
+no_quantifier (k.Quoted v ∷ ts) h = refl
+no_quantifier (k.Text v ∷ ts) h = refl
 
 -- a symbol of a lower rank doesn't stand there
 pub unseen : (symbol : Symbol) (n : ℕ) (ts : Tokens) → rank (k.Symbol symbol ∷ next ts) ≡ n → n < rank ts

@@ -7,6 +7,8 @@ use Rattle.aql_lex.specs.declared.vocabulary.Symbol.TheVariants as s
 use Rattle.aql_lex.specs.declared.vocabulary.Keyword.TheVariants as w
 use Rattle.aql_tree.specs.Tree.{ExprTree}
 use Rattle.aql_tree.specs.View.{AggregatePart, IntoPart}
+use Rattle.aql_grammar.specs.declared.precedence.Precedence.{Precedence}
+use Rattle.aql_grammar.specs.declared.precedence.Precedence.TheVariants as level
 use Rattle.aql_grammar.specs.Kinds.{Tokens}
 use Rattle.aql_grammar.specs.Spelling.{IsName, IsOptional, AreAny}
 use Rattle.aql_grammar.specs.Objects.{IsVariable, IsKey, IsMember, IsObject}
@@ -205,14 +207,16 @@ module _ (E : Bool → ExprTree → Tokens → Tokens → Type 0) (shrinks : (in
       in let j = unary_rule_shrinks of c b h in omega arith
 
 module _ (P : ExprTree → Tokens → Tokens → Type 0) (shrinks : Shrinks P) where
-  pub link_shrinks : (level : ℕ) → Shrinks (IsLink level P)
-  link_shrinks level l a b (IsLink.link {op = op} {x = x} {b = c} o h) = let i = operator_shrinks level op a
+  pub link_shrinks : (precedence : Precedence) → Shrinks (IsLink precedence P)
+  link_shrinks precedence l a b (IsLink.link {op = op} {x = x} {b = c} o h) = let i =
+      operator_shrinks precedence op a
       c o in let j = shrinks x c b h in omega arith
 
-  pub chain_shrinks : (level : ℕ) → Shrinks (IsChain level P)
-  chain_shrinks level x a b (IsChain.alone h) = shrinks x a b h
-  chain_shrinks level x a b (IsChain.linked {x = first} {l = l} {ls = ls} {b = c} h more) =
-      let i = shrinks first a c h in let j = many_falls (IsLink level P) (link_shrinks level) (l ∷ ls) c b
+  pub chain_shrinks : (precedence : Precedence) → Shrinks (IsChain precedence P)
+  chain_shrinks precedence x a b (IsChain.alone h) = shrinks x a b h
+  chain_shrinks precedence x a b (IsChain.linked {x = first} {l = l} {ls = ls} {b = c} h more) =
+      let i = shrinks first a c h in let j = many_falls (IsLink precedence P) (link_shrinks precedence)
+      (l ∷ ls) c b
       more in omega arith
 
   pub range_shrinks : Shrinks (IsRange P)
@@ -230,31 +234,31 @@ module _ (P : ExprTree → Tokens → Tokens → Type 0) (shrinks : Shrinks P) w
 module _ (E : Bool → ExprTree → Tokens → Tokens → Type 0) (shrinks : (inside : Bool) → Shrinks (E inside))
     (inside : Bool) where
   pub product_shrinks : Shrinks (IsProduct E inside)
-  product_shrinks = chain_shrinks (IsUnary E inside) (unary_rule_shrinks E shrinks inside) 1
+  product_shrinks = chain_shrinks (IsUnary E inside) (unary_rule_shrinks E shrinks inside) level.Product
 
   pub sum_shrinks : Shrinks (IsSum E inside)
-  sum_shrinks = chain_shrinks (IsProduct E inside) product_shrinks 2
+  sum_shrinks = chain_shrinks (IsProduct E inside) product_shrinks level.Sum
 
   pub span_shrinks : Shrinks (IsSpan E inside)
   span_shrinks = range_shrinks (IsSum E inside) sum_shrinks
 
   pub relation_shrinks : Shrinks (IsRelation E inside)
-  relation_shrinks = chain_shrinks (IsSpan E inside) span_shrinks 4
+  relation_shrinks = chain_shrinks (IsSpan E inside) span_shrinks level.Relation
 
   pub membership_shrinks : Shrinks (IsMembership E inside)
-  membership_shrinks = chain_shrinks (IsRelation E inside) relation_shrinks 5
+  membership_shrinks = chain_shrinks (IsRelation E inside) relation_shrinks level.Membership
 
   pub equality_shrinks : Shrinks (IsEquality E inside)
-  equality_shrinks = chain_shrinks (IsMembership E inside) membership_shrinks 6
+  equality_shrinks = chain_shrinks (IsMembership E inside) membership_shrinks level.Equality
 
   pub comparison_level_shrinks : Shrinks (IsArrayComparison E inside)
   comparison_level_shrinks = quantified_shrinks (IsEquality E inside) equality_shrinks
 
   pub conjunction_shrinks : Shrinks (IsConjunction E inside)
-  conjunction_shrinks = chain_shrinks (IsArrayComparison E inside) comparison_level_shrinks 8
+  conjunction_shrinks = chain_shrinks (IsArrayComparison E inside) comparison_level_shrinks level.Conjunction
 
   pub disjunction_shrinks : Shrinks (IsDisjunction E inside)
-  disjunction_shrinks = chain_shrinks (IsConjunction E inside) conjunction_shrinks 9
+  disjunction_shrinks = chain_shrinks (IsConjunction E inside) conjunction_shrinks level.Disjunction
 
   pub conditional_shrinks : Shrinks (IsConditional E inside)
   conditional_shrinks x a b (IsConditional.plain h) = disjunction_shrinks x a b h

@@ -7,6 +7,6 @@ use Rattle.aql_grammar.proofs.cursor.Cursor.names.Goals as goal
 pub loop-turn-preserved : goal.loop-turn-preserved
 unfolding separated_from
 loop-turn-preserved c =
-    let e = one_more
-        (λ n. separated_from name n c.loop-turn.found c.loop-turn.self) c.left-turn-end.result c.loop-turn._turn (omega arith) c.loop-turn.invariant in
+    let e = one_more (λ n. separated_from name n c.loop-turn.found c.loop-turn.self) c.left-turn-end.result
+    c.loop-turn._turn (omega arith) c.loop-turn.invariant in
     first_of (search rules, grind (arith, common_steps))

@@ -1,6 +1,6 @@
 use Rattle.std.proofs.Common.{map, ◌≡◌, ◌-◌}
 use Rattle.aql_lex.specs.declared.vocabulary.Symbol.TheVariants as s
-use Rattle.aql_grammar.specs.Input.{items, items_from}
+use Rattle.aql_grammar.specs.Input.{items_from}
 use Rattle.aql_grammar.specs.Reader.{expr, member, members}
 use Rattle.aql_tree.specs.View.{member_part}
 use Rattle.aql_parse.proofs.parser.Parser.members.Given as goal
