@@ -113,7 +113,7 @@ length_of_g = fn "LENGTH" (var "g" ∷ [])
 pub member_left_out : Answer [] group_length empty_row (num 1 ∷ []) → ⊥
 member_left_out h =
     let members = h.2.2.1.0 in
-    let all = one_class (λ row m k. (one_values [] no_exprs tt null row).1 m.criteria k.0)
+    let all = one_class (λ row m k. (one_values [] no_exprs tt null row).1 m.criteria k.criteria)
     h.2.0 members h.2.2.1.1 in
     let rows = fixed_through [] (clauses (for "x" (items (int 3 ∷ int 1 ∷ [])) ∷ [])) empty_row []
     (refl, (tt, (tt, tt)), tt) (empty_row ∷ []) h.2.0 (h.2.0, h.2.1, refl) in
