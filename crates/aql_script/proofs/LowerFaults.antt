@@ -15,7 +15,7 @@ use Rattle.aql_value.specs.declared.reading.JsonFault.TheVariants.{NotJson, TooD
 use Rattle.aql_doc.specs.Held.{Held, documents_in}
 use Rattle.aql_doc.specs.Declarations.{place_of, declared, indexed, with_index, has_index, changed, replaced, empty}
 use Rattle.aql_doc.specs.Documents as documents
-use Rattle.aql_doc.specs.Keys.{is_key, id_of, is_text, behind}
+use Rattle.aql_doc.specs.Keys.{is_key, id_of, is_text, rest_after}
 use Rattle.aql_doc.specs.Taken.{has_key}
 use Rattle.aql_doc.specs.declared.faults.CatalogFault.{CatalogFault}
 use Rattle.aql_doc.specs.declared.faults.CatalogFault.TheVariants.{Twice, TooMany, Memory as CatalogMemory}
@@ -106,7 +106,7 @@ allowed_is None = tt
 allowed_is (Some key) = one_of OfDocument (is_key key) (Ok key) (Err IdMismatch) tt tt
 
 from_id_is : (name : List ℕ) (id : Tree) → FaultIs OfDocument (documents.key_from_id name id)
-from_id_is name (text id) = allowed_is (behind (id_of name []) id)
+from_id_is name (text id) = allowed_is (rest_after (id_of name []) id)
 from_id_is name null = tt
 from_id_is name (boolean b) = tt
 from_id_is name (number n) = tt
