@@ -107,7 +107,8 @@ fn copy_maybe_boxed(
     alloc: Global,
     expr: &Option<Box<Expr>>,
 ) -> Result<Option<Box<Expr>>, OutOfMemory>
-    ensures { IfOk result (λ f. option_map (λ b. tree b.value) f ≡ option_map (λ b. tree b.value) expr.now) }
+    ensures { IfOk result
+        (λ f. option_map (λ b. tree b.value) f ≡ option_map (λ b. tree b.value) expr.now) }
 {
     match expr {
         Some(expr) => Ok(Some(copy_boxed(alloc, expr)?)),

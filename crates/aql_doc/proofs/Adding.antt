@@ -11,18 +11,18 @@ use Rattle.std.proofs.lemmas.Bool.Decides.{same_from_decides}
 use Rattle.std.proofs.lemmas.List.Folds.{list_any-append}
 use Rattle.std.proofs.lemmas.List.{take-append-drop}
 use Rattle.std.proofs.Math.Seq.{take-append_seam}
-use Rattle.aql_value.specs.Tree.{Tree, null, boolean, number, text, array, object}
+use Rattle.aql_value.specs.Datum.{Datum, null, boolean, number, text, array, object}
 use Rattle.aql_value.specs.Attributes.{attribute, with_attribute}
 use Rattle.aql_value.specs.laws.Lists.{fields_list-object_of}
 use Rattle.aql_doc.specs.Keys.{rest_after, id_of, is_key, is_text}
-use Rattle.aql_doc.specs.Taken.{key_of, bytes_of, has_key}
-use Rattle.aql_doc.specs.Documents.{filled, key_given, id_beside}
+use Rattle.aql_doc.specs.KeySet.{key_of, bytes_of, has_key}
+use Rattle.aql_doc.specs.Documents.{fill, key_given, id_beside}
 use Rattle.aql_doc.specs.declared.faults.DocFault.TheVariants.{BadKey, IdMismatch}
 use Rattle.aql_doc.proofs.Attributes.{attribute_same, attribute_other}
 
 -- a document has the key that it is given
-pub key_of-filled : (name key : List ℕ) (ms : List (List ℕ × Tree)) → key_of (filled name key ms) ≡ key
-unfolding filled
+pub key_of-filled : (name key : List ℕ) (ms : List (List ℕ × Datum)) → key_of (fill name key ms) ≡ key
+unfolding fill
 key_of-filled name key ms =
     let keyed = with_attribute (codes "_key") (text key) ms in
     let whole = with_attribute (codes "_id") (text (id_of name key)) keyed in
@@ -43,11 +43,11 @@ or_flip false true = refl
 or_flip false false = refl
 
 -- one more document, one more key
-pub has_key-append : (docs : List Tree) (name key : List ℕ) (ms : List (List ℕ × Tree)) (q : List ℕ)
-    → has_key (docs ++ filled name key ms ∷ []) q ≡ cond (bytes_eq key q) true (has_key docs q)
+pub has_key-append : (docs : List Datum) (name key : List ℕ) (ms : List (List ℕ × Datum)) (q : List ℕ)
+    → has_key (docs ++ fill name key ms ∷ []) q ≡ cond (bytes_eq key q) true (has_key docs q)
 unfolding has_key
 has_key-append docs name key ms q =
-    list_any-append (λ d. bytes_eq q (key_of d)) docs (filled name key ms ∷ [])
+    list_any-append (λ d. bytes_eq q (key_of d)) docs (fill name key ms ∷ [])
     ∙ ap (λ k. has_key docs q || (bytes_eq q k || false)) (key_of-filled name key ms)
     ∙ ap (λ b. has_key docs q || (b || false)) (swapped q key)
     ∙ or_flip (has_key docs q) (bytes_eq key q)
@@ -58,16 +58,16 @@ pub made_room : {Y S : Type 0} → (q : List ℕ) (s n : HashSet (String Y) S) �
 made_room q s n r = sym (list_any-IsPermutation (λ k. bytes_eq q (string_bytes k)) s.keys n.keys r.0)
 
 -- the set after room was made in it and the key was put in, at a key q
-pub put_in : (docs docs2 : List Tree) (doc : Tree) (name key : List ℕ) (ms : List (List ℕ
-    × Tree)) (q : List ℕ)
-    (o r i : Bool) → o ≡ has_key docs q → r ≡ o → i ≡ cond (bytes_eq key q) true r → doc ≡ filled name key ms
+pub put_in : (docs docs2 : List Datum) (doc : Datum) (name key : List ℕ) (ms : List (List ℕ
+    × Datum)) (q : List ℕ)
+    (o r i : Bool) → o ≡ has_key docs q → r ≡ o → i ≡ cond (bytes_eq key q) true r → doc ≡ fill name key ms
     → docs2 ≡ docs ++ doc ∷ [] → i ≡ has_key docs2 q
 put_in docs docs2 doc name key ms q o r i f e g h j =
     g ∙ ap (cond (bytes_eq key q) true) (e ∙ f)
     ∙ sym (ap (λ d. has_key d q) j ∙ ap (λ t. has_key (docs ++ t ∷ []) q) h
     ∙ has_key-append docs name key ms q)
 
-key_of_id : (name s key : List ℕ) (id : Option Tree) → id_beside name s id ≡ Ok key → text s ≡ text key
+key_of_id : (name s key : List ℕ) (id : Option Datum) → id_beside name s id ≡ Ok key → text s ≡ text key
 key_of_id name s key None e = cc
 key_of_id name s key (Some id) e =
     elim (is_text (id_of name s) id) as (λ b. (if b then Ok s else Err IdMismatch) ≡ Ok key
@@ -76,13 +76,13 @@ key_of_id name s key (Some id) e =
       | false ↦ λ e. absurd (cc)
     ] e
 
-key_of_text : (name s key : List ℕ) (id : Option Tree) (b : Bool)
+key_of_text : (name s key : List ℕ) (id : Option Datum) (b : Bool)
     → (if b then id_beside name s id else Err BadKey) ≡ Ok key → text s ≡ text key
 key_of_text name s key id true e = key_of_id name s key id e
 key_of_text name s key id false e = absurd (cc)
 
 -- the key that a `_key` gives is its text
-pub key_is_there : (name key : List ℕ) (at id : Option Tree) → key_given name at id ≡ Ok key
+pub key_is_there : (name key : List ℕ) (at id : Option Datum) → key_given name at id ≡ Ok key
     → IfSome at (λ t. t ≡ text key)
 key_is_there name key None id e = tt
 key_is_there name key (Some (text s)) id e = key_of_text name s key id (is_key s) e

@@ -6,8 +6,8 @@ use Rattle.std.proofs.lemmas.Cmp.{nat_list_cmp_total, tied_itself}
 use Rattle.std.proofs.lemmas.Option.{same_Some}
 use Rattle.std.specs.Borrow.{Bor}
 use Rattle.std.specs.Prelude.{IfSome}
-use Rattle.aql_value.specs.Tree.{Tree, text, object_of}
-use Rattle.aql_value.specs.View.{tree_of}
+use Rattle.aql_value.specs.Datum.{Datum, text, object_of}
+use Rattle.aql_value.specs.View.{datum_of}
 use Rattle.aql_value.specs.WellFormed.{FieldsWellFormed}
 use Rattle.aql_value.specs.declared.values.Value.{Value}
 use Rattle.aql_value.proofs.Kept.{attribute_absent}
@@ -17,7 +17,7 @@ use Rattle.aql_value.specs.laws.Ranks.{same_bytes}
 itself : (k : List ℕ) → slice_cmp nat_cmp k k ≡ Equal
 itself k = tied_itself nat_list_cmp_total k
 
-pub attribute_same : (k : List ℕ) (t : Tree) (fs : List (List ℕ × Tree))
+pub attribute_same : (k : List ℕ) (t : Datum) (fs : List (List ℕ × Datum))
     → attribute k (with_attribute k t fs) ≡ Some t
 attribute_same k t [] = rw (itself k) refl
 attribute_same k t (f ∷ fs) =
@@ -29,7 +29,8 @@ attribute_same k t (f ∷ fs) =
       | Greater ↦ λ e. rw e (attribute_same k t fs)
     ] refl
 
-pub attribute_other : (k l : List ℕ) (t : Tree) (fs : List (List ℕ × Tree)) → slice_cmp nat_cmp k l ≡ Greater
+pub attribute_other : (k l : List ℕ) (t : Datum) (fs : List (List ℕ × Datum))
+    → slice_cmp nat_cmp k l ≡ Greater
     → attribute k (with_attribute l t fs) ≡ attribute k fs
 attribute_other k l t [] g = rw g refl
 attribute_other k l t (f ∷ fs) g =
@@ -47,7 +48,7 @@ attribute_other k l t (f ∷ fs) g =
     ] refl
 
 -- an attribute that is there may be set again
-there : (k : List ℕ) (t : Tree) (fs : List (List ℕ × Tree)) → FieldsWellFormed (object_of fs)
+there : (k : List ℕ) (t : Datum) (fs : List (List ℕ × Datum)) → FieldsWellFormed (object_of fs)
     → attribute k fs ≡ Some t → fs ≡ with_attribute k t fs
 there k t [] w e = absurd (cc)
 there k t (f ∷ fs) w e =
@@ -64,8 +65,8 @@ there k t (f ∷ fs) w e =
       | Greater ↦ λ b h. ap (λ rest. f ∷ rest) (there k t fs w.2 h)
     ] refl e
 
-pub stays : (k s : List ℕ) (fs : List (List ℕ × Tree)) (o : Option Tree) (r : Option (Bor Value))
-    → FieldsWellFormed (object_of fs) → attribute k fs ≡ o → option_map (λ v. tree_of v.now) r ≡ o
+pub stays : (k s : List ℕ) (fs : List (List ℕ × Datum)) (o : Option Datum) (r : Option (Bor Value))
+    → FieldsWellFormed (object_of fs) → attribute k fs ≡ o → option_map (λ v. datum_of v.now) r ≡ o
     → is_some r ≡ true → IfSome o (λ t. t ≡ text s) → fs ≡ with_attribute k (text s) fs
 stays k s fs o None w e f b h = absurd (cc)
 stays k s fs None (Some v) w e f b h = absurd (cc)

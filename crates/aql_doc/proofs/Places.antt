@@ -4,9 +4,9 @@ use Rattle.std.specs.Prelude.{Result, Err, OnOk, OnErr, IfErr, IfSome, unwrap_or
 use Rattle.std.proofs.lemmas.Option.{slice_get-get_or, slice_get_cases}
 use Rattle.std.specs.Borrow.{Bor}
 use Rattle.aql_doc.specs.declared.info.CollInfo.{CollInfo}
-use Rattle.aql_value.specs.Tree.{Tree}
+use Rattle.aql_value.specs.Datum.{Datum}
 use Rattle.aql_doc.specs.Held.{Held, documents_in, documents_at}
-use Rattle.aql_doc.specs.Declarations.{place_of, replaced, changed, are_same, has_index, with_index}
+use Rattle.aql_doc.specs.Declarations.{place_of, replace, change, are_same, has_index, with_index}
 use Rattle.aql_doc.specs.Limits.{IsDeclared, IsWithinLimits, HasOneToEight, AreApart}
 use Rattle.std.specs.Prelude.{All, ◌||◌}
 use Rattle.std.proofs.lemmas.List.{length_push}
@@ -200,13 +200,13 @@ found hs now i x e l v = ap (λ xs. slice_get xs i) (sym e) ∙ slice_get-get_or
 
 -- what comes of the collection comes of the catalog
 pub gives : {E : Type 0} → (hs now : List Held) (i : ℕ) (x h : Held) (f : Held → Result Held E) → hs ≡ now
-    → slice_get now i ≡ Some x → f x ≡ Ok h → changed now i f (slice_get now i) ≡ Ok (slice_set hs i h)
+    → slice_get now i ≡ Some x → f x ≡ Ok h → change now i f (slice_get now i) ≡ Ok (slice_set hs i h)
 gives hs now i x h f e g w =
-    ap (changed now i f) g ∙ ap (replaced now i) w ∙ ap (λ xs. Ok (slice_set xs i h)) (sym e)
+    ap (change now i f) g ∙ ap (replace now i) w ∙ ap (λ xs. Ok (slice_set xs i h)) (sym e)
 
 pub refuses : {E : Type 0} → (now : List Held) (i : ℕ) (x : Held) (f : Held → Result Held E) (fault : E)
-    → slice_get now i ≡ Some x → f x ≡ Err fault → changed now i f (slice_get now i) ≡ Err fault
-refuses now i x f fault g w = ap (changed now i f) g ∙ ap (replaced now i) w
+    → slice_get now i ≡ Some x → f x ≡ Err fault → change now i f (slice_get now i) ≡ Err fault
+refuses now i x f fault g w = ap (change now i f) g ∙ ap (replace now i) w
 
 -- the documents of the collection with a number
 pub documents_found : (held : List Held) (i : ℕ) (x : Held) → slice_get held i ≡ Some x
@@ -214,7 +214,7 @@ pub documents_found : (held : List Held) (i : ℕ) (x : Held) → slice_get held
 documents_found held i x g =
     sym (ap (λ o. length (unwrap_or (option_map (λ (h : Held). h.documents) o) [])) g)
 
-pub counted : (hs now : List Held) (x : Held) (total : ℕ) (t : Tree) → hs ≡ now → total ≡ documents_in hs
+pub counted : (hs now : List Held) (x : Held) (total : ℕ) (t : Datum) → hs ≡ now → total ≡ documents_in hs
     → with_document x (documents_in now) t ≡ with_document x total t
 counted hs now x total t e d = sym (ap (λ n. with_document x n t) (d ∙ ap documents_in e))
 

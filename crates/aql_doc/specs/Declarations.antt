@@ -19,8 +19,8 @@ empty name edge shards keys = record {
   documents = [];
 }
 
-abbrev pub declared : List Held → List ℕ → Bool → ℕ → List (List ℕ) → Result (List Held) CatalogFault
-declared held name edge shards keys =
+abbrev pub declare : List Held → List ℕ → Bool → ℕ → List (List ℕ) → Result (List Held) CatalogFault
+declare held name edge shards keys =
     if is_some (place_of held name) then Err Twice
     else (if nat_lt (length held) 64 then Ok (held ++ empty name edge shards keys ∷ []) else Err TooMany)
 
@@ -39,15 +39,15 @@ with_index h attributes =
     else Err TooMany)
 
 -- the collection with a number is replaced by what comes of it
-abbrev pub replaced : {E : Type 0} → List Held → ℕ → Result Held E → Result (List Held) E
-replaced held number (Ok h) = Ok (slice_set held number h)
-replaced held number (Err fault) = Err fault
+abbrev pub replace : {E : Type 0} → List Held → ℕ → Result Held E → Result (List Held) E
+replace held number (Ok h) = Ok (slice_set held number h)
+replace held number (Err fault) = Err fault
 
-abbrev pub changed : {E : Type 0} → List Held → ℕ → (Held → Result Held E) → Option Held
+abbrev pub change : {E : Type 0} → List Held → ℕ → (Held → Result Held E) → Option Held
     → Result (List Held) E
-changed held number f (Some h) = replaced held number (f h)
-changed held number f None = Ok held
+change held number f (Some h) = replace held number (f h)
+change held number f None = Ok held
 
 -- a repeated index is kept once
-abbrev pub indexed : List Held → ℕ → List (List ℕ) → Result (List Held) CatalogFault
-indexed held number attributes = changed held number (λ h. with_index h attributes) (slice_get held number)
+abbrev pub add_index : List Held → ℕ → List (List ℕ) → Result (List Held) CatalogFault
+add_index held number attributes = change held number (λ h. with_index h attributes) (slice_get held number)

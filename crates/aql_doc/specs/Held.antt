@@ -3,20 +3,20 @@
 -- query's answer cannot depend on, shards and indexes.
 use Rattle.std.specs.Prelude.{ℕ, List, [], ◌∷◌, ◌+◌, Bool, length, map, refl, slice_get, option_map, unwrap_or}
 use Rattle.std.specs.Coded.{Coded, code_by, coded×, coded_ℕ, coded_list, coded_bool}
-use Rattle.aql_value.specs.Tree.{Tree, coded_bytes, coded_trees}
+use Rattle.aql_value.specs.Datum.{Datum, coded_bytes, coded_datums}
 use Rattle.aql_value.specs.Database.{Database}
 use Rattle.aql_doc.specs.declared.info.CollInfo.{CollInfo}
 
 pub record Held : Type 0 where
   pub info : CollInfo
-  pub documents : List Tree
+  pub documents : List Datum
 
 abbrev pub database : List Held → Database
 database held = map
     (λ (h : Held). record { name = h.info.name; edge = h.info.edge; documents = h.documents }) held
 
 -- the documents of the collection with this number: none where it is not declared
-abbrev pub documents_at : List Held → ℕ → List Tree
+abbrev pub documents_at : List Held → ℕ → List Datum
 documents_at held number = unwrap_or (option_map (λ (h : Held). h.documents) (slice_get held number)) []
 
 -- how many documents are held in all
@@ -41,5 +41,5 @@ coded_info =
 
 abbrev pub coded_held : Coded Held
 coded_held =
-    code_by (CollInfo × List Tree) (coded× coded_info coded_trees)
+    code_by (CollInfo × List Datum) (coded× coded_info coded_datums)
     (λ h. (h.info, h.documents)) (λ p. record { info = p.0; documents = p.1 }) (λ _. refl)

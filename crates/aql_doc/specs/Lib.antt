@@ -1,6 +1,6 @@
 pub mod Keys
 pub mod Held
-pub mod Taken
+pub mod KeySet
 pub mod Meets
 pub mod Declarations
 pub mod Limits

@@ -1,8 +1,8 @@
 ghost use Rattle.std.specs.Prelude.{◌≡◌, ◌⊎◌, ◌<◌, ◌≤◌, [], length, option_map, slice_get, IfOk, IfSome, IfErr, OnOk, OnErr, Ok, Err};
-ghost use Rattle.aql_value.specs.View.{tree_of};
+ghost use Rattle.aql_value.specs.View.{datum_of};
 ghost use Rattle.aql_doc.specs.Held.{Held, documents_at};
-ghost use Rattle.aql_doc.specs.Declarations.{place_of, declared, indexed};
-ghost use Rattle.aql_doc.specs.Documents.{added};
+ghost use Rattle.aql_doc.specs.Declarations.{place_of, declare, add_index};
+ghost use Rattle.aql_doc.specs.Documents.{add};
 ghost use Rattle.aql_doc.specs.Limits.{IsDeclared, IsWithinLimits};
 ghost use Rattle.aql_doc.specs.Meets.{Refuses};
 ghost use Rattle.aql_doc.specs.declared.faults.CatalogFault.TheVariants.{Memory as NoMemory};
@@ -101,9 +101,9 @@ impl Catalog {
         requires shards { (1 ≤ shards) × (shards ≤ 32) }
         requires keys { (1 ≤ length keys) × (length keys ≤ 8) }
         ensures ok { IfOk result (λ n. (n.0 ≡ length self.old)
-            × (declared self.old name edge shards keys ≡ Ok self.new)) }
+            × (declare self.old name edge shards keys ≡ Ok self.new)) }
         ensures err { IfErr result (λ e.
-            (e ≡ NoMemory) ⊎ (declared self.old name edge shards keys ≡ Err e)) }
+            (e ≡ NoMemory) ⊎ (declare self.old name edge shards keys ≡ Err e)) }
         ensures unchanged { OnErr result (self.new ≡ self.old) }
     {
         if self.find(name.as_str()).is_some() {
@@ -129,9 +129,9 @@ impl Catalog {
     pub fn add_index(&mut self, coll: CollNo, attributes: Names) -> Result<(), CatalogFault>
         requires coll { coll.0 < length self.old }
         requires attributes { (1 ≤ length attributes) × (length attributes ≤ 8) }
-        ensures ok { OnOk result (indexed self.old coll.0 attributes ≡ Ok self.new) }
+        ensures ok { OnOk result (add_index self.old coll.0 attributes ≡ Ok self.new) }
         ensures err { IfErr result (λ e.
-            (e ≡ NoMemory) ⊎ (indexed self.old coll.0 attributes ≡ Err e)) }
+            (e ≡ NoMemory) ⊎ (add_index self.old coll.0 attributes ≡ Err e)) }
         ensures unchanged { OnErr result (self.new ≡ self.old) }
     {
         let collection = &mut self.collections[coll.0 as usize];
@@ -148,8 +148,8 @@ impl Catalog {
     ) -> Result<DocNo, DocFault>
         requires { coll.0 < length self.old }
         ensures ok { IfOk result (λ n. (n.0 ≡ length (documents_at self.old coll.0))
-            × (added self.old coll.0 (tree_of doc) ≡ Ok self.new)) }
-        ensures err { IfErr result (λ e. Refuses e (added self.old coll.0 (tree_of doc))) }
+            × (add self.old coll.0 (datum_of doc) ≡ Ok self.new)) }
+        ensures err { IfErr result (λ e. Refuses e (add self.old coll.0 (datum_of doc))) }
         ensures unchanged { OnErr result (self.new ≡ self.old) }
     {
         let total = self.total;
@@ -175,7 +175,7 @@ impl Catalog {
 
     /// A document of a collection, by its number; `None` exactly where there is none.
     pub fn document(&self, coll: CollNo, doc: DocNo) -> Option<&Value>
-        ensures { option_map (λ v. tree_of v.now) result
+        ensures { option_map (λ v. datum_of v.now) result
             ≡ slice_get (documents_at self.now coll.0) doc.0 }
     {
         match self.documents(coll) {

@@ -2,11 +2,11 @@
 
 ghost use Rattle.std.specs.Prelude.{◌≡◌, ◌⊎◌, ◌++◌, ◌∷◌, ◌<◌, ◌≤◌, ◌+◌, [], length, IfOk, IfErr, OnOk, OnErr, IfSome, Ok, Err, bytes_eq, codes, false, string_bytes};
 ghost use Rattle.aql_value.specs.Attributes.{attribute};
-ghost use Rattle.aql_value.specs.Tree.{object_of, text};
-ghost use Rattle.aql_value.specs.View.{tree_of};
+ghost use Rattle.aql_value.specs.Datum.{object_of, text};
+ghost use Rattle.aql_value.specs.View.{datum_of};
 ghost use Rattle.aql_value.specs.WellFormed.{FieldsWellFormed};
-ghost use Rattle.aql_doc.specs.Taken.{has_key};
-ghost use Rattle.aql_doc.specs.Documents.{filled, with_members, with_document};
+ghost use Rattle.aql_doc.specs.KeySet.{has_key};
+ghost use Rattle.aql_doc.specs.Documents.{fill, with_members, with_document};
 ghost use Rattle.aql_doc.specs.Meets.{Refuses};
 ghost use Rattle.aql_doc.specs.Declarations.{are_same, has_index, with_index};
 ghost use Rattle.aql_doc.specs.declared.faults.CatalogFault.TheVariants.{Memory as NoMemory};
@@ -46,13 +46,13 @@ impl Model for Collection {
 
     ghost view = { λ c. record { info = c.info; documents = c.documents } };
 
-    ghost use Rattle.aql_doc.specs.Taken.{Takes};
+    ghost use Rattle.aql_doc.specs.KeySet.{Takes};
 
     ghost invariant = { λ c. Takes c.taken c.documents };
 }
 
 impl Collection {
-    #[tactic(auto, unfolding(crate::specs::Taken::has_key))]
+    #[tactic(auto, unfolding(crate::specs::KeySet::has_key))]
     pub(crate) fn new(alloc: Global, info: CollInfo) -> Collection
         ensures { result ≡ record { info = info; documents = [] } }
     {
@@ -85,11 +85,11 @@ impl Collection {
     pub(crate) fn add(&mut self, alloc: Global, total: u32, doc: Value) -> Result<DocNo, DocFault>
         requires { length self.old.documents ≤ total }
         ensures ok { IfOk result (λ n. (n.0 ≡ length self.old.documents)
-            × (with_document self.old total (tree_of doc) ≡ Ok self.new)) }
+            × (with_document self.old total (datum_of doc) ≡ Ok self.new)) }
         ensures room { OnOk result ((total < 200000)
             × (length self.new.documents ≡ length self.old.documents + 1)) }
         ensures info { self.new.info ≡ self.old.info }
-        ensures err { IfErr result (λ e. Refuses e (with_document self.old total (tree_of doc))) }
+        ensures err { IfErr result (λ e. Refuses e (with_document self.old total (datum_of doc))) }
         ensures unchanged { OnErr result (self.new ≡ self.old) }
     {
         recall_well_formed(&doc);
@@ -141,7 +141,7 @@ impl Collection {
         ensures ok { IfOk result (λ n. (n.0 ≡ length self.old.documents)
             × (self.new ≡ record self.old {
               documents = self.old.documents
-                  ++ filled self.old.info.name (string_bytes key) members ∷ [];
+                  ++ fill self.old.info.name (string_bytes key) members ∷ [];
             })) }
         ensures unchanged { OnErr result (self.new ≡ self.old) }
     {

@@ -2,17 +2,17 @@
 
 ghost use Rattle.std.specs.Prelude.{◌≡◌, IfOk, IfSome, codes};
 ghost use Rattle.aql_value.specs.Attributes.{attribute, with_attribute};
-ghost use Rattle.aql_value.specs.Tree.{object_of, text};
-ghost use Rattle.aql_value.specs.View.{tree_of};
+ghost use Rattle.aql_value.specs.Datum.{object_of, text};
+ghost use Rattle.aql_value.specs.View.{datum_of};
 ghost use Rattle.aql_value.specs.WellFormed.{FieldsWellFormed};
-ghost use Rattle.aql_doc.specs.Documents.{filled};
+ghost use Rattle.aql_doc.specs.Documents.{fill};
 
 use crate::keys::id_of;
 use aql_value::{Members, OutOfMemory, Text, Value};
 use std::alloc::Global;
 
 // The document with its `_key` and its `_id`.
-#[tactic(auto, unfolding(crate::specs::Documents::filled))]
+#[tactic(auto, unfolding(crate::specs::Documents::fill))]
 pub(crate) fn fill(
     alloc: Global,
     name: &Text,
@@ -21,7 +21,7 @@ pub(crate) fn fill(
 ) -> Result<Value, OutOfMemory>
     requires names { FieldsWellFormed (object_of members) }
     requires key { IfSome (attribute (codes "_key") members) (λ t. t ≡ text key.now) }
-    ensures { IfOk result (λ v. tree_of v ≡ filled name.now key.now members) }
+    ensures { IfOk result (λ v. datum_of v ≡ fill name.now key.now members) }
 {
     let mut filled = with_key(alloc, key, members)?;
     let id = id_of(alloc, name, key)?;

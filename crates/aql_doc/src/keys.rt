@@ -2,11 +2,11 @@
 
 ghost use Rattle.std.specs.Prelude.{◌≡◌, ◌∷◌, ◌++◌, IfOk, codes, count_by, nat_eq, option_map};
 ghost use Rattle.std.specs.List.{list_all};
-ghost use Rattle.aql_value.specs.Tree.{Tree};
-ghost use Rattle.aql_value.specs.View.{tree_of};
+ghost use Rattle.aql_value.specs.Datum.{Datum};
+ghost use Rattle.aql_value.specs.View.{datum_of};
 ghost use Rattle.aql_value.specs.Attributes.{attribute};
 ghost use Rattle.aql_doc.specs.Keys.{is_key, is_key_byte, is_slash, is_id, is_end, is_text, rest_after};
-ghost use Rattle.aql_doc.specs.Documents.{allowed, key_beside, key_from_id, key_given, has_ends};
+ghost use Rattle.aql_doc.specs.Documents.{key_allowed, key_beside, key_from_id, key_given, has_ends};
 ghost use Rattle.aql_doc.specs.Meets.{MeetsText};
 
 use crate::DocFault;
@@ -39,7 +39,7 @@ fn key_beside_id<'a>(
     id: Option<&Value>,
 ) -> Result<&'a str, DocFault>
     ensures { MeetsText result
-        (key_beside name.now (tree_of key.now) (option_map (λ v. tree_of v.now) id.entry)) }
+        (key_beside name.now (datum_of key.now) (option_map (λ v. datum_of v.now) id.entry)) }
 {
     let Value::Text(key) = key else {
         return Err(DocFault::BadKey);
@@ -61,7 +61,7 @@ fn key_beside_id<'a>(
 
 // The key after the collection's name and a slash.
 fn key_of_id<'a>(alloc: Global, name: &Text, id: &'a Value) -> Result<&'a str, DocFault>
-    ensures { MeetsText result (key_from_id name.now (tree_of id.now)) }
+    ensures { MeetsText result (key_from_id name.now (datum_of id.now)) }
 {
     match id {
         Value::Text(id) => {
@@ -81,7 +81,7 @@ fn rest_after<'a>(front: &str, text: &'a str) -> Option<&'a str>
 
 // The key, where it is one.
 fn allow(key: Option<&str>) -> Result<&str, DocFault>
-    ensures { MeetsText result (allowed (option_map (λ r. r.now) key.entry)) }
+    ensures { MeetsText result (key_allowed (option_map (λ r. r.now) key.entry)) }
 {
     match key {
         Some(key) if is_key(key.as_bytes()) => Ok(key),
@@ -103,7 +103,7 @@ pub(crate) fn id_of(alloc: Global, name: &Text, key: &str) -> Result<Text, OutOf
 }
 
 fn is_text(value: &Value, text: &Text) -> bool
-    ensures { result ≡ is_text text.now (tree_of value.now) }
+    ensures { result ≡ is_text text.now (datum_of value.now) }
 {
     match value {
         Value::Text(other) => other.as_str() == text.as_str(),
@@ -139,7 +139,7 @@ pub(crate) fn has_ends(members: &Members) -> bool
 }
 
 fn is_end(value: Option<&Value>) -> bool
-    ensures { result ≡ is_end (option_map (λ v. tree_of v.now) value.entry) }
+    ensures { result ≡ is_end (option_map (λ v. datum_of v.now) value.entry) }
 {
     match value {
         Some(Value::Text(id)) => is_id(id.as_str().as_bytes()),

@@ -2,15 +2,15 @@
 ghost use Rattle.std.specs.Prelude.{[], ◌∷◌, ◌≡◌, drop, IfOk, map, OnOk, option_map, true};
 ghost use Rattle.std.specs.Prelude.{unwrap_or};
 ghost use Rattle.aql_value.specs.Database.{Database};
-ghost use Rattle.aql_value.specs.Tree.{boolean, null};
+ghost use Rattle.aql_value.specs.Datum.{boolean, null};
 ghost use Rattle.aql_value.specs.Truth.{truth};
-ghost use Rattle.aql_value.specs.View.{tree_of};
+ghost use Rattle.aql_value.specs.View.{datum_of};
 ghost use Rattle.aql_func.specs.Named.{call_named};
 ghost use Rattle.aql_func.specs.Objects.{with_all};
 ghost use Rattle.aql_func.specs.Operators as operators;
 ghost use Rattle.aql_tree.specs.View.{tree, trees, maybe, members, steps, links};
 ghost use Rattle.aql_tree.specs.View.{member_part, step_part, link_part};
-ghost use Rattle.aql_meaning.specs.Meaning.{Ev};
+ghost use Rattle.aql_meaning.specs.Meaning.{Evaluates};
 ghost use Rattle.aql_meaning.specs.Plain.{IsPlain};
 ghost use Rattle.aql_meaning.specs.Row.{value_at};
 ghost use Rattle.aql_meaning.specs.Value as spec;
@@ -24,16 +24,16 @@ use aql_tree::{Expr, Field, Ident, Link, Step};
 use aql_value::{Items, Members, OutOfMemory, Value, copy, to_number, to_text, truthy};
 use std::alloc::Global;
 
-/// The value of an expression without a subquery at a row, outside of an inline operator (AQL
+/// The value of an expression without a subquery at a row, outside of an inline expression (AQL
 /// fundamentals, Operators). Every form of an expression is taken; `&&`, `||` and `? :` look only
 /// at the operands that they need. A variable that the row lacks, access that finds nothing, and a
 /// call of an unknown function or with a wrong number of arguments give null.
 pub fn eval<R: RowView>(alloc: Global, expr: &Expr, row: &R) -> Result<Value, OutOfMemory>
     requires { IsPlain (tree expr.now) }
-    ensures value { IfOk result (λ v. tree_of v
+    ensures value { IfOk result (λ v. datum_of v
         ≡ spec.value (tree expr.now) null (R.vars row.now)) }
     ensures meaning { IfOk result (λ v. (db : Database)
-        → Ev db (tree expr.now) null (R.vars row.now) (tree_of v)) }
+        → Evaluates db (tree expr.now) null (R.vars row.now) (datum_of v)) }
 {
     evaluate(alloc, expr, row, &Value::Null)
 }
@@ -46,8 +46,8 @@ fn evaluate<R: RowView>(
     row: &R,
     cur: &Value,
 ) -> Result<Value, OutOfMemory>
-    ensures { IfOk result (λ v. tree_of v
-        ≡ spec.value (tree expr.now) (tree_of cur.now) (R.vars row.now)) }
+    ensures { IfOk result (λ v. datum_of v
+        ≡ spec.value (tree expr.now) (datum_of cur.now) (R.vars row.now)) }
 {
     match expr {
         Expr::Lit(value) => copy(alloc, value),
@@ -119,7 +119,7 @@ fn evaluate_all<R: RowView>(
     cur: &Value,
 ) -> Result<Items, OutOfMemory>
     ensures { IfOk result (λ w. w
-        ≡ spec.values (trees (map tree exprs.now)) (tree_of cur.now) (R.vars row.now)) }
+        ≡ spec.values (trees (map tree exprs.now)) (datum_of cur.now) (R.vars row.now)) }
 {
     let mut out = Items::new(alloc);
     for expr in exprs {
@@ -136,7 +136,7 @@ fn evaluate_members<R: RowView>(
     cur: &Value,
 ) -> Result<Members, OutOfMemory>
     ensures { IfOk result (λ w. w ≡ with_all []
-        (spec.members (members (map member_part fields.now)) (tree_of cur.now) (R.vars row.now))) }
+        (spec.members (members (map member_part fields.now)) (datum_of cur.now) (R.vars row.now))) }
 {
     let mut out = Members::new(alloc);
     for field in fields {
@@ -154,7 +154,7 @@ fn set_member<R: RowView>(
     out: &mut Members,
 ) -> Result<(), OutOfMemory>
     ensures { OnOk result (out.new ≡ with_all out.old
-        (spec.members (members (member_part field.now ∷ [])) (tree_of cur.now) (R.vars row.now))) }
+        (spec.members (members (member_part field.now ∷ [])) (datum_of cur.now) (R.vars row.now))) }
 {
     match field {
         Field::Named { name, value } => {
@@ -178,8 +178,8 @@ fn follow_variable<R: RowView>(
     cur: &Value,
     ident: &Ident,
 ) -> Result<Value, OutOfMemory>
-    ensures { IfOk result (λ v. tree_of v ≡ spec.stepped (steps (map step_part all.now))
-        (tree_of cur.now) (R.vars row.now) (value_at (R.vars row.now) ident.now)) }
+    ensures { IfOk result (λ v. datum_of v ≡ spec.steps_value (steps (map step_part all.now))
+        (datum_of cur.now) (R.vars row.now) (value_at (R.vars row.now) ident.now)) }
 {
     follow(alloc, all, 0, row, cur, value_of(row, ident, &Value::Null))
 }
@@ -194,9 +194,9 @@ fn follow<R: RowView>(
     cur: &Value,
     from: &Value,
 ) -> Result<Value, OutOfMemory>
-    ensures { IfOk result (λ v. tree_of v
-        ≡ spec.stepped (steps (map step_part (drop start all.now)))
-        (tree_of cur.now) (R.vars row.now) (tree_of from.now)) }
+    ensures { IfOk result (λ v. datum_of v
+        ≡ spec.steps_value (steps (map step_part (drop start all.now)))
+        (datum_of cur.now) (R.vars row.now) (datum_of from.now)) }
 {
     let null = &Value::Null;
     let mut value = from;
@@ -222,7 +222,7 @@ fn follow<R: RowView>(
     copy(alloc, value)
 }
 
-// Whether an inline operator keeps the element.
+// Whether an inline expression keeps the element.
 #[cycle(evaluation)]
 fn is_kept<R: RowView>(
     alloc: Global,
@@ -231,7 +231,7 @@ fn is_kept<R: RowView>(
     element: &Value,
 ) -> Result<bool, OutOfMemory>
     ensures { IfOk result (λ b. b ≡ truth (spec.value_or (maybe (option_map tree filter.now))
-        (tree_of element.now) (R.vars row.now) (boolean true))) }
+        (datum_of element.now) (R.vars row.now) (boolean true))) }
 {
     match filter {
         Some(filter) => Ok(truthy(&evaluate(alloc, filter, row, element)?)),
@@ -239,7 +239,7 @@ fn is_kept<R: RowView>(
     }
 }
 
-// What an inline operator gives for the element; `None` stands for the element itself.
+// What an inline expression gives for the element; `None` stands for the element itself.
 #[cycle(evaluation)]
 fn projection_of<R: RowView>(
     alloc: Global,
@@ -247,9 +247,10 @@ fn projection_of<R: RowView>(
     row: &R,
     element: &Value,
 ) -> Result<Option<Value>, OutOfMemory>
-    ensures { IfOk result (λ o. unwrap_or (option_map tree_of o) (tree_of element.now)
-        ≡ spec.value_or (maybe (option_map tree project.now)) (tree_of element.now) (R.vars row.now)
-        (tree_of element.now)) }
+    ensures { IfOk result (λ o. unwrap_or (option_map datum_of o) (datum_of element.now)
+        ≡ spec.value_or (maybe (option_map tree project.now)) (datum_of element.now)
+        (R.vars row.now)
+        (datum_of element.now)) }
 {
     match project {
         Some(project) => Ok(Some(evaluate(alloc, project, row, element)?)),
@@ -257,7 +258,7 @@ fn projection_of<R: RowView>(
     }
 }
 
-// The steps after an inline operator, for what it gave for an element.
+// The steps after an inline expression, for what it gave for an element.
 #[cycle(evaluation)]
 fn follow_given<R: RowView>(
     alloc: Global,
@@ -268,9 +269,10 @@ fn follow_given<R: RowView>(
     given: Option<Value>,
     element: &Value,
 ) -> Result<Value, OutOfMemory>
-    ensures { IfOk result (λ v. tree_of v ≡ spec.stepped (steps (map step_part (drop at all.now)))
-        (tree_of cur.now) (R.vars row.now)
-        (unwrap_or (option_map tree_of given) (tree_of element.now))) }
+    ensures { IfOk result
+        (λ v. datum_of v ≡ spec.steps_value (steps (map step_part (drop at all.now)))
+        (datum_of cur.now) (R.vars row.now)
+        (unwrap_or (option_map datum_of given) (datum_of element.now))) }
 {
     follow(alloc, all, at, row, cur, value_or(&given, element))
 }
@@ -283,8 +285,8 @@ fn evaluate_links<R: RowView>(
     cur: &Value,
     first: Value,
 ) -> Result<Value, OutOfMemory>
-    ensures { IfOk result (λ v. tree_of v ≡ spec.linked (links (map link_part all.now))
-        (tree_of cur.now) (R.vars row.now) (tree_of first)) }
+    ensures { IfOk result (λ v. datum_of v ≡ spec.links_value (links (map link_part all.now))
+        (datum_of cur.now) (R.vars row.now) (datum_of first)) }
 {
     let mut left = first;
     for link in all {
@@ -302,8 +304,8 @@ fn evaluate_link<R: RowView>(
     cur: &Value,
     left: Value,
 ) -> Result<Value, OutOfMemory>
-    ensures { IfOk result (λ v. tree_of v ≡ operators.binary (link_part link.now).0 (tree_of left)
-        (spec.value (link_part link.now).1 (tree_of cur.now) (R.vars row.now))) }
+    ensures { IfOk result (λ v. datum_of v ≡ operators.binary (link_part link.now).0 (datum_of left)
+        (spec.value (link_part link.now).1 (datum_of cur.now) (R.vars row.now))) }
 {
     match link.op {
         BinOp::And if !truthy(&left) => Ok(left),
@@ -318,7 +320,7 @@ fn evaluate_link<R: RowView>(
 
 // The value of a call by its name.
 fn call_by_name(alloc: Global, name: &str, args: &Items) -> Result<Value, OutOfMemory>
-    ensures { IfOk result (λ v. tree_of v ≡ call_named name.now args.now) }
+    ensures { IfOk result (λ v. datum_of v ≡ call_named name.now args.now) }
 {
     match lookup(name) {
         Some(f) => if arity(f).allows(args.len()) {

@@ -1,14 +1,14 @@
 // Parts of values, borrowed. Where there is no such part, `missing` is given, which is null.
 ghost use Rattle.std.specs.Prelude.{◌≡◌, option_map, slice_get, unwrap_or};
 ghost use Rattle.aql_value.specs.Parts as spec;
-ghost use Rattle.aql_value.specs.Tree.{null};
-ghost use Rattle.aql_value.specs.View.{tree_of, trees_in};
+ghost use Rattle.aql_value.specs.Datum.{null};
+ghost use Rattle.aql_value.specs.View.{datum_of, datums_in};
 
 use aql_value::Value;
 
 // The elements of an array; nothing else has elements.
 pub(crate) fn elements(value: &Value) -> &[Value]
-    ensures { trees_in result.now ≡ spec.elements (tree_of value.now) }
+    ensures { datums_in result.now ≡ spec.elements (datum_of value.now) }
 {
     match value {
         Value::List(list) => list.as_slice(),
@@ -18,8 +18,8 @@ pub(crate) fn elements(value: &Value) -> &[Value]
 
 // `value.name`.
 pub(crate) fn attribute<'a>(value: &'a Value, name: &str, missing: &'a Value) -> &'a Value
-    requires { tree_of missing.now ≡ null }
-    ensures { tree_of result.now ≡ spec.at_name (tree_of value.now) name.now }
+    requires { datum_of missing.now ≡ null }
+    ensures { datum_of result.now ≡ spec.at_name (datum_of value.now) name.now }
 {
     match value {
         Value::Object(members) => match members.value(name) {
@@ -32,8 +32,8 @@ pub(crate) fn attribute<'a>(value: &'a Value, name: &str, missing: &'a Value) ->
 
 // `value[which]`.
 pub(crate) fn access<'a>(value: &'a Value, which: &Value, missing: &'a Value) -> &'a Value
-    requires { tree_of missing.now ≡ null }
-    ensures { tree_of result.now ≡ spec.at_value (tree_of value.now) (tree_of which.now) }
+    requires { datum_of missing.now ≡ null }
+    ensures { datum_of result.now ≡ spec.at_value (datum_of value.now) (datum_of which.now) }
 {
     match which {
         Value::Text(name) => attribute(value, name.as_str(), missing),
@@ -43,8 +43,8 @@ pub(crate) fn access<'a>(value: &'a Value, which: &Value, missing: &'a Value) ->
 }
 
 fn element_at<'a>(values: &'a [Value], place: i64, missing: &'a Value) -> &'a Value
-    requires { tree_of missing.now ≡ null }
-    ensures { tree_of result.now ≡ spec.at_place (trees_in values.now) place }
+    requires { datum_of missing.now ≡ null }
+    ensures { datum_of result.now ≡ spec.at_place (datums_in values.now) place }
 {
     match usize::try_from(place) {
         Ok(place) => value_at(values, place, missing),
@@ -56,8 +56,8 @@ fn element_at<'a>(values: &'a [Value], place: i64, missing: &'a Value) -> &'a Va
 }
 
 fn value_at<'a>(values: &'a [Value], place: usize, missing: &'a Value) -> &'a Value
-    requires { tree_of missing.now ≡ null }
-    ensures { tree_of result.now ≡ unwrap_or (slice_get (trees_in values.now) place) null }
+    requires { datum_of missing.now ≡ null }
+    ensures { datum_of result.now ≡ unwrap_or (slice_get (datums_in values.now) place) null }
 {
     match values.get(place) {
         Some(value) => value,
@@ -67,7 +67,7 @@ fn value_at<'a>(values: &'a [Value], place: usize, missing: &'a Value) -> &'a Va
 
 // The value that is given, else the other one.
 pub(crate) fn value_or<'a>(given: &'a Option<Value>, other: &'a Value) -> &'a Value
-    ensures { tree_of result.now ≡ unwrap_or (option_map tree_of given.now) (tree_of other.now) }
+    ensures { datum_of result.now ≡ unwrap_or (option_map datum_of given.now) (datum_of other.now) }
 {
     match given {
         Some(value) => value,

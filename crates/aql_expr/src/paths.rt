@@ -1,7 +1,7 @@
 // Variables and attribute paths, whose values a row holds.
 ghost use Rattle.std.specs.Prelude.{◌≡◌, IfSome, is_some, map};
-ghost use Rattle.aql_value.specs.Tree.{Tree, null};
-ghost use Rattle.aql_value.specs.View.{tree_of};
+ghost use Rattle.aql_value.specs.Datum.{Datum, null};
+ghost use Rattle.aql_value.specs.View.{datum_of};
 ghost use Rattle.aql_tree.specs.View.{step_part, steps as step_trees, tree};
 ghost use Rattle.aql_meaning.specs.Row.{Row};
 ghost use Rattle.aql_meaning.specs.Value as spec;
@@ -17,9 +17,9 @@ use aql_value::Value;
 /// `None` exactly where the expression has another form. It is the value that `eval` copies. Where
 /// there is no such part, `missing` is given, which is null.
 pub fn borrow<'a, R: RowView>(expr: &Expr, row: &'a R, missing: &'a Value) -> Option<&'a Value>
-    requires { tree_of missing.now ≡ null }
+    requires { datum_of missing.now ≡ null }
     ensures form { is_some result ≡ is_path (tree expr.now) }
-    ensures value { IfSome result (λ v. tree_of v.now
+    ensures value { IfSome result (λ v. datum_of v.now
         ≡ spec.value (tree expr.now) null (R.vars row.now)) }
 {
     match expr {
@@ -36,10 +36,10 @@ pub fn borrow<'a, R: RowView>(expr: &Expr, row: &'a R, missing: &'a Value) -> Op
 
 // The value that attributes lead to, step by step.
 fn attribute_at<'a>(steps: &[Step], from: &'a Value, missing: &'a Value) -> Option<&'a Value>
-    requires { tree_of missing.now ≡ null }
+    requires { datum_of missing.now ≡ null }
     ensures form { is_some result ≡ are_names (step_trees (map step_part steps.now)) }
-    ensures value { IfSome result (λ v. (cur : Tree) (row : Row) → tree_of v.now
-        ≡ spec.stepped (step_trees (map step_part steps.now)) cur row (tree_of from.now)) }
+    ensures value { IfSome result (λ v. (cur : Datum) (row : Row) → datum_of v.now
+        ≡ spec.steps_value (step_trees (map step_part steps.now)) cur row (datum_of from.now)) }
 {
     let mut value = from;
     for step in steps {

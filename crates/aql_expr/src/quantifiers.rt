@@ -1,7 +1,7 @@
 // Array comparison operators.
 ghost use Rattle.std.specs.Prelude.{◌≡◌, IfOk, map};
 ghost use Rattle.aql_value.specs.Truth.{truth};
-ghost use Rattle.aql_value.specs.View.{tree_of, trees_in};
+ghost use Rattle.aql_value.specs.View.{datum_of, datums_in};
 ghost use Rattle.aql_func.specs.Operators as operators;
 ghost use Rattle.aql_meaning.specs.Expressions as spec;
 
@@ -19,8 +19,8 @@ pub(crate) fn quantify(
     left: &Value,
     right: &Value,
 ) -> Result<Value, OutOfMemory>
-    ensures { IfOk result (λ v. tree_of v
-        ≡ spec.quantify kind op (tree_of left.now) (tree_of right.now)) }
+    ensures { IfOk result (λ v. datum_of v
+        ≡ spec.quantify kind op (datum_of left.now) (datum_of right.now)) }
 {
     match left {
         Value::List(_) => {
@@ -39,8 +39,8 @@ fn holds_for(
     right: &Value,
 ) -> Result<bool, OutOfMemory>
     ensures { IfOk result (λ b. b ≡ spec.holds_for kind
-        (map (λ element. truth (operators.binary op element (tree_of right.now)))
-        (trees_in elements.now))) }
+        (map (λ element. truth (operators.binary op element (datum_of right.now)))
+        (datums_in elements.now))) }
 {
     for element in elements {
         let holds = truthy(&binary(alloc, op, element, right)?);

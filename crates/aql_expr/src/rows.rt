@@ -1,7 +1,7 @@
 // Rows of variables.
 ghost use Rattle.std.specs.Prelude.{ℕ, List, ◌≡◌, IfOk, None, option_map};
-ghost use Rattle.aql_value.specs.Tree.{null};
-ghost use Rattle.aql_value.specs.View.{tree_of};
+ghost use Rattle.aql_value.specs.Datum.{null};
+ghost use Rattle.aql_value.specs.View.{datum_of};
 ghost use Rattle.aql_tree.specs.declared.syntax.Ident.TheVariants.{Name, Num};
 ghost use Rattle.aql_meaning.specs.Row.{Row, value_at};
 
@@ -17,7 +17,7 @@ pub trait RowView {
 
     /// The value of a variable; `None` exactly where the row has no such variable.
     fn value(&self, var: u32) -> Option<&Value>
-        ensures { option_map (λ v. tree_of v.now) result ≡ vars self.now (Num var) };
+        ensures { option_map (λ v. datum_of v.now) result ≡ vars self.now (Num var) };
 
     /// No variable goes by a name.
     ghost numbered: { (row : Self) (name : List ℕ) → vars row (Name name) ≡ None };
@@ -25,8 +25,8 @@ pub trait RowView {
 
 // The value of a variable, and `missing`, which is null, where the row has no such variable.
 pub(crate) fn value_of<'a, R: RowView>(row: &'a R, ident: &Ident, missing: &'a Value) -> &'a Value
-    requires { tree_of missing.now ≡ null }
-    ensures { tree_of result.now ≡ value_at (R.vars row.now) ident.now }
+    requires { datum_of missing.now ≡ null }
+    ensures { datum_of result.now ≡ value_at (R.vars row.now) ident.now }
 {
     match ident {
         Ident::Name(_) => missing,
@@ -43,7 +43,7 @@ pub(crate) fn copy_of<R: RowView>(
     row: &R,
     ident: &Ident,
 ) -> Result<Value, OutOfMemory>
-    ensures { IfOk result (λ v. tree_of v ≡ value_at (R.vars row.now) ident.now) }
+    ensures { IfOk result (λ v. datum_of v ≡ value_at (R.vars row.now) ident.now) }
 {
     copy(alloc, value_of(row, ident, &Value::Null))
 }

@@ -1,7 +1,7 @@
 -- A text has one query, or one cause of a refusal.
 use Rattle.std.proofs.Common.{◌≡◌, ◌≢◌, ℕ, ◌<◌, ◌≤◌, List, Some, None, length, ◌⊎◌, inl, inr, refl, sym, ap, ◌∙◌, subst, arith}
 use Rattle.std.specs.Prelude.{Result, Ok, Err, IfOk, IfErr, IsOkUnless}
-use Rattle.aql_value.specs.Tree as value
+use Rattle.aql_value.specs.Datum as value
 use Rattle.aql_value.specs.Database.{Database}
 use Rattle.aql_lex.specs.declared.kinds.Token.{Token}
 use Rattle.aql_lex.specs.declared.faults.LexKind.{LexKind}
@@ -15,9 +15,9 @@ use Rattle.aql_grammar.specs.Limits.{nesting, marks}
 use Rattle.aql_grammar.specs.laws.TreeLaws.{one_tree}
 use Rattle.aql_grammar.specs.declared.faults.ParseFault.{ParseFault}
 use Rattle.aql_grammar.specs.declared.faults.ParseFault.TheVariants as parse
-use Rattle.aql_parse.specs.Parsed.{Parsed, WithinLimits, IsShallow}
+use Rattle.aql_parse.specs.Parses.{Parses, WithinLimits, IsShallow}
 use Rattle.aql_meaning.specs.Row.{empty_row}
-use Rattle.aql_meaning.specs.Meaning.{Answer}
+use Rattle.aql_meaning.specs.Meaning.{IsAnswer}
 use Rattle.aql_doc.specs.Held.{Held}
 use Rattle.aql_names.specs.declared.faults.ScopeFault.{ScopeFault}
 use Rattle.aql_names.specs.declared.faults.ScopeFault.TheVariants as scope
@@ -47,7 +47,7 @@ list_or_stop text a p k l s =
 -- ---- the grammar and its limits
 
 within_or_refused : (ts : Tokens) (q : QueryTree) (b : ParseFault) → WithinLimits ts → Tree ts q
-    → IsShallow q → b ≢ parse.Memory → Parsed ts (Err b) → ⊥
+    → IsShallow q → b ≢ parse.Memory → Parses ts (Err b) → ⊥
 within_or_refused ts q parse.TooDeep w t s n h = let a = w.0 in absurd (omega arith)
 within_or_refused ts q parse.TooManyClauses w t s n h = let a = w.1 in let b = h.1 in absurd (omega arith)
 within_or_refused ts q parse.NotInGrammar w t s n h = h.1 q t
@@ -65,7 +65,7 @@ flat_or_deep : (ts : Tokens) (a b : ParseFault) → nesting ts ≤ 64 → 64 < n
 flat_or_deep ts a b w h = absurd (omega arith)
 
 one_refusal : (ts : Tokens) (a b : ParseFault) → a ≢ parse.Memory → b ≢ parse.Memory
-    → Parsed ts (Err a) → Parsed ts (Err b) → a ≡ b
+    → Parses ts (Err a) → Parses ts (Err b) → a ≡ b
 one_refusal ts parse.TooDeep parse.TooDeep m n h k = refl
 one_refusal ts parse.TooDeep parse.TooManyClauses m n h k = flat_or_deep ts _ _ k.0 h
 one_refusal ts parse.TooDeep parse.NotInGrammar m n h k = within_or_limit ts _ _ k.0 h
@@ -101,14 +101,14 @@ written_or_misspelled : (text : List ℕ) (q : QueryTree) (b : ParseFault) → b
     → IsWritten text q → Misspells text b → ⊥
 written_or_misspelled text q b n a m =
     let same = one_list text m.0 a.tokens m.1.0.1 a.has_tokens.1 in
-    let P : List Token → Type 0 = λ ts. Parsed (kinds_of ts) (Err b) in
+    let P : List Token → Type 0 = λ ts. Parses (kinds_of ts) (Err b) in
     within_or_refused (kinds_of a.tokens) q b a.within a.spelled a.shallow n (subst P same m.1.1)
 
 misspelled_once : (text : List ℕ) (a b : ParseFault) → a ≢ parse.Memory → b ≢ parse.Memory
     → Misspells text a → Misspells text b → a ≡ b
 misspelled_once text a b m n h k =
     let same = one_list text h.0 k.0 h.1.0.1 k.1.0.1 in
-    let P : List Token → Type 0 = λ ts. Parsed (kinds_of ts) (Err a) in
+    let P : List Token → Type 0 = λ ts. Parses (kinds_of ts) (Err a) in
     one_refusal (kinds_of k.0) a b m n (subst P same h.1.1) k.1.1
 
 -- the four kinds of causes
@@ -185,7 +185,7 @@ no_cause held text q e w none (named g p a v h) =
 -- each answer of this tree is an answer of the query
 abbrev pub KeepsAnswers : QueryTree → QueryTree → Type 0
 KeepsAnswers tree q =
-    (db : Database) (out : List value.Tree) → Answer db tree empty_row out → Answer db q empty_row out
+    (db : Database) (out : List value.Datum) → IsAnswer db tree empty_row out → IsAnswer db q empty_row out
 
 pub only_answers : {A : Type 0} (tree_of : A → QueryTree) (text : List ℕ) (r : Result A QueryFault)
     → IfOk r (λ s. (q : QueryTree) × (IsWritten text q × KeepsAnswers (tree_of s) q))

@@ -9,8 +9,8 @@ use Rattle.aql_grammar.specs.Kinds.{kinds_of}
 use Rattle.aql_grammar.specs.Tree.{Tree}
 use Rattle.aql_grammar.specs.declared.faults.ParseFault.{ParseFault}
 use Rattle.aql_grammar.specs.declared.faults.ParseFault.TheVariants as parse
-use Rattle.aql_parse.specs.Parsed.{Parsed, WithinLimits, IsShallow}
-use Rattle.aql_lift.specs.Lifting.{scoped}
+use Rattle.aql_parse.specs.Parses.{Parses, WithinLimits, IsShallow}
+use Rattle.aql_lift.specs.Lifting.{scope_query}
 use Rattle.aql_doc.specs.Held.{Held}
 use Rattle.aql_names.specs.declared.faults.ScopeFault.TheVariants as scope
 use Rattle.aql_names.specs.Faults.{first_fault}
@@ -31,7 +31,7 @@ pub record IsWritten (text : List ℕ) (q : QueryTree) : Type 0 where
 
 -- the text has tokens, and the grammar or its limits refuse them so
 abbrev pub Misspells : List ℕ → ParseFault → Type 0
-Misspells text fault = (tokens : List Token) × (HasTokens text tokens × Parsed (kinds_of tokens) (Err fault))
+Misspells text fault = (tokens : List Token) × (HasTokens text tokens × Parses (kinds_of tokens) (Err fault))
 
 -- the text spells no query, for this cause
 abbrev pub IsRefused : List ℕ → QueryFault → Type 0
@@ -57,5 +57,5 @@ pub record IsScoped (held : List Held) (text : List ℕ) (tree : QueryTree) (nam
     pub spelled : QueryTree
     pub is_written : IsWritten text spelled
     pub no_fault : first_fault held spelled ≡ None
-    pub lifted : tree ≡ (scoped [] 1 spelled).tree
-    pub named : names ≡ (scoped [] 1 spelled).said
+    pub lifted : tree ≡ (scope_query [] 1 spelled).tree
+    pub variable_names : names ≡ (scope_query [] 1 spelled).said

@@ -1,10 +1,10 @@
 ghost use Rattle.std.specs.Prelude.{◌≡◌, ◌⊎◌, ◌<◌, ◌≤◌, length, MatchBool, List, None, IfOk, IfErr, Err, IsOkUnless};
-ghost use Rattle.aql_value.specs.Tree.{Tree};
+ghost use Rattle.aql_value.specs.Datum.{Datum};
 ghost use Rattle.aql_value.specs.Database.{Database};
 ghost use Rattle.aql_tree.specs.Tree.{QueryTree};
 ghost use Rattle.aql_tree.specs.View.{query_tree};
 ghost use Rattle.aql_meaning.specs.Row.{empty_row};
-ghost use Rattle.aql_meaning.specs.Meaning.{Answer};
+ghost use Rattle.aql_meaning.specs.Meaning.{IsAnswer};
 ghost use Rattle.aql_names.specs.Faults.{first_fault};
 ghost use Rattle.aql_front.specs.declared.faults.QueryFault.{QueryFault};
 ghost use Rattle.aql_front.specs.Reading.{IsWritten, IsRefused, Refuses, IsScoped};
@@ -42,8 +42,8 @@ fn query_in(alloc: Global, text: &str) -> Result<Query, QueryFault>
 fn judge(alloc: Global, text: &str, catalog: &Catalog) -> Result<Scoped, QueryFault>
     ensures query { IfOk result (λ s. IsScoped catalog.now text.now (query_tree s.query) s.names) }
     ensures answers { IfOk result (λ s. (q : QueryTree) × (IsWritten text.now q
-        × ((db : Database) (out : List Tree)
-        → Answer db (query_tree s.query) empty_row out → Answer db q empty_row out))) }
+        × ((db : Database) (out : List Datum)
+        → IsAnswer db (query_tree s.query) empty_row out → IsAnswer db q empty_row out))) }
     ensures fault { IfErr result (λ e.
         (e ≡ QueryFault.Memory) ⊎ Refuses catalog.now text.now e) }
 {
@@ -59,8 +59,8 @@ pub fn read_query(alloc: Global, text: &str, catalog: &Catalog) -> Result<Scoped
     // What is given is the text's query, scoped.
     ensures query { IfOk result (λ s. IsScoped catalog.now text.now (query_tree s.query) s.names) }
     ensures answers { IfOk result (λ s. (q : QueryTree) → IsWritten text.now q
-        → (db : Database) (out : List Tree)
-        → Answer db (query_tree s.query) empty_row out → Answer db q empty_row out) }
+        → (db : Database) (out : List Datum)
+        → IsAnswer db (query_tree s.query) empty_row out → IsAnswer db q empty_row out) }
     ensures fault { IfErr result (λ e.
         (e ≡ QueryFault.Memory) ⊎ Refuses catalog.now text.now e) }
 

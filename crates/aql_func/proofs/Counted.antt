@@ -2,7 +2,7 @@
 use Rattle.std.proofs.Common.{◌≡◌, suc, [], ◌∷◌, ap, arith}
 use Rattle.std.specs.Prelude.{ℤ, pos, negsuc, ◌+ℤ◌, ◌<ℤ◌}
 use Rattle.std.proofs.lemmas.Int.{ints}
-use Rattle.aql_value.specs.Tree.{number}
+use Rattle.aql_value.specs.Datum.{number}
 use Rattle.aql_func.specs.Operators.{numbers, range_length}
 
 pub next_up : (a b : ℤ) → a <ℤ b → numbers (pos 1) a (range_length a b)

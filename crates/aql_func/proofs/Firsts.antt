@@ -10,15 +10,15 @@ use Rattle.std.proofs.lemmas.List.{map-append}
 use Rattle.std.proofs.lemmas.List.Elements.{filter-append}
 use Rattle.indexmap.specs.IndexSet.{insert_key}
 use Rattle.aql_value.specs.declared.values.Value.{Value}
-use Rattle.aql_value.specs.Tree.{Tree}
-use Rattle.aql_value.specs.View.{tree_of, trees_in}
+use Rattle.aql_value.specs.Datum.{Datum}
+use Rattle.aql_value.specs.View.{datum_of, datums_in}
 use Rattle.aql_value.specs.Compare.{compare}
 use Rattle.aql_value.specs.Parts.{same, is_in}
 use Rattle.aql_value.specs.laws.Keyed.{same_from_equal}
 use Rattle.aql_value.specs.laws.Strict.{compare_total}
-use Rattle.aql_func.specs.Lists.{firsts, added}
+use Rattle.aql_func.specs.Lists.{firsts, add}
 
-pub same_is : (s t : Tree) → same s t ≡ true → s ≡ t
+pub same_is : (s t : Datum) → same s t ≡ true → s ≡ t
 same_is s t e = same_from_equal s t ((Equal-is (compare s t)).0 e)
 
 turned : (o : Ordering) → is_eq (ordering_reverse o) ≡ is_eq o
@@ -26,32 +26,32 @@ turned Less = refl
 turned Equal = refl
 turned Greater = refl
 
-pub same_flip : (s t : Tree) → same s t ≡ same t s
+pub same_flip : (s t : Datum) → same s t ≡ same t s
 same_flip s t = ap is_eq (compare_total.antisymm s t) ∙ turned (compare t s)
 
 -- t goes last, unless it is there
-abbrev pub noted : List Tree → Tree → List Tree
+abbrev pub noted : List Datum → Datum → List Datum
 noted ks t = cond (is_in ks t) ks (ks ++ t ∷ [])
 
-pub any_tree : (v : Value) (ks : List Value) → list_any (λ k. is_eq (compare (tree_of v) (tree_of k))) ks
-    ≡ is_in (trees_in ks) (tree_of v)
+pub any_tree : (v : Value) (ks : List Value) → list_any (λ k. is_eq (compare (datum_of v) (datum_of k))) ks
+    ≡ is_in (datums_in ks) (datum_of v)
 any_tree v [] = refl
-any_tree v (k ∷ ks) = ap (λ b. is_eq (compare (tree_of v) (tree_of k)) || b) (any_tree v ks)
+any_tree v (k ∷ ks) = ap (λ b. is_eq (compare (datum_of v) (datum_of k)) || b) (any_tree v ks)
 
-either : (b : Bool) (ks : List Value) (v : Value) → trees_in (cond b ks (ks ++ v ∷ []))
-    ≡ cond b (trees_in ks) (trees_in ks ++ tree_of v ∷ [])
+either : (b : Bool) (ks : List Value) (v : Value) → datums_in (cond b ks (ks ++ v ∷ []))
+    ≡ cond b (datums_in ks) (datums_in ks ++ datum_of v ∷ [])
 either true ks v = refl
-either false ks v = map-append tree_of ks (v ∷ [])
+either false ks v = map-append datum_of ks (v ∷ [])
 
-pub keys_noted : (ks : List Value) (v : Value) → trees_in (insert_key (on tree_of (eq_by_cmp compare)) ks v)
-    ≡ noted (trees_in ks) (tree_of v)
-keys_noted ks v = either _ ks v ∙ ap (λ b. cond b (trees_in ks) (trees_in ks ++ tree_of v ∷ []))
+pub keys_noted : (ks : List Value) (v : Value) → datums_in (insert_key (on datum_of (eq_by_cmp compare)) ks v)
+    ≡ noted (datums_in ks) (datum_of v)
+keys_noted ks v = either _ ks v ∙ ap (λ b. cond b (datums_in ks) (datums_in ks ++ datum_of v ∷ []))
     (any_tree v ks)
 
-abbrev others : Tree → List Tree → List Tree
+abbrev others : Datum → List Datum → List Datum
 others u ts = filter (λ x. not (same u x)) ts
 
-in_others : (u t : Tree) → same u t ≡ false → (ts : List Tree) → is_in (others u ts) t ≡ is_in ts t
+in_others : (u t : Datum) → same u t ≡ false → (ts : List Datum) → is_in (others u ts) t ≡ is_in ts t
 in_others u t h [] = refl
 in_others u t h (x ∷ xs) = by (same u x) refl (same t x) refl (in_others u t h xs)
   where
@@ -61,7 +61,7 @@ in_others u t h (x ∷ xs) = by (same u x) refl (same t x) refl (in_others u t h
     by true p false q ih = ih
     by false p d q ih = rw q (ap (λ r. d || r) ih)
 
-pub in_firsts : (ts : List Tree) (t : Tree) → is_in (firsts ts) t ≡ is_in ts t
+pub in_firsts : (ts : List Datum) (t : Datum) → is_in (firsts ts) t ≡ is_in ts t
 in_firsts [] t = refl
 in_firsts (u ∷ us) t = by (same t u) refl (in_firsts us t)
   where
@@ -70,7 +70,7 @@ in_firsts (u ∷ us) t = by (same t u) refl (in_firsts us t)
     by true q ih = refl
     by false q ih = in_others u t (same_flip u t ∙ q) (firsts us) ∙ ih
 
-others_push : (u t : Tree) (d : Bool) → same u t ≡ d → (ts : List Tree)
+others_push : (u t : Datum) (d : Bool) → same u t ≡ d → (ts : List Datum)
     → others u (ts ++ t ∷ []) ≡ cond d (others u ts) (others u ts ++ t ∷ [])
 others_push u t d e ts = filter-append (λ x. not (same u x)) ts (t ∷ []) ∙ by d e
   where
@@ -79,7 +79,7 @@ others_push u t d e ts = filter-append (λ x. not (same u x)) ts (t ∷ []) ∙ 
     by true e = rw e (append-nil (others u ts))
     by false e = rw e refl
 
-noted_others : (u t : Tree) (xs : List Tree) → u ∷ others u (noted xs t) ≡ noted (u ∷ others u xs) t
+noted_others : (u t : Datum) (xs : List Datum) → u ∷ others u (noted xs t) ≡ noted (u ∷ others u xs) t
 noted_others u t xs = by (same u t) refl (is_in xs t) refl
   where
     by : (d : Bool) → same u t ≡ d → (b : Bool) → is_in xs t ≡ b
@@ -91,7 +91,7 @@ noted_others u t xs = by (same u t) refl (is_in xs t) refl
     by false p false q = rw (same_flip t u ∙ p) (rw (in_others u t p xs
         ∙ q) (ap (λ l. u ∷ l) (others_push u t false p xs)))
 
-pub firsts_push : (ts : List Tree) (t : Tree) → firsts (ts ++ t ∷ []) ≡ noted (firsts ts) t
+pub firsts_push : (ts : List Datum) (t : Datum) → firsts (ts ++ t ∷ []) ≡ noted (firsts ts) t
 firsts_push [] t = refl
 firsts_push (u ∷ us) t = ap (λ l. u ∷ others u l) (firsts_push us t) ∙ noted_others u t (firsts us)
 
@@ -114,18 +114,18 @@ sift_no b c e d f = subst (λ x. cond c x (not x) ≡ false) f (by b c e)
     by false false e = absurd (true≢false e)
 
 -- the values sifted so far
-pub sift_more : (p : Tree → Bool) (xs : List Value) (i : ℕ) (v : Value) (out : List Tree)
-    → trees_in (take (i + 1) xs) ≡ trees_in (take i xs) ++ tree_of v ∷ []
-    → out ≡ filter p (trees_in (take i xs)) → cond (p (tree_of v)) (out ++ tree_of v ∷ []) out
-    ≡ filter p (trees_in (take (i + 1) xs))
-sift_more p xs i v out e f = rw e (rw f (sym (filter-append p (trees_in (take i xs)) (tree_of v ∷ [])
-    ∙ by (p (tree_of v)) (filter p (trees_in (take i xs))))))
+pub sift_more : (p : Datum → Bool) (xs : List Value) (i : ℕ) (v : Value) (out : List Datum)
+    → datums_in (take (i + 1) xs) ≡ datums_in (take i xs) ++ datum_of v ∷ []
+    → out ≡ filter p (datums_in (take i xs)) → cond (p (datum_of v)) (out ++ datum_of v ∷ []) out
+    ≡ filter p (datums_in (take (i + 1) xs))
+sift_more p xs i v out e f = rw e (rw f (sym (filter-append p (datums_in (take i xs)) (datum_of v ∷ [])
+    ∙ by (p (datum_of v)) (filter p (datums_in (take i xs))))))
   where
-    by : (b : Bool) (l : List Tree) → l ++ cond b (tree_of v ∷ []) [] ≡ cond b (l ++ tree_of v ∷ []) l
+    by : (b : Bool) (l : List Datum) → l ++ cond b (datum_of v ∷ []) [] ≡ cond b (l ++ datum_of v ∷ []) l
     by true l = refl
     by false l = append-nil l
 
-is_in_push : (ts : List Tree) (x t : Tree) → is_in (ts ++ x ∷ []) t ≡ is_in ts t || same t x
+is_in_push : (ts : List Datum) (x t : Datum) → is_in (ts ++ x ∷ []) t ≡ is_in ts t || same t x
 is_in_push [] x t = or_false (same t x)
   where
     or_false : (b : Bool) → b || false ≡ b
@@ -139,8 +139,8 @@ is_in_push (u ∷ us) x t = ap (λ b. same t u || b) (is_in_push us x t)
     grouped false b c = refl
 
 -- one more value where it is new, for two lists of the same values
-pub seen_more : (ks out : List Tree) (x : Tree) → ((t : Tree) → is_in ks t ≡ is_in out t)
-    → (t : Tree) → is_in (added true ks x) t ≡ is_in (added true out x) t
+pub seen_more : (ks out : List Datum) (x : Datum) → ((t : Datum) → is_in ks t ≡ is_in out t)
+    → (t : Datum) → is_in (add true ks x) t ≡ is_in (add true out x) t
 seen_more ks out x h t = by (is_in ks x) (h x)
   where
     by : (b : Bool) → b ≡ is_in out x → is_in (cond b ks (ks ++ x ∷ [])) t
@@ -149,8 +149,8 @@ seen_more ks out x h t = by (is_in ks x) (h x)
     by false p = rw (sym p) (is_in_push ks x t ∙ ap (λ b. b || same t x) (h t) ∙ sym (is_in_push out x t))
 
 -- `contains` of a slice
-pub held : (v : Value) (vs : List Value) → list_any (λ y. on tree_of (eq_by_cmp compare) y v) vs
-    ≡ is_in (trees_in vs) (tree_of v)
+pub held : (v : Value) (vs : List Value) → list_any (λ y. on datum_of (eq_by_cmp compare) y v) vs
+    ≡ is_in (datums_in vs) (datum_of v)
 held v [] = refl
-held v (x ∷ xs) = ap (λ b. b || list_any (λ y. on tree_of (eq_by_cmp compare) y v) xs)
-    (same_flip (tree_of x) (tree_of v)) ∙ ap (λ b. same (tree_of v) (tree_of x) || b) (held v xs)
+held v (x ∷ xs) = ap (λ b. b || list_any (λ y. on datum_of (eq_by_cmp compare) y v) xs)
+    (same_flip (datum_of x) (datum_of v)) ∙ ap (λ b. same (datum_of v) (datum_of x) || b) (held v xs)

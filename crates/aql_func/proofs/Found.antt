@@ -17,7 +17,7 @@ use lib.Pointwise.{bytes_decides}
 use Rattle.aql_func.specs.declared.names.FuncName.{FuncName}
 use Rattle.aql_func.specs.declared.names.FuncName.TheVariants.{IsNull}
 use Rattle.aql_func.specs.declared.names.TheConstants.{FUNCTIONS}
-use Rattle.aql_func.specs.Names.{signature, functions, looked_up}
+use Rattle.aql_func.specs.Names.{signature, functions, function_named}
 
 -- a function's name in lower case, which the table is sorted by
 abbrev pub key : FuncName → List ℕ
@@ -97,7 +97,7 @@ equal_keys f k e = (bytes_decides (key f) k).0 (sym (is_eq-slice_cmp (key f) k) 
 found : (name : List ℕ) (place : ℕ) → place < length FUNCTIONS
     → ((d : FuncName) → slice_cmp nat_cmp (key (get_or FUNCTIONS place d)) (str_to_ascii_lowercase name)
     ≡ Equal)
-    → (d : FuncName) → Some (get_or FUNCTIONS place d) ≡ looked_up name
+    → (d : FuncName) → Some (get_or FUNCTIONS place d) ≡ function_named name
 found name place in_range equal d =
     let f = get_or FUNCTIONS place d in
     let by_name = λ (g : FuncName). find (has_key (key g)) functions in
@@ -110,7 +110,7 @@ not_found : (name : List ℕ) (place : ℕ)
     → slice_cmp nat_cmp (key (get_or FUNCTIONS k d)) (str_to_ascii_lowercase name) ≡ Less)
     → ((k : ℕ) (d : FuncName) → place ≤ k → k < length FUNCTIONS
     → slice_cmp nat_cmp (key (get_or FUNCTIONS k d)) (str_to_ascii_lowercase name) ≡ Greater)
-    → None ≡ looked_up name
+    → None ≡ function_named name
 not_found name place below above =
     sym (none_found (has_key (str_to_ascii_lowercase name)) functions none table_has_all)
   where
@@ -142,8 +142,8 @@ not_found name place below above =
 -- what a binary search of the table by a name says
 pub searched : (name : List ℕ) (r : Result ℕ ℕ) → IsSearchInRange r (length FUNCTIONS)
     → IsBinarySearchResult (λ f. slice_cmp nat_cmp (key f) (str_to_ascii_lowercase name)) FUNCTIONS r
-    → MatchResult r (λ place. (d : FuncName) → Some (get_or FUNCTIONS place d) ≡ looked_up name)
-    (λ _. None ≡ looked_up name)
+    → MatchResult r (λ place. (d : FuncName) → Some (get_or FUNCTIONS place d) ≡ function_named name)
+    (λ _. None ≡ function_named name)
 searched name (Ok place) in_range equal = found name place in_range equal
 searched name (Err place) in_range parted =
     let parts = parted (searchable (str_to_ascii_lowercase name)) in

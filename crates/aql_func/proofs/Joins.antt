@@ -4,25 +4,25 @@ use Rattle.std.specs.Prelude.{encode_utf8, encode_utf8_all, chars}
 use Rattle.std.proofs.lemmas.Bool.Decides.{nat_tests}
 use Rattle.std.proofs.lemmas.List.{map-append}
 use Rattle.std.proofs.lemmas.List.Elements.{filter-append}
-use Rattle.aql_value.specs.Tree.{Tree, text}
+use Rattle.aql_value.specs.Datum.{Datum, text}
 use Rattle.aql_value.specs.Convert.{to_text}
 use Rattle.aql_func.specs.Aggregates.{is_null, without_null}
-use Rattle.aql_func.specs.Texts.{joined_by, parts_of}
-use Rattle.aql_func.specs.Joined.{with_part}
+use Rattle.aql_func.specs.Texts.{join_by, parts_of}
+use Rattle.aql_func.specs.Joins.{with_part}
 
 abbrev pub has_some : List (List ℕ) → Bool
 has_some [] = false
 has_some (s ∷ ss) = true
 
 pub join_push : (separator : List ℕ) (ss : List (List ℕ)) (s : List ℕ)
-    → with_part (has_some ss) separator (joined_by separator ss) s ≡ joined_by separator (ss ++ s ∷ [])
+    → with_part (has_some ss) separator (join_by separator ss) s ≡ join_by separator (ss ++ s ∷ [])
 join_push separator [] s = refl
 join_push separator (r ∷ []) s = append_assoc r separator s
 join_push separator (r ∷ q ∷ rs) s =
-    ap (λ l. l ++ s) (append_assoc r (separator ++ joined_by separator (q ∷ rs)) separator)
-    ∙ append_assoc r ((separator ++ joined_by separator (q ∷ rs)) ++ separator) s
-    ∙ ap (λ l. r ++ l) (ap (λ l. l ++ s) (append_assoc separator (joined_by separator (q ∷ rs)) separator)
-    ∙ append_assoc separator (joined_by separator (q ∷ rs) ++ separator) s
+    ap (λ l. l ++ s) (append_assoc r (separator ++ join_by separator (q ∷ rs)) separator)
+    ∙ append_assoc r ((separator ++ join_by separator (q ∷ rs)) ++ separator) s
+    ∙ ap (λ l. r ++ l) (ap (λ l. l ++ s) (append_assoc separator (join_by separator (q ∷ rs)) separator)
+    ∙ append_assoc separator (join_by separator (q ∷ rs) ++ separator) s
     ∙ ap (λ l. separator ++ l) (join_push separator (q ∷ rs) s))
 
 pub has_some_push : (ss : List (List ℕ)) (s : List ℕ) → has_some (ss ++ s ∷ []) ≡ true
@@ -30,7 +30,7 @@ has_some_push [] s = refl
 has_some_push (r ∷ rs) s = refl
 
 -- the texts of what isn't null, with one more value
-pub texts_push : (ts : List Tree) (t : Tree) → map to_text (without_null (ts ++ t ∷ []))
+pub texts_push : (ts : List Datum) (t : Datum) → map to_text (without_null (ts ++ t ∷ []))
     ≡ cond (is_null t) (map to_text (without_null ts)) (map to_text (without_null ts) ++ to_text t ∷ [])
 texts_push ts t = ap (map to_text) (filter-append (λ u. not (is_null u)) ts (t ∷ [])) ∙ by (is_null t)
   where

@@ -1,7 +1,7 @@
 -- The row of answers of LIKE, as one more piece stands before the others.
 use Rattle.std.proofs.Common.{◌≡◌, ℕ, zero, suc, ◌+◌, ◌<◌, List, [], ◌∷◌, ◌++◌, Bool, true, false, ◌&&◌, ◌||◌, length, get_or, set, take, drop, refl, ap, sym, ◌∙◌, true≢false, arith}
 use Rattle.aql_func.specs.Like.{Piece, one, run, this, fits}
-use Rattle.aql_func.specs.Pieces.{row_of, ors, or_head, takes, head_of, shifted}
+use Rattle.aql_func.specs.Pieces.{row_of, ors, or_head, takes, head_of, shift}
 
 or_false : (b : Bool) → b || false ≡ b
 or_false true = refl
@@ -34,15 +34,15 @@ run_row ps (c ∷ cs) =
     ap (λ bs. or_head (fits ps (c ∷ cs)) bs ∷ bs) (run_row ps cs)
     ∙ ap (λ b. b ∷ row_of (run ∷ ps) cs) (or_row (fits ps (c ∷ cs)) (run ∷ ps) cs)
 
-pub one_row : (ps : List Piece) (cs : List ℕ) → shifted one cs (row_of ps cs) ≡ row_of (one ∷ ps) cs
+pub one_row : (ps : List Piece) (cs : List ℕ) → shift one cs (row_of ps cs) ≡ row_of (one ∷ ps) cs
 one_row ps [] = refl
-one_row ps (c ∷ cs) = ap (λ b. b ∷ shifted one cs (row_of ps cs)) (row_head_of ps cs)
+one_row ps (c ∷ cs) = ap (λ b. b ∷ shift one cs (row_of ps cs)) (row_head_of ps cs)
     ∙ ap (λ l. fits ps cs ∷ l) (one_row ps cs)
 
 pub this_row : (d : ℕ) (ps : List Piece) (cs : List ℕ)
-    → shifted (this d) cs (row_of ps cs) ≡ row_of (this d ∷ ps) cs
+    → shift (this d) cs (row_of ps cs) ≡ row_of (this d ∷ ps) cs
 this_row d ps [] = refl
-this_row d ps (c ∷ cs) = ap (λ b. (takes (this d) c && b) ∷ shifted (this d) cs (row_of ps cs))
+this_row d ps (c ∷ cs) = ap (λ b. (takes (this d) c && b) ∷ shift (this d) cs (row_of ps cs))
     (row_head_of ps cs) ∙ ap (λ l. (takes (this d) c && fits ps cs) ∷ l) (this_row d ps cs)
 
 -- a list with an element isn't empty
@@ -100,7 +100,7 @@ ors_counted [] = refl
 ors_counted (b ∷ bs) = ap suc (ors_counted bs)
 
 pub shifted_counted : (p : Piece) (cs : List ℕ) (bs : List Bool) → length bs ≡ length cs + 1
-    → length (shifted p cs bs) ≡ length bs
+    → length (shift p cs bs) ≡ length bs
 shifted_counted p [] bs h = sym h
 shifted_counted p (c ∷ cs) [] h = absurd (omega arith)
 shifted_counted p (c ∷ cs) (b ∷ bs) h = ap suc (shifted_counted p cs bs (omega arith))

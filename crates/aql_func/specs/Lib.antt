@@ -9,9 +9,9 @@ pub mod Aggregates
 pub mod Texts
 pub mod Objects
 pub mod Signatures
-pub mod Seen
-pub mod Sifted
+pub mod Optional
+pub mod Sieves
 pub mod Places
-pub mod Joined
+pub mod Joins
 pub mod Pieces
-pub mod Chosen
+pub mod Choices

@@ -3,7 +3,7 @@
 -- is itself.
 use Rattle.std.specs.Prelude.{ℕ, List, [], ◌∷◌, Bool, true, false, cond, ◌&&◌, ◌||◌, ◌==◌, chars}
 use Rattle.std.specs.List.{list_any}
-use Rattle.aql_value.specs.Tree.{Tree, text}
+use Rattle.aql_value.specs.Datum.{Datum, text}
 use Rattle.aql_func.specs.Texts.{suffixes}
 
 -- a piece of a pattern: one character, any run of characters, or this character
@@ -35,6 +35,6 @@ fits (this d ∷ ps) [] = false
 fits (this d ∷ ps) (c ∷ cs) = (c == d) && fits ps cs
 
 -- false unless both are texts
-abbrev pub is_like : Tree → Tree → Bool
+abbrev pub is_like : Datum → Datum → Bool
 is_like (text s) (text pattern) = fits (pieces (chars pattern)) (chars s)
 is_like t u = false

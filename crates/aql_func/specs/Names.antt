@@ -88,8 +88,8 @@ abbrev pub is_named : List ℕ → FuncName → Bool
 is_named name f = str_eq_ignore_ascii_case (signature f).name name
 
 -- the function of a name, in any letter case
-abbrev pub looked_up : List ℕ → Option FuncName
-looked_up name = find (is_named name) functions
+abbrev pub function_named : List ℕ → Option FuncName
+function_named name = find (is_named name) functions
 
 abbrev pub is_within : Option ℕ → ℕ → Bool
 is_within None n = true

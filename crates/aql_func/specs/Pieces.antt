@@ -33,7 +33,7 @@ head_of [] = false
 head_of (b ∷ bs) = b
 
 -- the answers with one more piece in front that takes one character
-abbrev pub shifted : Piece → List ℕ → List Bool → List Bool
-shifted p [] bs = false ∷ []
-shifted p (c ∷ cs) [] = false ∷ []
-shifted p (c ∷ cs) (b ∷ bs) = (takes p c && head_of bs) ∷ shifted p cs bs
+abbrev pub shift : Piece → List ℕ → List Bool → List Bool
+shift p [] bs = false ∷ []
+shift p (c ∷ cs) [] = false ∷ []
+shift p (c ∷ cs) (b ∷ bs) = (takes p c && head_of bs) ∷ shift p cs bs

@@ -3,7 +3,7 @@
 use Rattle.std.specs.Prelude.{ℕ, zero, suc, ℤ, List, [], ◌∷◌, ◌++◌, Bool, cond, ◌-◌, length, drop, map, chars, encode_utf8_all, encode_utf8, Option}
 use Rattle.std.specs.List.{list_any, starts_with}
 use Rattle.std.specs.Bool.{nat_eq}
-use Rattle.aql_value.specs.Tree.{Tree}
+use Rattle.aql_value.specs.Datum.{Datum}
 use Rattle.aql_func.specs.Lists.{at_most, place_from}
 
 -- the text of what f makes of a text's characters
@@ -11,7 +11,7 @@ abbrev pub by_characters : (List ℕ → List ℕ) → List ℕ → List ℕ
 by_characters f s = encode_utf8_all (f (chars s))
 
 -- from a place on, at most so many characters where a number is given
-abbrev pub substring : ℤ → Option Tree → List ℕ → List ℕ
+abbrev pub substring : ℤ → Option Datum → List ℕ → List ℕ
 substring start count s = by_characters (λ cs. at_most count (drop (place_from (length cs) start) cs)) s
 
 -- what is left of the list after each of its starts, the list itself first
@@ -44,7 +44,7 @@ parts_of [] s = map encode_utf8 (chars s)
 parts_of (c ∷ u) s = parts_after 0 (c ∷ u) s
 
 -- texts one after another, with the separator between
-abbrev pub joined_by : List ℕ → List (List ℕ) → List ℕ
-joined_by separator [] = []
-joined_by separator (s ∷ []) = s
-joined_by separator (s ∷ t ∷ ss) = s ++ (separator ++ joined_by separator (t ∷ ss))
+abbrev pub join_by : List ℕ → List (List ℕ) → List ℕ
+join_by separator [] = []
+join_by separator (s ∷ []) = s
+join_by separator (s ∷ t ∷ ss) = s ++ (separator ++ join_by separator (t ∷ ss))

@@ -1,10 +1,10 @@
 // The aggregates of an array's elements.
 ghost use Rattle.std.specs.Prelude.{◌≡◌, IfOk, unwrap_or};
-ghost use Rattle.aql_value.specs.Tree.{null};
-ghost use Rattle.aql_value.specs.View.{tree_of, trees_in};
+ghost use Rattle.aql_value.specs.Datum.{null};
+ghost use Rattle.aql_value.specs.View.{datum_of, datums_in};
 ghost use Rattle.aql_func.specs.Aggregates as spec;
 ghost use Rattle.aql_func.specs.Functions.{call};
-ghost use Rattle.aql_func.specs.Seen.{given};
+ghost use Rattle.aql_func.specs.Optional.{optional_datum};
 
 use crate::FuncName;
 use crate::arguments::{array, is_null};
@@ -12,7 +12,7 @@ use aql_value::{Items, OutOfMemory, Value, cmp, copy};
 use std::alloc::Global;
 
 pub(crate) fn min(alloc: Global, args: &Items) -> Result<Value, OutOfMemory>
-    ensures { IfOk result (λ v. tree_of v ≡ call FuncName.Min args.now) }
+    ensures { IfOk result (λ v. datum_of v ≡ call FuncName.Min args.now) }
 {
     let [any_array] = args.as_slice() else {
         return Ok(Value::Null);
@@ -24,7 +24,7 @@ pub(crate) fn min(alloc: Global, args: &Items) -> Result<Value, OutOfMemory>
 }
 
 pub(crate) fn max(alloc: Global, args: &Items) -> Result<Value, OutOfMemory>
-    ensures { IfOk result (λ v. tree_of v ≡ call FuncName.Max args.now) }
+    ensures { IfOk result (λ v. datum_of v ≡ call FuncName.Max args.now) }
 {
     let [any_array] = args.as_slice() else {
         return Ok(Value::Null);
@@ -36,7 +36,7 @@ pub(crate) fn max(alloc: Global, args: &Items) -> Result<Value, OutOfMemory>
 }
 
 fn copy_or_null(alloc: Global, value: Option<&Value>) -> Result<Value, OutOfMemory>
-    ensures { IfOk result (λ v. tree_of v ≡ unwrap_or (given value.entry) null) }
+    ensures { IfOk result (λ v. datum_of v ≡ unwrap_or (optional_datum value.entry) null) }
 {
     match value {
         Some(value) => copy(alloc, value),
@@ -46,7 +46,7 @@ fn copy_or_null(alloc: Global, value: Option<&Value>) -> Result<Value, OutOfMemo
 
 // The least of the values that aren't null.
 fn minimum(values: &[Value]) -> Option<&Value>
-    ensures { given result ≡ spec.best spec.lesser (trees_in values.now) }
+    ensures { optional_datum result ≡ spec.best spec.lesser (datums_in values.now) }
 {
     let mut best = None;
     let mut at = values.len();
@@ -59,7 +59,7 @@ fn minimum(values: &[Value]) -> Option<&Value>
 
 // The greatest of the values that aren't null.
 fn maximum(values: &[Value]) -> Option<&Value>
-    ensures { given result ≡ spec.best spec.greater (trees_in values.now) }
+    ensures { optional_datum result ≡ spec.best spec.greater (datums_in values.now) }
 {
     let mut best = None;
     let mut at = values.len();
@@ -71,7 +71,8 @@ fn maximum(values: &[Value]) -> Option<&Value>
 }
 
 fn lesser<'a>(value: &'a Value, best: Option<&'a Value>) -> Option<&'a Value>
-    ensures { given result ≡ spec.preferred spec.lesser (tree_of value.now) (given best.entry) }
+    ensures { optional_datum result
+        ≡ spec.prefer spec.lesser (datum_of value.now) (optional_datum best.entry) }
 {
     if is_null(value) {
         return best;
@@ -87,7 +88,8 @@ fn lesser<'a>(value: &'a Value, best: Option<&'a Value>) -> Option<&'a Value>
 }
 
 fn greater<'a>(value: &'a Value, best: Option<&'a Value>) -> Option<&'a Value>
-    ensures { given result ≡ spec.preferred spec.greater (tree_of value.now) (given best.entry) }
+    ensures { optional_datum result
+        ≡ spec.prefer spec.greater (datum_of value.now) (optional_datum best.entry) }
 {
     if is_null(value) {
         return best;
@@ -103,7 +105,7 @@ fn greater<'a>(value: &'a Value, best: Option<&'a Value>) -> Option<&'a Value>
 }
 
 pub(crate) fn sum(args: &Items) -> Value
-    ensures { tree_of result ≡ call FuncName.Sum args.now }
+    ensures { datum_of result ≡ call FuncName.Sum args.now }
 {
     let [any_array] = args.as_slice() else {
         return Value::Null;
@@ -115,7 +117,7 @@ pub(crate) fn sum(args: &Items) -> Value
 }
 
 fn sum_of(values: &[Value]) -> Value
-    ensures { tree_of result ≡ spec.sum_of (trees_in values.now) }
+    ensures { datum_of result ≡ spec.sum_of (datums_in values.now) }
 {
     let mut total = 0i128;
     for value in values {

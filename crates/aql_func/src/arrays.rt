@@ -3,12 +3,12 @@ ghost use Rattle.std.specs.Prelude.{[], ◌≡◌, IfOk, is_some, negsuc, option
 ghost use Rattle.aql_value.specs.Convert as convert;
 ghost use Rattle.aql_value.specs.Parts as parts;
 ghost use Rattle.aql_value.specs.Parts.{at_place, elements, list};
-ghost use Rattle.aql_value.specs.View.{tree_of, trees_in};
+ghost use Rattle.aql_value.specs.View.{datum_of, datums_in};
 ghost use Rattle.aql_func.specs.Arguments.{is_array, of_list};
 ghost use Rattle.aql_func.specs.Functions as functions;
 ghost use Rattle.aql_func.specs.Functions.{call, or_empty};
 ghost use Rattle.aql_func.specs.Lists as spec;
-ghost use Rattle.aql_func.specs.Seen.{given};
+ghost use Rattle.aql_func.specs.Optional.{optional_datum};
 
 use crate::FuncName;
 use crate::arguments::{array, opened_value, value_at};
@@ -22,7 +22,7 @@ use std::alloc::Global;
 use std::slice;
 
 pub(crate) fn first(alloc: Global, args: &Items) -> Result<Value, OutOfMemory>
-    ensures { IfOk result (λ v. tree_of v ≡ call FuncName.First args.now) }
+    ensures { IfOk result (λ v. datum_of v ≡ call FuncName.First args.now) }
 {
     let [any_array] = args.as_slice() else {
         return Ok(Value::Null);
@@ -34,7 +34,7 @@ pub(crate) fn first(alloc: Global, args: &Items) -> Result<Value, OutOfMemory>
 }
 
 pub(crate) fn last(alloc: Global, args: &Items) -> Result<Value, OutOfMemory>
-    ensures { IfOk result (λ v. tree_of v ≡ call FuncName.Last args.now) }
+    ensures { IfOk result (λ v. datum_of v ≡ call FuncName.Last args.now) }
 {
     let [any_array] = args.as_slice() else {
         return Ok(Value::Null);
@@ -46,7 +46,7 @@ pub(crate) fn last(alloc: Global, args: &Items) -> Result<Value, OutOfMemory>
 }
 
 fn last_element(alloc: Global, list: &Items) -> Result<Value, OutOfMemory>
-    ensures { IfOk result (λ v. tree_of v ≡ at_place list.now (negsuc 0)) }
+    ensures { IfOk result (λ v. datum_of v ≡ at_place list.now (negsuc 0)) }
 {
     match list.len().checked_sub(1) {
         Some(place) => value_at(alloc, list, place),
@@ -55,7 +55,7 @@ fn last_element(alloc: Global, list: &Items) -> Result<Value, OutOfMemory>
 }
 
 pub(crate) fn nth(alloc: Global, args: &Items) -> Result<Value, OutOfMemory>
-    ensures { IfOk result (λ v. tree_of v ≡ call FuncName.Nth args.now) }
+    ensures { IfOk result (λ v. datum_of v ≡ call FuncName.Nth args.now) }
 {
     let [any_array, place] = args.as_slice() else {
         return Ok(Value::Null);
@@ -67,7 +67,7 @@ pub(crate) fn nth(alloc: Global, args: &Items) -> Result<Value, OutOfMemory>
 }
 
 fn element(alloc: Global, list: &Items, place: i64) -> Result<Value, OutOfMemory>
-    ensures { IfOk result (λ v. tree_of v ≡ spec.nth list.now place) }
+    ensures { IfOk result (λ v. datum_of v ≡ spec.nth list.now place) }
 {
     match usize::try_from(place) {
         Ok(place) => value_at(alloc, list, place),
@@ -77,13 +77,13 @@ fn element(alloc: Global, list: &Items, place: i64) -> Result<Value, OutOfMemory
 
 // Whether a value is one of these.
 pub(crate) fn is_in(values: &[Value], value: &Value) -> bool
-    ensures { result ≡ parts.is_in (trees_in values.now) (tree_of value.now) }
+    ensures { result ≡ parts.is_in (datums_in values.now) (datum_of value.now) }
 {
     values.contains(value)
 }
 
 pub(crate) fn position(args: &Items) -> Value
-    ensures { tree_of result ≡ call FuncName.Position args.now }
+    ensures { datum_of result ≡ call FuncName.Position args.now }
 {
     let [any_array, sought] = args.as_slice() else {
         return Value::Null;
@@ -95,7 +95,7 @@ pub(crate) fn position(args: &Items) -> Value
 }
 
 pub(crate) fn push(alloc: Global, args: &Items) -> Result<Value, OutOfMemory>
-    ensures { IfOk result (λ v. tree_of v ≡ call FuncName.Push args.now) }
+    ensures { IfOk result (λ v. datum_of v ≡ call FuncName.Push args.now) }
 {
     match args.as_slice() {
         [any_array, value] => extend(alloc, any_array, slice::from_ref(value), false),
@@ -107,7 +107,7 @@ pub(crate) fn push(alloc: Global, args: &Items) -> Result<Value, OutOfMemory>
 }
 
 pub(crate) fn append(alloc: Global, args: &Items) -> Result<Value, OutOfMemory>
-    ensures { IfOk result (λ v. tree_of v ≡ call FuncName.Append args.now) }
+    ensures { IfOk result (λ v. datum_of v ≡ call FuncName.Append args.now) }
 {
     match args.as_slice() {
         [any_array, values] => extend(alloc, any_array, opened_value(values), false),
@@ -125,8 +125,8 @@ fn extend(
     more: &[Value],
     once: bool,
 ) -> Result<Value, OutOfMemory>
-    ensures { IfOk result (λ v. tree_of v
-        ≡ functions.extended (tree_of any_array.now) once (trees_in more.now)) }
+    ensures { IfOk result (λ v. datum_of v
+        ≡ functions.append_to (datum_of any_array.now) once (datums_in more.now)) }
 {
     match values_or_empty(any_array) {
         None => Ok(Value::Null),
@@ -142,9 +142,9 @@ fn extend(
 
 // The elements of an array, none of null; `None` for everything else.
 fn values_or_empty(value: &Value) -> Option<&[Value]>
-    ensures kind { is_some result ≡ is_array (or_empty (tree_of value.now)) }
-    ensures values { unwrap_or (option_map (λ s. trees_in s.now) result) []
-        ≡ elements (or_empty (tree_of value.now)) }
+    ensures kind { is_some result ≡ is_array (or_empty (datum_of value.now)) }
+    ensures values { unwrap_or (option_map (λ s. datums_in s.now) result) []
+        ≡ elements (or_empty (datum_of value.now)) }
 {
     match value {
         Value::Null => Some(&[]),
@@ -156,7 +156,7 @@ fn values_or_empty(value: &Value) -> Option<&[Value]>
 }
 
 pub(crate) fn unique(alloc: Global, args: &Items) -> Result<Value, OutOfMemory>
-    ensures { IfOk result (λ v. tree_of v ≡ call FuncName.Unique args.now) }
+    ensures { IfOk result (λ v. datum_of v ≡ call FuncName.Unique args.now) }
 {
     let [any_array] = args.as_slice() else {
         return Ok(Value::Null);
@@ -171,7 +171,7 @@ pub(crate) fn unique(alloc: Global, args: &Items) -> Result<Value, OutOfMemory>
 }
 
 pub(crate) fn sorted_values(alloc: Global, args: &Items) -> Result<Value, OutOfMemory>
-    ensures { IfOk result (λ v. tree_of v ≡ call FuncName.Sorted args.now) }
+    ensures { IfOk result (λ v. datum_of v ≡ call FuncName.Sorted args.now) }
 {
     let [any_array] = args.as_slice() else {
         return Ok(Value::Null);
@@ -183,7 +183,7 @@ pub(crate) fn sorted_values(alloc: Global, args: &Items) -> Result<Value, OutOfM
 }
 
 pub(crate) fn sorted_unique(alloc: Global, args: &Items) -> Result<Value, OutOfMemory>
-    ensures { IfOk result (λ v. tree_of v ≡ call FuncName.SortedUnique args.now) }
+    ensures { IfOk result (λ v. datum_of v ≡ call FuncName.SortedUnique args.now) }
 {
     let [any_array] = args.as_slice() else {
         return Ok(Value::Null);
@@ -195,7 +195,7 @@ pub(crate) fn sorted_unique(alloc: Global, args: &Items) -> Result<Value, OutOfM
 }
 
 pub(crate) fn count_distinct(alloc: Global, args: &Items) -> Result<Value, OutOfMemory>
-    ensures { IfOk result (λ v. tree_of v ≡ call FuncName.CountDistinct args.now) }
+    ensures { IfOk result (λ v. datum_of v ≡ call FuncName.CountDistinct args.now) }
 {
     let [any_array] = args.as_slice() else {
         return Ok(Value::Null);
@@ -207,7 +207,7 @@ pub(crate) fn count_distinct(alloc: Global, args: &Items) -> Result<Value, OutOf
 }
 
 pub(crate) fn flatten(alloc: Global, args: &Items) -> Result<Value, OutOfMemory>
-    ensures { IfOk result (λ v. tree_of v ≡ call FuncName.Flatten args.now) }
+    ensures { IfOk result (λ v. datum_of v ≡ call FuncName.Flatten args.now) }
 {
     match args.as_slice() {
         [any_array] => flatten_to(alloc, any_array, 1),
@@ -217,8 +217,8 @@ pub(crate) fn flatten(alloc: Global, args: &Items) -> Result<Value, OutOfMemory>
 }
 
 fn flatten_to(alloc: Global, any_array: &Value, depth: usize) -> Result<Value, OutOfMemory>
-    ensures { IfOk result (λ v. tree_of v
-        ≡ of_list (tree_of any_array.now) (λ ts. list (spec.flat depth ts))) }
+    ensures { IfOk result (λ v. datum_of v
+        ≡ of_list (datum_of any_array.now) (λ ts. list (spec.flatten depth ts))) }
 {
     match array(any_array) {
         None => Ok(Value::Null),
@@ -227,7 +227,7 @@ fn flatten_to(alloc: Global, any_array: &Value, depth: usize) -> Result<Value, O
 }
 
 pub(crate) fn slice_of(alloc: Global, args: &Items) -> Result<Value, OutOfMemory>
-    ensures { IfOk result (λ v. tree_of v ≡ call FuncName.Slice args.now) }
+    ensures { IfOk result (λ v. datum_of v ≡ call FuncName.Slice args.now) }
 {
     match args.as_slice() {
         [any_array, start] => part(alloc, any_array, start, None),
@@ -242,8 +242,9 @@ fn part(
     start: &Value,
     count: Option<&Value>,
 ) -> Result<Value, OutOfMemory>
-    ensures { IfOk result (λ v. tree_of v ≡ of_list (tree_of any_array.now)
-        (λ ts. list (spec.slice (convert.to_number (tree_of start.now)) (given count.entry) ts))) }
+    ensures { IfOk result (λ v. datum_of v ≡ of_list (datum_of any_array.now)
+        (λ ts. list (spec.slice (convert.to_number (datum_of start.now))
+        (optional_datum count.entry) ts))) }
 {
     match array(any_array) {
         None => Ok(Value::Null),

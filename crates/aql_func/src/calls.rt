@@ -1,5 +1,5 @@
 ghost use Rattle.std.specs.Prelude.{◌≡◌, IfOk};
-ghost use Rattle.aql_value.specs.View.{tree_of};
+ghost use Rattle.aql_value.specs.View.{datum_of};
 ghost use Rattle.aql_func.specs.Functions as spec;
 
 use crate::{FuncName, aggregates, arrays, objects, sets, texts, values};
@@ -8,7 +8,7 @@ use std::alloc::Global;
 
 /// The value of a function of these arguments (the chapters of the AQL manual on functions).
 pub fn call(alloc: Global, f: FuncName, args: &Items) -> Result<Value, OutOfMemory>
-    ensures { IfOk result (λ v. tree_of v ≡ spec.call f args.now) }
+    ensures { IfOk result (λ v. datum_of v ≡ spec.call f args.now) }
 {
     match f {
         FuncName::IsNull => Ok(values::is_null(args)),

@@ -1,9 +1,9 @@
 // The operator LIKE.
 ghost use Rattle.std.specs.Prelude.{[], ◌+◌, ◌<◌, ◌∷◌, ◌≡◌, ◌≤◌, chars, cond, drop, IfOk, length, List, map};
-ghost use Rattle.aql_value.specs.View.{tree_of};
+ghost use Rattle.aql_value.specs.View.{datum_of};
 ghost use Rattle.aql_func.specs.Like as spec;
 ghost use Rattle.aql_func.specs.Pieces as pieces_spec;
-ghost use Rattle.aql_func.specs.Pieces.{ors, piece_of, row_of, shifted};
+ghost use Rattle.aql_func.specs.Pieces.{ors, piece_of, row_of, shift};
 
 use crate::texts::characters;
 use aql_value::{OutOfMemory, Value};
@@ -111,7 +111,7 @@ fn put_run(row: &mut Vec<bool>)
 
 fn put_one(piece: Piece, text: &[char], row: &mut Vec<bool>)
     requires { length row.old.items ≡ length text.now + 1 }
-    ensures { row.new.items ≡ shifted (piece_of piece) text.now row.old.items }
+    ensures { row.new.items ≡ shift (piece_of piece) text.now row.old.items }
 {
     for (at, c) in text.iter().enumerate() {
         let later = row[at + 1];
@@ -131,7 +131,7 @@ fn takes(piece: Piece, c: char) -> bool
 }
 
 pub(crate) fn is_like(alloc: Global, a: &Value, b: &Value) -> Result<bool, OutOfMemory>
-    ensures { IfOk result (λ r. r ≡ spec.is_like (tree_of a.now) (tree_of b.now)) }
+    ensures { IfOk result (λ r. r ≡ spec.is_like (datum_of a.now) (datum_of b.now)) }
 {
     match a {
         Value::Text(s) => match b {

@@ -1,11 +1,11 @@
 // Lists of values: copies, parts, order and distinct values.
 ghost use Rattle.std.specs.Prelude.{[], ◌++◌, ◌∷◌, ◌≡◌, cond, drop, false, IfOk, not, OnOk, take, true};
 ghost use Rattle.aql_value.specs.Parts.{is_in};
-ghost use Rattle.aql_value.specs.View.{tree_of, trees_in};
+ghost use Rattle.aql_value.specs.View.{datum_of, datums_in};
 ghost use Rattle.aql_func.specs.Lists as spec;
 ghost use Rattle.aql_func.specs.Places.{up_to_place};
-ghost use Rattle.aql_func.specs.Seen.{given};
-ghost use Rattle.aql_func.specs.Sifted.{sift};
+ghost use Rattle.aql_func.specs.Optional.{optional_datum};
+ghost use Rattle.aql_func.specs.Sieves.{sift};
 
 use aql_value::{Items, OutOfMemory, Value, copy, to_number};
 use indexmap::IndexSet;
@@ -14,7 +14,7 @@ use std::slice;
 
 // These values as an array.
 pub(crate) fn array_of(alloc: Global, values: Vec<Value>) -> Result<Items, OutOfMemory>
-    ensures { IfOk result (λ w. w ≡ trees_in values.items) }
+    ensures { IfOk result (λ w. w ≡ datums_in values.items) }
 {
     let mut out = Items::new(alloc);
     for value in values {
@@ -25,7 +25,7 @@ pub(crate) fn array_of(alloc: Global, values: Vec<Value>) -> Result<Items, OutOf
 
 // An array of equal values.
 pub(crate) fn copy_all(alloc: Global, values: &[Value]) -> Result<Items, OutOfMemory>
-    ensures { IfOk result (λ w. w ≡ trees_in values.now) }
+    ensures { IfOk result (λ w. w ≡ datums_in values.now) }
 {
     let mut out = Vec::new(alloc);
     append(alloc, &mut out, values)?;
@@ -38,7 +38,8 @@ pub(crate) fn append(
     out: &mut Vec<Value>,
     values: &[Value],
 ) -> Result<(), OutOfMemory>
-    ensures { OnOk result (trees_in out.new.items ≡ trees_in out.old.items ++ trees_in values.now) }
+    ensures { OnOk result
+        (datums_in out.new.items ≡ datums_in out.old.items ++ datums_in values.now) }
 {
     for value in values {
         out.push(copy(alloc, value)?)?;
@@ -47,7 +48,8 @@ pub(crate) fn append(
 }
 
 pub(crate) fn sort(values: &mut Vec<Value>) -> Result<(), OutOfMemory>
-    ensures { OnOk result (trees_in values.new.items ≡ spec.ascending (trees_in values.old.items)) }
+    ensures { OnOk result
+        (datums_in values.new.items ≡ spec.sort_values (datums_in values.old.items)) }
 {
     values.sort()?;
     Ok(())
@@ -55,16 +57,17 @@ pub(crate) fn sort(values: &mut Vec<Value>) -> Result<(), OutOfMemory>
 
 // Notes a value, and says whether it is new.
 fn note(alloc: Global, seen: &mut IndexSet<Value>, value: &Value) -> Result<bool, OutOfMemory>
-    ensures new { IfOk result (λ b. b ≡ not (is_in (trees_in seen.old.keys) (tree_of value.now))) }
-    ensures keys { OnOk result (trees_in seen.new.keys
-        ≡ spec.added true (trees_in seen.old.keys) (tree_of value.now)) }
+    ensures new { IfOk result
+        (λ b. b ≡ not (is_in (datums_in seen.old.keys) (datum_of value.now))) }
+    ensures keys { OnOk result (datums_in seen.new.keys
+        ≡ spec.add true (datums_in seen.old.keys) (datum_of value.now)) }
 {
     Ok(seen.insert(copy(alloc, value)?)?)
 }
 
 // The distinct values, each at its first place.
 pub(crate) fn distinct_set(alloc: Global, values: &[Value]) -> Result<IndexSet<Value>, OutOfMemory>
-    ensures { IfOk result (λ w. trees_in w.keys ≡ spec.firsts (trees_in values.now)) }
+    ensures { IfOk result (λ w. datums_in w.keys ≡ spec.firsts (datums_in values.now)) }
 {
     let mut seen = IndexSet::new(alloc);
     for value in values {
@@ -74,7 +77,7 @@ pub(crate) fn distinct_set(alloc: Global, values: &[Value]) -> Result<IndexSet<V
 }
 
 pub(crate) fn firsts(alloc: Global, values: &[Value]) -> Result<Vec<Value>, OutOfMemory>
-    ensures { IfOk result (λ w. trees_in w.items ≡ spec.firsts (trees_in values.now)) }
+    ensures { IfOk result (λ w. datums_in w.items ≡ spec.firsts (datums_in values.now)) }
 {
     let mut out = Vec::new(alloc);
     for value in distinct_set(alloc, values)? {
@@ -84,7 +87,7 @@ pub(crate) fn firsts(alloc: Global, values: &[Value]) -> Result<Vec<Value>, OutO
 }
 
 pub(crate) fn distinct_values(alloc: Global, values: &[Value]) -> Result<Items, OutOfMemory>
-    ensures { IfOk result (λ w. w ≡ spec.distinct (trees_in values.now)) }
+    ensures { IfOk result (λ w. w ≡ spec.distinct (datums_in values.now)) }
 {
     let mut out = firsts(alloc, values)?;
     sort(&mut out)?;
@@ -92,7 +95,7 @@ pub(crate) fn distinct_values(alloc: Global, values: &[Value]) -> Result<Items, 
 }
 
 pub(crate) fn copy_sorted(alloc: Global, values: &[Value]) -> Result<Items, OutOfMemory>
-    ensures { IfOk result (λ w. w ≡ spec.ascending (trees_in values.now)) }
+    ensures { IfOk result (λ w. w ≡ spec.sort_values (datums_in values.now)) }
 {
     let mut out = Vec::new(alloc);
     append(alloc, &mut out, values)?;
@@ -108,7 +111,7 @@ pub(crate) fn sift(
     present: bool,
 ) -> Result<Vec<Value>, OutOfMemory>
     ensures { IfOk result
-        (λ w. trees_in w.items ≡ sift present (trees_in other.now) (trees_in values.now)) }
+        (λ w. datums_in w.items ≡ sift present (datums_in other.now) (datums_in values.now)) }
 {
     let set = distinct_set(alloc, other)?;
     sift_by(alloc, values, &set, present)
@@ -121,7 +124,7 @@ fn sift_by(
     present: bool,
 ) -> Result<Vec<Value>, OutOfMemory>
     ensures { IfOk result
-        (λ w. trees_in w.items ≡ sift present (trees_in set.now.keys) (trees_in values.now)) }
+        (λ w. datums_in w.items ≡ sift present (datums_in set.now.keys) (datums_in values.now)) }
 {
     let mut out = Vec::new(alloc);
     for value in values {
@@ -173,7 +176,7 @@ pub(crate) fn rest_from<T>(items: &[T], start: usize) -> &[T]
 }
 
 pub(crate) fn at_most<'a, T>(items: &'a [T], count: Option<&Value>) -> &'a [T]
-    ensures { result.now ≡ spec.at_most (given count.entry) items.now }
+    ensures { result.now ≡ spec.at_most (optional_datum count.entry) items.now }
 {
     match count {
         Some(count) => front(items, how_many(to_number(count))),
@@ -188,7 +191,7 @@ pub(crate) fn last_of<T>(items: &[T], count: usize) -> &[T]
 }
 
 fn up_to(values: &[Value], count: i64) -> &[Value]
-    ensures { trees_in result.now ≡ spec.up_to count (trees_in values.now) }
+    ensures { datums_in result.now ≡ spec.up_to count (datums_in values.now) }
 {
     front(values, places_up_to(values.len(), count))
 }
@@ -203,7 +206,8 @@ fn places_up_to(size: usize, count: i64) -> usize
 }
 
 pub(crate) fn slice<'a>(values: &'a [Value], start: i64, count: Option<&Value>) -> &'a [Value]
-    ensures { trees_in result.now ≡ spec.slice start (given count.entry) (trees_in values.now) }
+    ensures { datums_in result.now
+        ≡ spec.slice start (optional_datum count.entry) (datums_in values.now) }
 {
     let rest = rest_from(values, place_from(values.len(), start));
     match count {
@@ -219,7 +223,7 @@ fn flatten_into(
     depth: usize,
     out: &mut Items,
 ) -> Result<(), OutOfMemory>
-    ensures { OnOk result (out.new ≡ out.old ++ spec.flat depth (trees_in values.now)) }
+    ensures { OnOk result (out.new ≡ out.old ++ spec.flatten depth (datums_in values.now)) }
 {
     for value in values {
         match value {
@@ -231,7 +235,7 @@ fn flatten_into(
 }
 
 pub(crate) fn flat_copy(alloc: Global, values: &[Value], depth: usize) -> Result<Items, OutOfMemory>
-    ensures { IfOk result (λ w. w ≡ spec.flat depth (trees_in values.now)) }
+    ensures { IfOk result (λ w. w ≡ spec.flatten depth (datums_in values.now)) }
 {
     let mut out = Items::new(alloc);
     flatten_into(alloc, values, depth, &mut out)?;
@@ -241,7 +245,7 @@ pub(crate) fn flat_copy(alloc: Global, values: &[Value], depth: usize) -> Result
 // Copies of `more` added to the list, one by one.
 pub(crate) fn add_all(alloc: Global, values: &[Value], more: &[Value]) -> Result<Items, OutOfMemory>
     ensures { IfOk result
-        (λ w. w ≡ spec.all_added false (trees_in values.now) (trees_in more.now)) }
+        (λ w. w ≡ spec.add_all false (datums_in values.now) (datums_in more.now)) }
 {
     let mut out = copy_all(alloc, values)?;
     for value in more {
@@ -257,7 +261,7 @@ pub(crate) fn add_all_once(
     more: &[Value],
 ) -> Result<Items, OutOfMemory>
     ensures { IfOk result
-        (λ w. w ≡ spec.all_added true (trees_in values.now) (trees_in more.now)) }
+        (λ w. w ≡ spec.add_all true (datums_in values.now) (datums_in more.now)) }
 {
     let mut out = copy_all(alloc, values)?;
     let mut seen = distinct_set(alloc, values)?;
@@ -273,10 +277,10 @@ fn add_once(
     seen: &mut IndexSet<Value>,
     out: &mut Items,
 ) -> Result<(), OutOfMemory>
-    ensures seen { OnOk result (trees_in seen.new.keys
-        ≡ spec.added true (trees_in seen.old.keys) (tree_of value.now)) }
-    ensures out { OnOk result (out.new ≡ cond (is_in (trees_in seen.old.keys) (tree_of value.now))
-        out.old (out.old ++ tree_of value.now ∷ [])) }
+    ensures seen { OnOk result (datums_in seen.new.keys
+        ≡ spec.add true (datums_in seen.old.keys) (datum_of value.now)) }
+    ensures out { OnOk result (out.new ≡ cond (is_in (datums_in seen.old.keys) (datum_of value.now))
+        out.old (out.old ++ datum_of value.now ∷ [])) }
 {
     if note(alloc, seen, value)? {
         out.push(copy(alloc, value)?)?;

@@ -2,7 +2,7 @@ ghost use Rattle.std.specs.Cmp.Lexicographic.{slice_cmp};
 ghost use Rattle.std.specs.Ordering.{nat_cmp};
 ghost use Rattle.std.specs.Prelude.{◌≡◌};
 ghost use Rattle.std.specs.Str.{str_to_ascii_lowercase};
-ghost use Rattle.aql_func.specs.Names.{looked_up, signature};
+ghost use Rattle.aql_func.specs.Names.{function_named, signature};
 
 use crate::signatures::{Arity, table};
 use std::cmp::Ordering;
@@ -121,7 +121,7 @@ const FUNCTIONS: [FuncName; 51] = [
 /// The function of a name, in any letter case of its ASCII letters; `None` exactly where no
 /// function has this name.
 pub fn lookup(name: &str) -> Option<FuncName>
-    ensures { result ≡ looked_up name.now }
+    ensures { result ≡ function_named name.now }
 {
     match FUNCTIONS.binary_search_by(|f| compare_name(*f, name)) {
         Ok(place) => Some(FUNCTIONS[place]),

@@ -3,11 +3,11 @@ ghost use Rattle.std.specs.List.{after_first, before_first};
 ghost use Rattle.std.specs.Prelude.{[], ◌∷◌, ◌≡◌, codes, flat_map, IfOk, IfSome, is_some, List, map, OnOk, ℕ};
 ghost use Rattle.aql_value.specs.Attributes.{attribute, with_attribute};
 ghost use Rattle.aql_value.specs.Parts.{is_in, record_of};
-ghost use Rattle.aql_value.specs.Tree.{object_of, text, Tree};
-ghost use Rattle.aql_value.specs.View.{tree_of, trees_in};
+ghost use Rattle.aql_value.specs.Datum.{object_of, text, Datum};
+ghost use Rattle.aql_value.specs.View.{datum_of, datums_in};
 ghost use Rattle.aql_value.specs.WellFormed.{FieldsWellFormed};
-ghost use Rattle.aql_func.specs.Arguments.{of_object, opened};
-ghost use Rattle.aql_func.specs.Chosen.{chosen_of};
+ghost use Rattle.aql_func.specs.Arguments.{of_object, elements_or_self};
+ghost use Rattle.aql_func.specs.Choices.{choose};
 ghost use Rattle.aql_func.specs.Functions.{call};
 ghost use Rattle.aql_func.specs.Objects as spec;
 
@@ -22,7 +22,7 @@ use indexmap::IndexSet;
 use std::alloc::Global;
 
 pub(crate) fn values_of(alloc: Global, members: &Members) -> Result<Items, OutOfMemory>
-    ensures { IfOk result (λ w. w ≡ map (λ (f : List ℕ × Tree). f.1) members.now) }
+    ensures { IfOk result (λ w. w ≡ map (λ (f : List ℕ × Datum). f.1) members.now) }
 {
     let mut out = Items::new(alloc);
     for member in members.as_slice() {
@@ -32,7 +32,7 @@ pub(crate) fn values_of(alloc: Global, members: &Members) -> Result<Items, OutOf
 }
 
 fn names_of(alloc: Global, members: &Members) -> Result<Items, OutOfMemory>
-    ensures { IfOk result (λ w. w ≡ map (λ (f : List ℕ × Tree). text f.0) members.now) }
+    ensures { IfOk result (λ w. w ≡ map (λ (f : List ℕ × Datum). text f.0) members.now) }
 {
     let mut out = Items::new(alloc);
     for member in members.as_slice() {
@@ -42,7 +42,7 @@ fn names_of(alloc: Global, members: &Members) -> Result<Items, OutOfMemory>
 }
 
 pub(crate) fn attributes(alloc: Global, args: &Items) -> Result<Value, OutOfMemory>
-    ensures { IfOk result (λ v. tree_of v ≡ call FuncName.Attributes args.now) }
+    ensures { IfOk result (λ v. datum_of v ≡ call FuncName.Attributes args.now) }
 {
     let [document] = args.as_slice() else {
         return Ok(Value::Null);
@@ -54,7 +54,7 @@ pub(crate) fn attributes(alloc: Global, args: &Items) -> Result<Value, OutOfMemo
 }
 
 pub(crate) fn values(alloc: Global, args: &Items) -> Result<Value, OutOfMemory>
-    ensures { IfOk result (λ v. tree_of v ≡ call FuncName.Values args.now) }
+    ensures { IfOk result (λ v. datum_of v ≡ call FuncName.Values args.now) }
 {
     let [document] = args.as_slice() else {
         return Ok(Value::Null);
@@ -66,7 +66,7 @@ pub(crate) fn values(alloc: Global, args: &Items) -> Result<Value, OutOfMemory>
 }
 
 pub(crate) fn has(alloc: Global, args: &Items) -> Result<Value, OutOfMemory>
-    ensures { IfOk result (λ v. tree_of v ≡ call FuncName.Has args.now) }
+    ensures { IfOk result (λ v. datum_of v ≡ call FuncName.Has args.now) }
 {
     let [document, name] = args.as_slice() else {
         return Ok(Value::Null);
@@ -96,20 +96,20 @@ fn set_all(alloc: Global, out: &mut Members, members: &Members) -> Result<(), Ou
 
 fn set_copy(alloc: Global, out: &mut Members, member: &Member) -> Result<(), OutOfMemory>
     ensures { OnOk result (out.new
-        ≡ with_attribute member.now.name (tree_of member.now.value) out.old) }
+        ≡ with_attribute member.now.name (datum_of member.now.value) out.old) }
 {
     let name = member.name.copy(alloc)?;
     out.set(name, copy(alloc, &member.value)?)
 }
 
 pub(crate) fn merge(alloc: Global, args: &Items) -> Result<Value, OutOfMemory>
-    ensures { IfOk result (λ v. tree_of v ≡ call FuncName.Merge args.now) }
+    ensures { IfOk result (λ v. datum_of v ≡ call FuncName.Merge args.now) }
 {
     merge_all(alloc, spread(args.as_slice()))
 }
 
 fn merge_all(alloc: Global, values: &[Value]) -> Result<Value, OutOfMemory>
-    ensures { IfOk result (λ v. tree_of v ≡ spec.merged (trees_in values.now)) }
+    ensures { IfOk result (λ v. datum_of v ≡ spec.merge (datums_in values.now)) }
 {
     let mut out = Members::new(alloc);
     for value in values {
@@ -122,7 +122,7 @@ fn merge_all(alloc: Global, values: &[Value]) -> Result<Value, OutOfMemory>
 }
 
 pub(crate) fn unset(alloc: Global, args: &Items) -> Result<Value, OutOfMemory>
-    ensures { IfOk result (λ v. tree_of v ≡ call FuncName.Unset args.now) }
+    ensures { IfOk result (λ v. datum_of v ≡ call FuncName.Unset args.now) }
 {
     let [document, names @ ..] = args.as_slice() else {
         return Ok(Value::Null);
@@ -132,7 +132,7 @@ pub(crate) fn unset(alloc: Global, args: &Items) -> Result<Value, OutOfMemory>
 }
 
 pub(crate) fn keep(alloc: Global, args: &Items) -> Result<Value, OutOfMemory>
-    ensures { IfOk result (λ v. tree_of v ≡ call FuncName.Keep args.now) }
+    ensures { IfOk result (λ v. datum_of v ≡ call FuncName.Keep args.now) }
 {
     let [document, names @ ..] = args.as_slice() else {
         return Ok(Value::Null);
@@ -143,7 +143,8 @@ pub(crate) fn keep(alloc: Global, args: &Items) -> Result<Value, OutOfMemory>
 
 // The values among which an attribute's name is sought: the arguments, with arrays opened.
 fn sought_names(alloc: Global, args: &[Value]) -> Result<Vec<Value>, OutOfMemory>
-    ensures { IfOk result (λ w. trees_in w.items ≡ flat_map opened (trees_in args.now)) }
+    ensures { IfOk result
+        (λ w. datums_in w.items ≡ flat_map elements_or_self (datums_in args.now)) }
 {
     let mut out = Vec::new(alloc);
     for arg in args {
@@ -159,8 +160,8 @@ fn choose(
     names: &[Value],
     present: bool,
 ) -> Result<Value, OutOfMemory>
-    ensures { IfOk result (λ v. tree_of v ≡ of_object (tree_of value.now)
-        (λ fs. record_of (chosen_of present (trees_in names.now) fs))) }
+    ensures { IfOk result (λ v. datum_of v ≡ of_object (datum_of value.now)
+        (λ fs. record_of (choose present (datums_in names.now) fs))) }
 {
     recall_well_formed(value);
     match value {
@@ -178,7 +179,7 @@ fn choose_members(
     present: bool,
 ) -> Result<Members, OutOfMemory>
     requires { FieldsWellFormed (object_of members.now) }
-    ensures { IfOk result (λ w. w ≡ chosen_of present (trees_in names.now) members.now) }
+    ensures { IfOk result (λ w. w ≡ choose present (datums_in names.now) members.now) }
 {
     let sought = distinct_set(alloc, names)?;
     members_among(alloc, members, &sought, present)
@@ -191,7 +192,7 @@ fn members_among(
     present: bool,
 ) -> Result<Members, OutOfMemory>
     requires { FieldsWellFormed (object_of members.now) }
-    ensures { IfOk result (λ w. w ≡ chosen_of present (trees_in sought.now.keys) members.now) }
+    ensures { IfOk result (λ w. w ≡ choose present (datums_in sought.now.keys) members.now) }
 {
     let mut out = Members::new(alloc);
     for member in members.as_slice() {
@@ -203,14 +204,14 @@ fn members_among(
 }
 
 fn is_among(alloc: Global, names: &IndexSet<Value>, name: &Text) -> Result<bool, OutOfMemory>
-    ensures { IfOk result (λ b. b ≡ is_in (trees_in names.now.keys) (text name.now)) }
+    ensures { IfOk result (λ b. b ≡ is_in (datums_in names.now.keys) (text name.now)) }
 {
     let name = Value::Text(name.copy(alloc)?);
     Ok(names.contains(&name))
 }
 
 pub(crate) fn parse_identifier(alloc: Global, args: &Items) -> Result<Value, OutOfMemory>
-    ensures { IfOk result (λ v. tree_of v ≡ call FuncName.ParseIdentifier args.now) }
+    ensures { IfOk result (λ v. datum_of v ≡ call FuncName.ParseIdentifier args.now) }
 {
     let [value] = args.as_slice() else {
         return Ok(Value::Null);
@@ -219,7 +220,7 @@ pub(crate) fn parse_identifier(alloc: Global, args: &Items) -> Result<Value, Out
 }
 
 fn parse_id(alloc: Global, value: &Value) -> Result<Value, OutOfMemory>
-    ensures { IfOk result (λ v. tree_of v ≡ spec.parsed_identifier (tree_of value.now)) }
+    ensures { IfOk result (λ v. datum_of v ≡ spec.parse_identifier (datum_of value.now)) }
 {
     match value {
         Value::Object(members) => match members.value("_id") {
@@ -231,7 +232,8 @@ fn parse_id(alloc: Global, value: &Value) -> Result<Value, OutOfMemory>
 }
 
 fn parse_id_text(alloc: Global, value: &Value) -> Result<Value, OutOfMemory>
-    ensures { IfOk result (λ v. tree_of v ≡ spec.identified (spec.id_of_text (tree_of value.now))) }
+    ensures { IfOk result
+        (λ v. datum_of v ≡ spec.identifier_or_null (spec.id_of_text (datum_of value.now))) }
 {
     match value {
         Value::Text(text) => identifier(alloc, text.as_str()),
@@ -240,7 +242,8 @@ fn parse_id_text(alloc: Global, value: &Value) -> Result<Value, OutOfMemory>
 }
 
 fn identifier(alloc: Global, id: &str) -> Result<Value, OutOfMemory>
-    ensures { IfOk result (λ v. tree_of v ≡ spec.identified (spec.id_of_text (text id.now))) }
+    ensures { IfOk result
+        (λ v. datum_of v ≡ spec.identifier_or_null (spec.id_of_text (text id.now))) }
 {
     match sides(id) {
         Some((collection, key)) => Ok(Value::Object(members_of_id(alloc, collection, key)?)),

@@ -1,6 +1,6 @@
 ghost use Rattle.std.specs.Prelude.{◌≡◌, IfOk, IsOkAnd};
 ghost use Rattle.aql_value.specs.Parts as parts;
-ghost use Rattle.aql_value.specs.View.{tree_of};
+ghost use Rattle.aql_value.specs.View.{datum_of};
 ghost use Rattle.aql_func.specs.Operators as spec;
 
 use crate::arguments::array;
@@ -44,7 +44,7 @@ pub enum UnaryOp {
 /// comparisons follow the order of all values; arithmetic converts both sides to numbers and is
 /// null where it has no whole number of 64 bits.
 pub fn binary(alloc: Global, op: BinOp, a: &Value, b: &Value) -> Result<Value, OutOfMemory>
-    ensures { IfOk result (λ v. tree_of v ≡ spec.binary op (tree_of a.now) (tree_of b.now)) }
+    ensures { IfOk result (λ v. datum_of v ≡ spec.binary op (datum_of a.now) (datum_of b.now)) }
 {
     match op {
         BinOp::And => both(alloc, a, b),
@@ -68,7 +68,8 @@ pub fn binary(alloc: Global, op: BinOp, a: &Value, b: &Value) -> Result<Value, O
 }
 
 fn both(alloc: Global, a: &Value, b: &Value) -> Result<Value, OutOfMemory>
-    ensures { IfOk result (λ v. tree_of v ≡ spec.binary BinOp.And (tree_of a.now) (tree_of b.now)) }
+    ensures { IfOk result
+        (λ v. datum_of v ≡ spec.binary BinOp.And (datum_of a.now) (datum_of b.now)) }
 {
     if truthy(a) {
         copy(alloc, b)
@@ -78,7 +79,8 @@ fn both(alloc: Global, a: &Value, b: &Value) -> Result<Value, OutOfMemory>
 }
 
 fn either(alloc: Global, a: &Value, b: &Value) -> Result<Value, OutOfMemory>
-    ensures { IfOk result (λ v. tree_of v ≡ spec.binary BinOp.Or (tree_of a.now) (tree_of b.now)) }
+    ensures { IfOk result
+        (λ v. datum_of v ≡ spec.binary BinOp.Or (datum_of a.now) (datum_of b.now)) }
 {
     if truthy(a) {
         copy(alloc, a)
@@ -88,7 +90,7 @@ fn either(alloc: Global, a: &Value, b: &Value) -> Result<Value, OutOfMemory>
 }
 
 fn is_among(a: &Value, b: &Value) -> bool
-    ensures { result ≡ parts.is_in (parts.elements (tree_of b.now)) (tree_of a.now) }
+    ensures { result ≡ parts.is_in (parts.elements (datum_of b.now)) (datum_of a.now) }
 {
     match array(b) {
         Some(list) => is_in(list.as_slice(), a),
@@ -98,7 +100,7 @@ fn is_among(a: &Value, b: &Value) -> bool
 
 /// The value of `op a` (AQL fundamentals, Operators). It takes no memory and is always `Ok`.
 pub fn unary(op: UnaryOp, a: &Value) -> Result<Value, OutOfMemory>
-    ensures { IsOkAnd result (λ v. tree_of v ≡ spec.unary op (tree_of a.now)) }
+    ensures { IsOkAnd result (λ v. datum_of v ≡ spec.unary op (datum_of a.now)) }
 {
     match op {
         UnaryOp::Plus => Ok(Value::Num(to_number(a))),

@@ -1,6 +1,6 @@
 // Ranges of numbers.
 ghost use Rattle.std.specs.Prelude.{◌≡◌, ◌≤ℤ◌, IfOk, negsuc, pos};
-ghost use Rattle.aql_value.specs.View.{tree_of};
+ghost use Rattle.aql_value.specs.View.{datum_of};
 ghost use Rattle.aql_func.specs.Operators as spec;
 ghost use Rattle.aql_func.specs.Operators.{numbers, range_length};
 
@@ -10,7 +10,7 @@ use std::alloc::Global;
 /// `low..high` (AQL fundamentals, Operators): the numbers from `low` to `high`, upwards or
 /// downwards, both of them counted; null where these are more than 1,000,000.
 pub fn range(alloc: Global, low: i64, high: i64) -> Result<Value, OutOfMemory>
-    ensures { IfOk result (λ v. tree_of v ≡ spec.range low high) }
+    ensures { IfOk result (λ v. datum_of v ≡ spec.range low high) }
 {
     if high.abs_diff(low) >= 1_000_000 {
         return Ok(Value::Null);

@@ -3,12 +3,12 @@ ghost use Rattle.std.specs.List.{list_all};
 ghost use Rattle.std.specs.Prelude.{◌≡◌, drop, flat_map, IfOk, map};
 ghost use Rattle.aql_value.specs.Parts as parts;
 ghost use Rattle.aql_value.specs.Parts.{list};
-ghost use Rattle.aql_value.specs.View.{tree_of, trees_in};
+ghost use Rattle.aql_value.specs.View.{datum_of, datums_in};
 ghost use Rattle.aql_func.specs.Arguments as given_args;
 ghost use Rattle.aql_func.specs.Arguments.{of_lists};
 ghost use Rattle.aql_func.specs.Functions.{call, head};
 ghost use Rattle.aql_func.specs.Lists as spec;
-ghost use Rattle.aql_func.specs.Sifted.{sieve};
+ghost use Rattle.aql_func.specs.Sieves.{sieve};
 
 use crate::FuncName;
 use crate::arguments::{array, is_array};
@@ -17,7 +17,7 @@ use aql_value::{Items, OutOfMemory, Value};
 use std::alloc::Global;
 
 fn all_arrays(args: &[Value]) -> bool
-    ensures { result ≡ list_all given_args.is_array (trees_in args.now) }
+    ensures { result ≡ list_all given_args.is_array (datums_in args.now) }
 {
     for arg in args {
         if !is_array(arg) {
@@ -29,7 +29,7 @@ fn all_arrays(args: &[Value]) -> bool
 
 // The elements of an array; everything else has none.
 fn elements(value: &Value) -> &[Value]
-    ensures { trees_in result.now ≡ parts.elements (tree_of value.now) }
+    ensures { datums_in result.now ≡ parts.elements (datum_of value.now) }
 {
     match array(value) {
         Some(list) => list.as_slice(),
@@ -38,13 +38,13 @@ fn elements(value: &Value) -> &[Value]
 }
 
 pub(crate) fn intersection(alloc: Global, args: &Items) -> Result<Value, OutOfMemory>
-    ensures { IfOk result (λ v. tree_of v ≡ call FuncName.Intersection args.now) }
+    ensures { IfOk result (λ v. datum_of v ≡ call FuncName.Intersection args.now) }
 {
     sieve_all(alloc, args.as_slice(), true)
 }
 
 pub(crate) fn minus(alloc: Global, args: &Items) -> Result<Value, OutOfMemory>
-    ensures { IfOk result (λ v. tree_of v ≡ call FuncName.Minus args.now) }
+    ensures { IfOk result (λ v. datum_of v ≡ call FuncName.Minus args.now) }
 {
     sieve_all(alloc, args.as_slice(), false)
 }
@@ -52,7 +52,7 @@ pub(crate) fn minus(alloc: Global, args: &Items) -> Result<Value, OutOfMemory>
 // The distinct elements of the first array that are in all the others, where `present` says so, and
 // else those that are in none of them.
 fn sieve_all(alloc: Global, args: &[Value], present: bool) -> Result<Value, OutOfMemory>
-    ensures { IfOk result (λ v. tree_of v ≡ of_lists (trees_in args.now)
+    ensures { IfOk result (λ v. datum_of v ≡ of_lists (datums_in args.now)
         (λ lists. list (spec.distinct (sieve present (drop 1 lists) (head lists))))) }
 {
     if !all_arrays(args) {
@@ -73,8 +73,8 @@ fn sieve_through(
     others: &[Value],
     present: bool,
 ) -> Result<Vec<Value>, OutOfMemory>
-    ensures { IfOk result (λ w. trees_in w.items
-        ≡ sieve present (map parts.elements (trees_in others.now)) (trees_in values.now)) }
+    ensures { IfOk result (λ w. datums_in w.items
+        ≡ sieve present (map parts.elements (datums_in others.now)) (datums_in values.now)) }
 {
     let mut left = Vec::new(alloc);
     append(alloc, &mut left, values)?;
@@ -85,7 +85,7 @@ fn sieve_through(
 }
 
 pub(crate) fn union(alloc: Global, args: &Items) -> Result<Value, OutOfMemory>
-    ensures { IfOk result (λ v. tree_of v ≡ call FuncName.Union args.now) }
+    ensures { IfOk result (λ v. datum_of v ≡ call FuncName.Union args.now) }
 {
     let lists = args.as_slice();
     if !all_arrays(lists) {
@@ -96,7 +96,7 @@ pub(crate) fn union(alloc: Global, args: &Items) -> Result<Value, OutOfMemory>
 }
 
 pub(crate) fn union_distinct(alloc: Global, args: &Items) -> Result<Value, OutOfMemory>
-    ensures { IfOk result (λ v. tree_of v ≡ call FuncName.UnionDistinct args.now) }
+    ensures { IfOk result (λ v. datum_of v ≡ call FuncName.UnionDistinct args.now) }
 {
     let lists = args.as_slice();
     if !all_arrays(lists) {
@@ -108,8 +108,8 @@ pub(crate) fn union_distinct(alloc: Global, args: &Items) -> Result<Value, OutOf
 
 // The elements of all the arrays, in order.
 fn gather(alloc: Global, lists: &[Value]) -> Result<Vec<Value>, OutOfMemory>
-    ensures { IfOk result (λ w. trees_in w.items
-        ≡ flat_map (λ ts. ts) (map parts.elements (trees_in lists.now))) }
+    ensures { IfOk result (λ w. datums_in w.items
+        ≡ flat_map (λ ts. ts) (map parts.elements (datums_in lists.now))) }
 {
     let mut out = Vec::new(alloc);
     for list in lists {

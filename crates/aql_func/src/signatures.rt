@@ -1,7 +1,7 @@
 ghost use Rattle.std.specs.Prelude.{◌&&◌, ◌≡◌, nat_le};
 ghost use Rattle.aql_func.specs.Names as spec;
 ghost use Rattle.aql_func.specs.Names.{is_within, signature};
-ghost use Rattle.aql_func.specs.Signatures.{seen};
+ghost use Rattle.aql_func.specs.Signatures.{signature_of};
 
 use crate::names::FuncName;
 
@@ -19,7 +19,7 @@ pub(crate) struct Signature {
 }
 
 fn exactly(count: u32, name: &'static str) -> Signature
-    ensures { seen result ≡ spec.exactly count name.now }
+    ensures { signature_of result ≡ spec.exactly count name.now }
 {
     Signature {
         name,
@@ -31,7 +31,7 @@ fn exactly(count: u32, name: &'static str) -> Signature
 }
 
 fn between(least: u32, most: u32, name: &'static str) -> Signature
-    ensures { seen result ≡ spec.between least most name.now }
+    ensures { signature_of result ≡ spec.between least most name.now }
 {
     Signature {
         name,
@@ -43,7 +43,7 @@ fn between(least: u32, most: u32, name: &'static str) -> Signature
 }
 
 fn at_least(least: u32, name: &'static str) -> Signature
-    ensures { seen result ≡ spec.at_least least name.now }
+    ensures { signature_of result ≡ spec.at_least least name.now }
 {
     Signature {
         name,
@@ -52,7 +52,7 @@ fn at_least(least: u32, name: &'static str) -> Signature
 }
 
 pub(crate) fn table(f: FuncName) -> Signature
-    ensures { seen result ≡ signature f }
+    ensures { signature_of result ≡ signature f }
 {
     match f {
         FuncName::IsNull => exactly(1, "IS_NULL"),

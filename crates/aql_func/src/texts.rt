@@ -1,12 +1,12 @@
 // Functions of texts. Lengths and places count characters.
 ghost use Rattle.std.specs.Prelude.{[], ◌++◌, ◌<◌, ◌∷◌, ◌≡◌, chars, encode_utf8_all, IfOk, length, map, OnOk, string_bytes};
 ghost use Rattle.aql_value.specs.Convert.{to_number, to_text};
-ghost use Rattle.aql_value.specs.Tree.{text};
-ghost use Rattle.aql_value.specs.View.{tree_of, trees_in};
+ghost use Rattle.aql_value.specs.Datum.{text};
+ghost use Rattle.aql_value.specs.View.{datum_of, datums_in};
 ghost use Rattle.aql_func.specs.Arguments as given_args;
-ghost use Rattle.aql_func.specs.Functions.{call, concatenated};
-ghost use Rattle.aql_func.specs.Joined.{with_part};
-ghost use Rattle.aql_func.specs.Seen.{given};
+ghost use Rattle.aql_func.specs.Functions.{call, concatenate};
+ghost use Rattle.aql_func.specs.Joins.{with_part};
+ghost use Rattle.aql_func.specs.Optional.{optional_datum};
 ghost use Rattle.aql_func.specs.Texts as spec;
 ghost use Rattle.aql_func.specs.Texts.{begins_with, occurs_in, parts_of};
 
@@ -34,7 +34,7 @@ pub(crate) fn text_of(alloc: Global, characters: &[char]) -> Result<Text, OutOfM
 }
 
 pub(crate) fn substring(alloc: Global, args: &Items) -> Result<Value, OutOfMemory>
-    ensures { IfOk result (λ v. tree_of v ≡ call FuncName.Substring args.now) }
+    ensures { IfOk result (λ v. datum_of v ≡ call FuncName.Substring args.now) }
 {
     match args.as_slice() {
         [value, offset] => part(alloc, value, offset, None),
@@ -49,8 +49,8 @@ fn part(
     offset: &Value,
     count: Option<&Value>,
 ) -> Result<Value, OutOfMemory>
-    ensures { IfOk result (λ v. tree_of v ≡ text (spec.substring (to_number (tree_of offset.now))
-        (given count.entry) (to_text (tree_of value.now)))) }
+    ensures { IfOk result (λ v. datum_of v ≡ text (spec.substring (to_number (datum_of offset.now))
+        (optional_datum count.entry) (to_text (datum_of value.now)))) }
 {
     let text = to_text(alloc, value)?;
     let characters = characters(alloc, text.as_str())?;
@@ -60,7 +60,7 @@ fn part(
 }
 
 pub(crate) fn left(alloc: Global, args: &Items) -> Result<Value, OutOfMemory>
-    ensures { IfOk result (λ v. tree_of v ≡ call FuncName.Left args.now) }
+    ensures { IfOk result (λ v. datum_of v ≡ call FuncName.Left args.now) }
 {
     let [value, n] = args.as_slice() else {
         return Ok(Value::Null);
@@ -72,7 +72,7 @@ pub(crate) fn left(alloc: Global, args: &Items) -> Result<Value, OutOfMemory>
 }
 
 pub(crate) fn right(alloc: Global, args: &Items) -> Result<Value, OutOfMemory>
-    ensures { IfOk result (λ v. tree_of v ≡ call FuncName.Right args.now) }
+    ensures { IfOk result (λ v. datum_of v ≡ call FuncName.Right args.now) }
 {
     let [value, n] = args.as_slice() else {
         return Ok(Value::Null);
@@ -84,7 +84,7 @@ pub(crate) fn right(alloc: Global, args: &Items) -> Result<Value, OutOfMemory>
 }
 
 pub(crate) fn contains(alloc: Global, args: &Items) -> Result<Value, OutOfMemory>
-    ensures { IfOk result (λ v. tree_of v ≡ call FuncName.Contains args.now) }
+    ensures { IfOk result (λ v. datum_of v ≡ call FuncName.Contains args.now) }
 {
     let [value, part] = args.as_slice() else {
         return Ok(Value::Null);
@@ -101,7 +101,7 @@ fn has(s: &str, part: &str) -> bool
 }
 
 pub(crate) fn starts_with(alloc: Global, args: &Items) -> Result<Value, OutOfMemory>
-    ensures { IfOk result (λ v. tree_of v ≡ call FuncName.StartsWith args.now) }
+    ensures { IfOk result (λ v. datum_of v ≡ call FuncName.StartsWith args.now) }
 {
     let [value, prefix] = args.as_slice() else {
         return Ok(Value::Null);
@@ -118,7 +118,7 @@ fn begins(s: &str, front: &str) -> bool
 }
 
 pub(crate) fn split(alloc: Global, args: &Items) -> Result<Value, OutOfMemory>
-    ensures { IfOk result (λ v. tree_of v ≡ call FuncName.Split args.now) }
+    ensures { IfOk result (λ v. datum_of v ≡ call FuncName.Split args.now) }
 {
     let [value, separator] = args.as_slice() else {
         return Ok(Value::Null);
@@ -171,13 +171,13 @@ pub(crate) fn push_text(alloc: Global, out: &mut Items, part: &str) -> Result<()
 }
 
 pub(crate) fn concat(alloc: Global, args: &Items) -> Result<Value, OutOfMemory>
-    ensures { IfOk result (λ v. tree_of v ≡ call FuncName.Concat args.now) }
+    ensures { IfOk result (λ v. datum_of v ≡ call FuncName.Concat args.now) }
 {
     join(alloc, "", spread(args.as_slice()))
 }
 
 pub(crate) fn concat_separator(alloc: Global, args: &Items) -> Result<Value, OutOfMemory>
-    ensures { IfOk result (λ v. tree_of v ≡ call FuncName.ConcatSeparator args.now) }
+    ensures { IfOk result (λ v. datum_of v ≡ call FuncName.ConcatSeparator args.now) }
 {
     let [separator, values @ ..] = args.as_slice() else {
         return Ok(Value::Null);
@@ -188,7 +188,7 @@ pub(crate) fn concat_separator(alloc: Global, args: &Items) -> Result<Value, Out
 
 // A sole array stands for its elements.
 pub(crate) fn spread(args: &[Value]) -> &[Value]
-    ensures { trees_in result.now ≡ given_args.spread (trees_in args.now) }
+    ensures { datums_in result.now ≡ given_args.spread (datums_in args.now) }
 {
     match args {
         [] => args,
@@ -202,7 +202,7 @@ pub(crate) fn spread(args: &[Value]) -> &[Value]
 
 // The texts of all that aren't null, with the separator between.
 fn join(alloc: Global, separator: &str, values: &[Value]) -> Result<Value, OutOfMemory>
-    ensures { IfOk result (λ v. tree_of v ≡ concatenated separator.now (trees_in values.now)) }
+    ensures { IfOk result (λ v. datum_of v ≡ concatenate separator.now (datums_in values.now)) }
 {
     let mut out = String::new(alloc);
     let mut started = false;

@@ -1,9 +1,9 @@
 // Functions of any value: its type, its conversions, its length.
 ghost use Rattle.std.specs.Prelude.{[], ◌∷◌, ◌≡◌, chars, IfOk, length, pos, reverse};
 ghost use Rattle.aql_value.specs.Convert as convert;
-ghost use Rattle.aql_value.specs.Convert.{whole};
+ghost use Rattle.aql_value.specs.Convert.{number_or_null};
 ghost use Rattle.aql_value.specs.Parts.{list};
-ghost use Rattle.aql_value.specs.View.{tree_of, trees_in};
+ghost use Rattle.aql_value.specs.View.{datum_of, datums_in};
 ghost use Rattle.aql_func.specs.Functions as spec;
 ghost use Rattle.aql_func.specs.Functions.{call};
 ghost use Rattle.aql_func.specs.Texts.{by_characters};
@@ -18,7 +18,7 @@ use aql_value::{Items, OutOfMemory, Text, Value, copy, to_number, to_text, truth
 use std::alloc::Global;
 
 fn type_name(value: &Value) -> &'static str
-    ensures { result.now ≡ spec.type_name (tree_of value.now) }
+    ensures { result.now ≡ spec.type_name (datum_of value.now) }
 {
     match value {
         Value::Null => "null",
@@ -31,13 +31,13 @@ fn type_name(value: &Value) -> &'static str
 }
 
 fn has_type(value: &Value, name: &str) -> Value
-    ensures { tree_of result ≡ spec.has_type name.now (tree_of value.now) }
+    ensures { datum_of result ≡ spec.has_type name.now (datum_of value.now) }
 {
     Value::Bool(type_name(value) == name)
 }
 
 pub(crate) fn is_null(args: &Items) -> Value
-    ensures { tree_of result ≡ call FuncName.IsNull args.now }
+    ensures { datum_of result ≡ call FuncName.IsNull args.now }
 {
     let [value] = args.as_slice() else {
         return Value::Null;
@@ -46,7 +46,7 @@ pub(crate) fn is_null(args: &Items) -> Value
 }
 
 pub(crate) fn is_bool(args: &Items) -> Value
-    ensures { tree_of result ≡ call FuncName.IsBool args.now }
+    ensures { datum_of result ≡ call FuncName.IsBool args.now }
 {
     let [value] = args.as_slice() else {
         return Value::Null;
@@ -55,7 +55,7 @@ pub(crate) fn is_bool(args: &Items) -> Value
 }
 
 pub(crate) fn is_number(args: &Items) -> Value
-    ensures { tree_of result ≡ call FuncName.IsNumber args.now }
+    ensures { datum_of result ≡ call FuncName.IsNumber args.now }
 {
     let [value] = args.as_slice() else {
         return Value::Null;
@@ -64,7 +64,7 @@ pub(crate) fn is_number(args: &Items) -> Value
 }
 
 pub(crate) fn is_string(args: &Items) -> Value
-    ensures { tree_of result ≡ call FuncName.IsString args.now }
+    ensures { datum_of result ≡ call FuncName.IsString args.now }
 {
     let [value] = args.as_slice() else {
         return Value::Null;
@@ -73,7 +73,7 @@ pub(crate) fn is_string(args: &Items) -> Value
 }
 
 pub(crate) fn is_array(args: &Items) -> Value
-    ensures { tree_of result ≡ call FuncName.IsArray args.now }
+    ensures { datum_of result ≡ call FuncName.IsArray args.now }
 {
     let [value] = args.as_slice() else {
         return Value::Null;
@@ -82,7 +82,7 @@ pub(crate) fn is_array(args: &Items) -> Value
 }
 
 pub(crate) fn is_object(args: &Items) -> Value
-    ensures { tree_of result ≡ call FuncName.IsObject args.now }
+    ensures { datum_of result ≡ call FuncName.IsObject args.now }
 {
     let [value] = args.as_slice() else {
         return Value::Null;
@@ -91,7 +91,7 @@ pub(crate) fn is_object(args: &Items) -> Value
 }
 
 pub(crate) fn typename(alloc: Global, args: &Items) -> Result<Value, OutOfMemory>
-    ensures { IfOk result (λ v. tree_of v ≡ call FuncName.Typename args.now) }
+    ensures { IfOk result (λ v. datum_of v ≡ call FuncName.Typename args.now) }
 {
     let [value] = args.as_slice() else {
         return Ok(Value::Null);
@@ -100,7 +100,7 @@ pub(crate) fn typename(alloc: Global, args: &Items) -> Result<Value, OutOfMemory
 }
 
 pub(crate) fn bool_of(args: &Items) -> Value
-    ensures { tree_of result ≡ call FuncName.ToBool args.now }
+    ensures { datum_of result ≡ call FuncName.ToBool args.now }
 {
     let [value] = args.as_slice() else {
         return Value::Null;
@@ -109,7 +109,7 @@ pub(crate) fn bool_of(args: &Items) -> Value
 }
 
 pub(crate) fn number_of(args: &Items) -> Value
-    ensures { tree_of result ≡ call FuncName.ToNumber args.now }
+    ensures { datum_of result ≡ call FuncName.ToNumber args.now }
 {
     let [value] = args.as_slice() else {
         return Value::Null;
@@ -118,7 +118,7 @@ pub(crate) fn number_of(args: &Items) -> Value
 }
 
 pub(crate) fn string_of(alloc: Global, args: &Items) -> Result<Value, OutOfMemory>
-    ensures { IfOk result (λ v. tree_of v ≡ call FuncName.ToString args.now) }
+    ensures { IfOk result (λ v. datum_of v ≡ call FuncName.ToString args.now) }
 {
     let [value] = args.as_slice() else {
         return Ok(Value::Null);
@@ -127,7 +127,7 @@ pub(crate) fn string_of(alloc: Global, args: &Items) -> Result<Value, OutOfMemor
 }
 
 pub(crate) fn array_of(alloc: Global, args: &Items) -> Result<Value, OutOfMemory>
-    ensures { IfOk result (λ v. tree_of v ≡ call FuncName.ToArray args.now) }
+    ensures { IfOk result (λ v. datum_of v ≡ call FuncName.ToArray args.now) }
 {
     let [value] = args.as_slice() else {
         return Ok(Value::Null);
@@ -136,7 +136,7 @@ pub(crate) fn array_of(alloc: Global, args: &Items) -> Result<Value, OutOfMemory
 }
 
 fn elements_of(alloc: Global, value: &Value) -> Result<Items, OutOfMemory>
-    ensures { IfOk result (λ w. list w ≡ spec.to_array (tree_of value.now)) }
+    ensures { IfOk result (λ w. list w ≡ spec.to_array (datum_of value.now)) }
 {
     match value {
         Value::Null => Ok(Items::new(alloc)),
@@ -149,7 +149,7 @@ fn elements_of(alloc: Global, value: &Value) -> Result<Items, OutOfMemory>
 }
 
 fn array_of_one(alloc: Global, value: &Value) -> Result<Items, OutOfMemory>
-    ensures { IfOk result (λ w. w ≡ tree_of value.now ∷ []) }
+    ensures { IfOk result (λ w. w ≡ datum_of value.now ∷ []) }
 {
     let mut out = Items::new(alloc);
     out.push(copy(alloc, value)?)?;
@@ -157,7 +157,7 @@ fn array_of_one(alloc: Global, value: &Value) -> Result<Items, OutOfMemory>
 }
 
 pub(crate) fn not_null(alloc: Global, args: &Items) -> Result<Value, OutOfMemory>
-    ensures { IfOk result (λ v. tree_of v ≡ call FuncName.NotNull args.now) }
+    ensures { IfOk result (λ v. datum_of v ≡ call FuncName.NotNull args.now) }
 {
     for value in args.as_slice() {
         if !arguments::is_null(value) {
@@ -168,7 +168,7 @@ pub(crate) fn not_null(alloc: Global, args: &Items) -> Result<Value, OutOfMemory
 }
 
 pub(crate) fn abs(args: &Items) -> Value
-    ensures { tree_of result ≡ call FuncName.Abs args.now }
+    ensures { datum_of result ≡ call FuncName.Abs args.now }
 {
     let [value] = args.as_slice() else {
         return Value::Null;
@@ -177,7 +177,7 @@ pub(crate) fn abs(args: &Items) -> Value
 }
 
 pub(crate) fn range_of(alloc: Global, args: &Items) -> Result<Value, OutOfMemory>
-    ensures { IfOk result (λ v. tree_of v ≡ call FuncName.Range args.now) }
+    ensures { IfOk result (λ v. datum_of v ≡ call FuncName.Range args.now) }
 {
     let [start, stop] = args.as_slice() else {
         return Ok(Value::Null);
@@ -186,7 +186,7 @@ pub(crate) fn range_of(alloc: Global, args: &Items) -> Result<Value, OutOfMemory
 }
 
 pub(crate) fn length(alloc: Global, args: &Items) -> Result<Value, OutOfMemory>
-    ensures { IfOk result (λ v. tree_of v ≡ call FuncName.Length args.now) }
+    ensures { IfOk result (λ v. datum_of v ≡ call FuncName.Length args.now) }
 {
     let [value] = args.as_slice() else {
         return Ok(Value::Null);
@@ -195,7 +195,7 @@ pub(crate) fn length(alloc: Global, args: &Items) -> Result<Value, OutOfMemory>
 }
 
 pub(crate) fn count(alloc: Global, args: &Items) -> Result<Value, OutOfMemory>
-    ensures { IfOk result (λ v. tree_of v ≡ call FuncName.Count args.now) }
+    ensures { IfOk result (λ v. datum_of v ≡ call FuncName.Count args.now) }
 {
     let [value] = args.as_slice() else {
         return Ok(Value::Null);
@@ -204,7 +204,7 @@ pub(crate) fn count(alloc: Global, args: &Items) -> Result<Value, OutOfMemory>
 }
 
 fn length_of(alloc: Global, value: &Value) -> Result<Value, OutOfMemory>
-    ensures { IfOk result (λ v. tree_of v ≡ spec.length_of (tree_of value.now)) }
+    ensures { IfOk result (λ v. datum_of v ≡ spec.length_of (datum_of value.now)) }
 {
     match value {
         Value::Null => Ok(Value::Num(0)),
@@ -219,14 +219,15 @@ fn length_of(alloc: Global, value: &Value) -> Result<Value, OutOfMemory>
 
 fn characters_in(alloc: Global, value: &Value) -> Result<Value, OutOfMemory>
     ensures { IfOk result
-        (λ v. tree_of v ≡ whole (pos (length (chars (convert.to_text (tree_of value.now)))))) }
+        (λ v. datum_of v
+        ≡ number_or_null (pos (length (chars (convert.to_text (datum_of value.now)))))) }
 {
     let text = to_text(alloc, value)?;
     Ok(arithmetic::count(characters(alloc, text.as_str())?.len()))
 }
 
 pub(crate) fn reverse(alloc: Global, args: &Items) -> Result<Value, OutOfMemory>
-    ensures { IfOk result (λ v. tree_of v ≡ call FuncName.Reverse args.now) }
+    ensures { IfOk result (λ v. datum_of v ≡ call FuncName.Reverse args.now) }
 {
     let [value] = args.as_slice() else {
         return Ok(Value::Null);
@@ -235,7 +236,7 @@ pub(crate) fn reverse(alloc: Global, args: &Items) -> Result<Value, OutOfMemory>
 }
 
 fn reverse_value(alloc: Global, value: &Value) -> Result<Value, OutOfMemory>
-    ensures { IfOk result (λ v. tree_of v ≡ spec.reversed (tree_of value.now)) }
+    ensures { IfOk result (λ v. datum_of v ≡ spec.reverse_value (datum_of value.now)) }
 {
     match value {
         Value::List(list) => Ok(Value::List(reverse_values(alloc, list.as_slice())?)),
@@ -256,7 +257,7 @@ fn reverse_text(alloc: Global, s: &str) -> Result<Text, OutOfMemory>
 }
 
 fn reverse_values(alloc: Global, values: &[Value]) -> Result<Items, OutOfMemory>
-    ensures { IfOk result (λ w. w ≡ reverse (trees_in values.now)) }
+    ensures { IfOk result (λ w. w ≡ reverse (datums_in values.now)) }
 {
     let mut out = Items::new(alloc);
     let mut rest = values;

@@ -1,6 +1,6 @@
 -- How tokens spell a clause and a query (AQL manual, High-level operations, and Graphs, Traversals).
 -- `E` is the rule for expressions one bracket deeper, and `inside` says whether the query stands in
--- an inline operator.
+-- an inline expression.
 use Rattle.std.specs.Prelude.{◌≡◌, ℕ, pos, min, Bool, true, false, List, [], ◌∷◌, Option, Some, None}
 use Rattle.std.specs.Prelude.{◌++◌, codes}
 use Rattle.aql_lex.specs.declared.kinds.TokenKind.TheVariants as k
@@ -8,17 +8,17 @@ use Rattle.aql_lex.specs.declared.vocabulary.Keyword.TheVariants as w
 use Rattle.aql_lex.specs.declared.vocabulary.Symbol.TheVariants as s
 use Rattle.aql_tree.specs.declared.syntax.Direction.{Direction}
 use Rattle.aql_tree.specs.declared.syntax.Direction.TheVariants as direction
-use Rattle.aql_tree.specs.Tree.{ExprTree, ClauseTree, keep_if, QueryTree}
+use Rattle.aql_tree.specs.Tree.{ExprTree, ClauseTree, filter_by, QueryTree}
 use Rattle.aql_tree.specs.Tree as tree
-use Rattle.aql_tree.specs.View.{MemberPart, KeyPart, sort, LetPart, AggregatePart, IntoPart, grouped}
-use Rattle.aql_tree.specs.View.{walked}
-use Rattle.aql_tree.specs.Made as e
+use Rattle.aql_tree.specs.View.{MemberPart, KeyPart, sort, LetPart, AggregatePart, IntoPart, collect_clause}
+use Rattle.aql_tree.specs.View.{traversal_clause}
+use Rattle.aql_tree.specs.Build as e
 use Rattle.aql_grammar.specs.Kinds.{Tokens}
 use Rattle.aql_grammar.specs.Spelling.{IsName, IsWord, IsOptional, AreSeparated, AreAny}
 use Rattle.aql_grammar.specs.Objects.{IsObject}
 
 -- Name ["," Name ["," Name]]
-pub data AreTraversalNames : e.WalkNames → Tokens → Tokens → Type 0 where
+pub data AreTraversalNames : e.TraversalNames → Tokens → Tokens → Type 0 where
   vertex : {v : List ℕ} {a b : Tokens} → IsName v a b
       → AreTraversalNames (record { vertex = v; edge = None; path = None }) a b
   edge : {v x : List ℕ} {a b c : Tokens} → IsName v a (k.Symbol s.Comma ∷ b) → IsName x b c
@@ -56,13 +56,13 @@ says groups aggregates into = true
 
 module _ (E : Bool → ExprTree → Tokens → Tokens → Type 0) (inside : Bool) where
   -- Name "=" Expr
-  pub data IsAssigned : LetPart → Tokens → Tokens → Type 0 where
-    assigned : {v : List ℕ} {x : ExprTree} {a b c : Tokens} → IsName v a (k.Symbol s.Assign ∷ b)
-        → E inside x b c → IsAssigned (e.assigned v x) a c
+  pub data IsAssignment : LetPart → Tokens → Tokens → Type 0 where
+    assignment : {v : List ℕ} {x : ExprTree} {a b c : Tokens} → IsName v a (k.Symbol s.Assign ∷ b)
+        → E inside x b c → IsAssignment (e.assignment v x) a c
 
   -- the same, as a clause
   pub data IsLet : ClauseTree → Tokens → Tokens → Type 0 where
-    define : {v : List ℕ} {x : ExprTree} {a b c : Tokens} → IsName v a (k.Symbol s.Assign ∷ b)
+    let_be : {v : List ℕ} {x : ExprTree} {a b c : Tokens} → IsName v a (k.Symbol s.Assign ∷ b)
         → E inside x b c → IsLet (e.let_in v x) a c
 
   -- Expr ["ASC" | "DESC"]
@@ -77,17 +77,18 @@ module _ (E : Bool → ExprTree → Tokens → Tokens → Type 0) (inside : Bool
   pub data IsAggregate : AggregatePart → Tokens → Tokens → Type 0 where
     aggregate : {v f : List ℕ} {x : Option ExprTree} {a b c : Tokens}
         → IsName v a (k.Symbol s.Assign ∷ k.Word f ∷ k.Symbol s.OpenParen ∷ b)
-        → IsOptional (E inside) x b (k.Symbol s.CloseParen ∷ c) → IsAggregate (e.aggregated v f x) a c
+        → IsOptional (E inside) x b (k.Symbol s.CloseParen ∷ c) → IsAggregate (e.aggregate_as v f x) a c
 
   -- "INTO" Name ["=" Expr | "KEEP" Name {"," Name}]
   pub data IsInto : IntoPart → Tokens → Tokens → Type 0 where
-    alone : {v : List ℕ} {a b : Tokens} → IsName v a b → IsInto (e.into v None []) (k.Keyword w.Into ∷ a) b
+    alone : {v : List ℕ} {a b : Tokens} → IsName v a b
+        → IsInto (e.collect_into v None []) (k.Keyword w.Into ∷ a) b
     taking : {v : List ℕ} {x : ExprTree} {a b c : Tokens} → IsName v a (k.Symbol s.Assign ∷ b)
         → E inside x b c
-        → IsInto (e.into v (Some x) []) (k.Keyword w.Into ∷ a) c
+        → IsInto (e.collect_into v (Some x) []) (k.Keyword w.Into ∷ a) c
     keeping : {v : List ℕ} {names : List (List ℕ)} {a b c d : Tokens} → IsName v a b
         → IsWord (codes "KEEP") b c → AreSeparated IsName names c d
-        → IsInto (e.into v None names) (k.Keyword w.Into ∷ a) d
+        → IsInto (e.collect_into v None names) (k.Keyword w.Into ∷ a) d
 
   -- ["AGGREGATE" Agg {"," Agg}]
   pub data AreAggregates : List AggregatePart → Tokens → Tokens → Type 0 where
@@ -98,7 +99,7 @@ module _ (E : Bool → ExprTree → Tokens → Tokens → Type 0) (inside : Bool
   -- "WITH" "COUNT" "INTO" Name | ["AGGREGATE" ..] ["INTO" ..]
   pub data IsTail : List AggregatePart → Option IntoPart → Tokens → Tokens → Type 0 where
     count : {v : List ℕ} {a b c : Tokens} → IsWord (codes "COUNT") a (k.Keyword w.Into ∷ b) → IsName v b c
-        → IsTail (e.aggregated v (codes "LENGTH") None ∷ []) None (k.Keyword w.With ∷ a) c
+        → IsTail (e.aggregate_as v (codes "LENGTH") None ∷ []) None (k.Keyword w.With ∷ a) c
     parts : {gs : List AggregatePart} {into : Option IntoPart} {a b c : Tokens} → AreAggregates gs a b
         → IsOptional IsInto into b c → IsTail gs into a c
 
@@ -118,16 +119,16 @@ module _ (E : Bool → ExprTree → Tokens → Tokens → Type 0) (inside : Bool
   pub data IsClause : List ClauseTree → Tokens → Tokens → Type 0 where
     for_in : {v : List ℕ} {x : ExprTree} {a b c : Tokens} → IsName v a (k.Keyword w.In ∷ b) → E inside x b c
         → IsClause (e.for_in v x ∷ []) (k.Keyword w.For ∷ a) c
-    for_paths : {names : e.WalkNames} {least greatest : ℕ} {way : Direction} {start : ExprTree}
+    traversal : {names : e.TraversalNames} {least greatest : ℕ} {way : Direction} {start : ExprTree}
         {edges : List (List ℕ)} {prune : Option ExprTree} {ms : List MemberPart}
         {a b c d f g h i : Tokens} → AreTraversalNames names a (k.Keyword w.In ∷ b)
         → IsDepth least greatest b c
         → IsDirection way c d → E inside start d f
         → AreSeparated IsName edges f g → IsPrune prune g h → AreOptions ms h i
-        → IsClause (walked (e.traversal names least greatest way start edges prune ms) ∷ [])
+        → IsClause (traversal_clause (e.traversal names least greatest way start edges prune ms) ∷ [])
         (k.Keyword w.For ∷ a) i
     filter : {x : ExprTree} {a b : Tokens} → E inside x a b
-        → IsClause (keep_if x ∷ []) (k.Keyword w.Filter ∷ a) b
+        → IsClause (filter_by x ∷ []) (k.Keyword w.Filter ∷ a) b
     let_in : {cs : List ClauseTree} {a b : Tokens} → AreSeparated IsLet cs a b
         → IsClause cs (k.Keyword w.Let ∷ a) b
     sort_by : {ks : List KeyPart} {a b : Tokens} → AreSeparated IsSortKey ks a b
@@ -137,8 +138,8 @@ module _ (E : Bool → ExprTree → Tokens → Tokens → Type 0) (inside : Bool
     limit_from : {m n : ℕ} {b : Tokens} → IsClause (tree.limit m n ∷ [])
         (k.Keyword w.Limit ∷ k.Number (pos m) ∷ k.Symbol s.Comma ∷ k.Number (pos n) ∷ b) b
     collect : {ls : List LetPart} {gs : List AggregatePart} {into : Option IntoPart} {a b c : Tokens}
-        → AreAny IsAssigned ls a b → IsTail gs into b c
-        → says ls gs into ≡ true → IsClause (grouped (ls, gs, into) ∷ []) (k.Keyword w.Collect ∷ a) c
+        → AreAny IsAssignment ls a b → IsTail gs into b c
+        → says ls gs into ≡ true → IsClause (collect_clause (ls, gs, into) ∷ []) (k.Keyword w.Collect ∷ a) c
 
   -- {Clause}
   pub data AreClauses : List ClauseTree → Tokens → Tokens → Type 0 where

@@ -1,6 +1,6 @@
 -- How tokens spell an expression (AQL manual, Operators, and AQL fundamentals, Syntax): one rule for
 -- each level of precedence, from the tightest on. `E` is the rule for expressions one bracket deeper,
--- and `inside` says whether the place is in the FILTER or RETURN of an inline operator.
+-- and `inside` says whether the place is in the FILTER or RETURN of an inline expression.
 use Rattle.std.specs.Prelude.{ℕ, ℤ, Bool, true, false, List, [], ◌∷◌, Option, Some, None}
 use Rattle.aql_lex.specs.declared.kinds.TokenKind.TheVariants as k
 use Rattle.aql_lex.specs.declared.vocabulary.Keyword.TheVariants as w
@@ -12,7 +12,7 @@ use Rattle.aql_tree.specs.Tree.{ExprTree, unary_of, range_of, subquery, QueryTre
 use Rattle.aql_tree.specs.Tree as tree
 use Rattle.aql_tree.specs.View.{MemberPart, StepPart, LinkPart}
 use Rattle.aql_tree.specs.View as part
-use Rattle.aql_tree.specs.Made as e
+use Rattle.aql_tree.specs.Build as e
 use Rattle.aql_grammar.specs.declared.precedence.Precedence.{Precedence}
 use Rattle.aql_grammar.specs.declared.precedence.Precedence.TheVariants as level
 use Rattle.aql_grammar.specs.Kinds.{Tokens}
@@ -41,7 +41,7 @@ module _ (E : Bool → ExprTree → Tokens → Tokens → Type 0) (inside : Bool
     list : {xs : List ExprTree} {a b : Tokens} → AreItems (E inside) xs a (k.Symbol s.CloseBracket ∷ b)
         → IsPrimary (e.list xs) (k.Symbol s.OpenBracket ∷ a) b
     object : {ms : List MemberPart} {a b : Tokens} → IsObject E inside ms a b → IsPrimary (e.object ms) a b
-    bracketed : {x : ExprTree} {a b : Tokens} → IsArgument x a (k.Symbol s.CloseParen ∷ b)
+    parentheses : {x : ExprTree} {a b : Tokens} → IsArgument x a (k.Symbol s.CloseParen ∷ b)
         → IsPrimary x (k.Symbol s.OpenParen ∷ a) b
 
   -- ["FILTER" Expr]
@@ -61,15 +61,15 @@ module _ (E : Bool → ExprTree → Tokens → Tokens → Type 0) (inside : Bool
     name : {v : List ℕ} {a b : Tokens} → IsName v a b → IsStep (part.name v) (k.Symbol s.Dot ∷ a) b
     at : {x : ExprTree} {a b : Tokens} → E inside x a (k.Symbol s.CloseBracket ∷ b)
         → IsStep (part.at x) (k.Symbol s.OpenBracket ∷ a) b
-    each : {f p : Option ExprTree} {a b c : Tokens} → IsElementFilter f a b
+    inline : {f p : Option ExprTree} {a b c : Tokens} → IsElementFilter f a b
         → IsElementReturn p b (k.Symbol s.CloseBracket ∷ c)
-        → IsStep (part.each f p) (k.Symbol s.OpenBracket ∷ k.Symbol s.Star ∷ a) c
+        → IsStep (part.inline f p) (k.Symbol s.OpenBracket ∷ k.Symbol s.Star ∷ a) c
 
   -- Primary {Step}
   pub data IsPostfix : ExprTree → Tokens → Tokens → Type 0 where
     alone : {x : ExprTree} {a b : Tokens} → IsPrimary x a b → IsPostfix x a b
-    stepped : {x : ExprTree} {p : StepPart} {ps : List StepPart} {a b c : Tokens} → IsPrimary x a b
-        → AreMany IsStep (p ∷ ps) b c → IsPostfix (e.stepped x p ps) a c
+    with_steps : {x : ExprTree} {p : StepPart} {ps : List StepPart} {a b c : Tokens} → IsPrimary x a b
+        → AreMany IsStep (p ∷ ps) b c → IsPostfix (e.with_steps x p ps) a c
 
   -- ("+" | "-" | "!" | "NOT") Unary | Postfix
   pub data IsUnary : ExprTree → Tokens → Tokens → Type 0 where
@@ -89,8 +89,8 @@ pub data IsChain (precedence : Precedence) (P : ExprTree → Tokens → Tokens �
     → Tokens
     → Type 0 where
   alone : {x : ExprTree} {a b : Tokens} → P x a b → IsChain precedence P x a b
-  linked : {x : ExprTree} {l : LinkPart} {ls : List LinkPart} {a b c : Tokens} → P x a b
-      → AreMany (IsLink precedence P) (l ∷ ls) b c → IsChain precedence P (e.linked x l ls) a c
+  with_links : {x : ExprTree} {l : LinkPart} {ls : List LinkPart} {a b c : Tokens} → P x a b
+      → AreMany (IsLink precedence P) (l ∷ ls) b c → IsChain precedence P (e.with_links x l ls) a c
 
 -- P [".." P]
 pub data IsRange (P : ExprTree → Tokens → Tokens → Type 0) : ExprTree → Tokens → Tokens → Type 0 where
@@ -101,9 +101,9 @@ pub data IsRange (P : ExprTree → Tokens → Tokens → Type 0) : ExprTree → 
 -- P [("ALL" | "ANY" | "NONE") Comparison P]
 pub data IsQuantified (P : ExprTree → Tokens → Tokens → Type 0) : ExprTree → Tokens → Tokens → Type 0 where
   alone : {x : ExprTree} {a b : Tokens} → P x a b → IsQuantified P x a b
-  quantified : {x y : ExprTree} {kind : QuantKind} {op : BinOp} {a b c d f : Tokens} → P x a b
+  array_comparison : {x y : ExprTree} {kind : QuantKind} {op : BinOp} {a b c d f : Tokens} → P x a b
       → IsQuantifier kind b c → IsComparison op c d → P y d f
-      → IsQuantified P (tree.quantified x kind op y) a f
+      → IsQuantified P (tree.array_comparison x kind op y) a f
 
 module _ (E : Bool → ExprTree → Tokens → Tokens → Type 0) (inside : Bool) where
   -- Unary {("*" | "/" | "%") Unary}

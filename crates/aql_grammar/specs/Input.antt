@@ -161,18 +161,18 @@ many_from starts one (suc n) found = do
 unfoldable pub many : {A : Type 0} → (Tokens → Bool) → Parser A → Parser (List A)
 many starts one = λ i. many_from starts one (length i) [] i
 
-unfoldable pub separated_from : {A : Type 0} → Parser A → ℕ → List A → Parser (List A)
-separated_from one zero found = refuse
-separated_from one (suc n) found = do
+unfoldable pub comma_list_from : {A : Type 0} → Parser A → ℕ → List A → Parser (List A)
+comma_list_from one zero found = refuse
+comma_list_from one (suc n) found = do
   x ← one
   more ← eat s.Comma
-  if more then separated_from one n (found ++ x ∷ []) else pure (found ++ x ∷ [])
+  if more then comma_list_from one n (found ++ x ∷ []) else pure (found ++ x ∷ [])
 
-unfoldable pub separated_onto : {A : Type 0} → Parser A → List A → Parser (List A)
-separated_onto one found = λ i. separated_from one (length i) found i
+unfoldable pub comma_list_onto : {A : Type 0} → Parser A → List A → Parser (List A)
+comma_list_onto one found = λ i. comma_list_from one (length i) found i
 
-abbrev pub separated : {A : Type 0} → Parser A → Parser (List A)
-separated one = separated_onto one []
+abbrev pub comma_list : {A : Type 0} → Parser A → Parser (List A)
+comma_list one = comma_list_onto one []
 
 -- up to a closing symbol, before which a comma may stand
 unfoldable pub items_from : {A : Type 0} → Symbol → Parser A → ℕ → List A → Parser (List A)

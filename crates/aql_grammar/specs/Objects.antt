@@ -1,6 +1,6 @@
 -- How tokens spell a name that stands for a value, and an object literal (AQL fundamentals, Data
 -- types). `E` is the rule for expressions one bracket deeper; `inside` says whether the place is in
--- the FILTER or RETURN of an inline operator, where the word CURRENT is the element at hand.
+-- the FILTER or RETURN of an inline expression, where the word CURRENT is the element at hand.
 use Rattle.std.specs.Prelude.{ℕ, Bool, ◌&&◌, if◌then◌else◌, List, ◌∷◌, bytes_eq}
 use Rattle.std.specs.Prelude.{codes}
 use Rattle.aql_lex.specs.declared.kinds.TokenKind.TheVariants as k
@@ -8,7 +8,7 @@ use Rattle.aql_lex.specs.declared.vocabulary.Symbol.TheVariants as s
 use Rattle.aql_tree.specs.Tree.{ExprTree, current}
 use Rattle.aql_tree.specs.View.{MemberPart}
 use Rattle.aql_tree.specs.View as part
-use Rattle.aql_tree.specs.Made as e
+use Rattle.aql_tree.specs.Build as e
 use Rattle.aql_grammar.specs.Kinds.{Tokens}
 use Rattle.aql_grammar.specs.Spelling.{IsName, AreItems}
 

@@ -43,9 +43,9 @@ pub data IsOperator : Precedence → BinOp → Tokens → Tokens → Type 0 wher
   not_equal : {b : Tokens} → IsOperator level.Equality op.Ne (k.Symbol s.NotEqual ∷ b) b
   like : {b : Tokens} → IsOperator level.Equality op.Like (k.Keyword w.Like ∷ b) b
   not_like : {b : Tokens} → IsOperator level.Equality op.NotLike (k.Keyword w.Not ∷ k.Keyword w.Like ∷ b) b
-  and_sign : {b : Tokens} → IsOperator level.Conjunction op.And (k.Symbol s.And ∷ b) b
+  and_symbol : {b : Tokens} → IsOperator level.Conjunction op.And (k.Symbol s.And ∷ b) b
   and_word : {b : Tokens} → IsOperator level.Conjunction op.And (k.Keyword w.And ∷ b) b
-  or_sign : {b : Tokens} → IsOperator level.Disjunction op.Or (k.Symbol s.Or ∷ b) b
+  or_symbol : {b : Tokens} → IsOperator level.Disjunction op.Or (k.Symbol s.Or ∷ b) b
   or_word : {b : Tokens} → IsOperator level.Disjunction op.Or (k.Keyword w.Or ∷ b) b
 
 -- an operator that an array comparison may have
@@ -67,5 +67,5 @@ pub data IsQuantifier : QuantKind → Tokens → Tokens → Type 0 where
 pub data IsUnaryOperator : UnaryOp → Tokens → Tokens → Type 0 where
   plus : {b : Tokens} → IsUnaryOperator un.Plus (k.Symbol s.Plus ∷ b) b
   minus : {b : Tokens} → IsUnaryOperator un.Minus (k.Symbol s.Minus ∷ b) b
-  not_sign : {b : Tokens} → IsUnaryOperator un.Not (k.Symbol s.Not ∷ b) b
+  not_symbol : {b : Tokens} → IsUnaryOperator un.Not (k.Symbol s.Not ∷ b) b
   not_word : {b : Tokens} → IsUnaryOperator un.Not (k.Keyword w.Not ∷ b) b

@@ -15,12 +15,12 @@ use Rattle.aql_tree.specs.declared.syntax.QuantKind.{QuantKind}
 use Rattle.aql_tree.specs.declared.syntax.QuantKind.TheVariants as quant
 use Rattle.aql_tree.specs.declared.syntax.Direction.{Direction}
 use Rattle.aql_tree.specs.declared.syntax.Direction.TheVariants as direction
-use Rattle.aql_tree.specs.Tree.{ExprTree, ClauseTree, QueryTree, unary_of, range_of, subquery, keep_if}
+use Rattle.aql_tree.specs.Tree.{ExprTree, ClauseTree, QueryTree, unary_of, range_of, subquery, filter_by}
 use Rattle.aql_tree.specs.Tree as tree
 use Rattle.aql_tree.specs.View.{MemberPart, StepPart, LinkPart, KeyPart, sort, LetPart, AggregatePart}
-use Rattle.aql_tree.specs.View.{IntoPart, grouped, walked}
+use Rattle.aql_tree.specs.View.{IntoPart, collect_clause, traversal_clause}
 use Rattle.aql_tree.specs.View as part
-use Rattle.aql_tree.specs.Made as e
+use Rattle.aql_tree.specs.Build as e
 use Rattle.aql_grammar.specs.declared.precedence.Precedence.{Precedence}
 use Rattle.aql_grammar.specs.declared.precedence.Precedence.TheVariants as level
 use Rattle.aql_grammar.specs.contracts.precedence.Precedence as precedence
@@ -32,7 +32,7 @@ use Rattle.aql_grammar.specs.Clauses.{depth_number, says}
 use Rattle.aql_grammar.specs.Input.{Parser, ◌>>=◌, ◌>>◌, ◌<$>◌, pure, refuse, peek, look, head, next}
 use Rattle.aql_grammar.specs.Input.{at_front, sees, skip, eat, eat_keyword, eat_word, expect}
 use Rattle.aql_grammar.specs.Input.{expect_keyword, expect_word, name, is_name, natural, is_number, many}
-use Rattle.aql_grammar.specs.Input.{separated, separated_onto, items}
+use Rattle.aql_grammar.specs.Input.{comma_list, comma_list_onto, items}
 
 -- an unquoted name
 abbrev pub word_by : Option TokenKind → Parser (List ℕ)
@@ -197,7 +197,7 @@ begins_traversal i = if is_number (head i) then begins_after_number (next i) els
 
 -- ---- the parts of a traversal that hold no expression
 
-unfoldable pub traversal_names : Parser e.WalkNames
+unfoldable pub traversal_names : Parser e.TraversalNames
 traversal_names = do
   vertex ← name
   has_edge ← eat s.Comma
@@ -249,11 +249,11 @@ count_name = do
 
 unfoldable pub chain_of : ExprTree → List LinkPart → ExprTree
 chain_of first [] = first
-chain_of first (l ∷ ls) = e.linked first l ls
+chain_of first (l ∷ ls) = e.with_links first l ls
 
 unfoldable pub access_of : ExprTree → List StepPart → ExprTree
 access_of of [] = of
-access_of of (x ∷ xs) = e.stepped of x xs
+access_of of (x ∷ xs) = e.with_steps of x xs
 
 abbrev pub apply : {A : Type 0} → Option UnaryOp → (UnaryOp → Parser A) → Parser A → Parser A
 apply None f p = p
@@ -301,7 +301,7 @@ module _ (expr : Bool → Parser ExprTree) (inside : Bool) where
   assignment = do
     v ← name
     expect s.Assign
-    e.assigned v <$> expr inside
+    e.assignment v <$> expr inside
 
   unfoldable pub let_clause : Parser ClauseTree
   let_clause = do
@@ -332,21 +332,21 @@ module _ (expr : Bool → Parser ExprTree) (inside : Bool) where
     expect s.Assign
     f ← word
     expect s.OpenParen
-    e.aggregated v f <$> optional_argument
+    e.aggregate_as v f <$> optional_argument
 
   unfoldable pub aggregates : Parser (List AggregatePart)
   aggregates = do
     has_some ← eat_keyword w.Aggregate
-    if has_some then separated aggregate else pure []
+    if has_some then comma_list aggregate else pure []
 
   -- after `INTO`
   unfoldable pub into_part : Parser IntoPart
   into_part = do
     v ← name
     has_value ← eat s.Assign
-    if has_value then (do x ← expr inside; pure (e.into v (Some x) [])) else (do
+    if has_value then (do x ← expr inside; pure (e.collect_into v (Some x) [])) else (do
       keeps ← eat_word (codes "KEEP")
-      if keeps then e.into v None <$> separated name else pure (e.into v None []))
+      if keeps then e.collect_into v None <$> comma_list name else pure (e.collect_into v None []))
 
   unfoldable pub into : Parser (Option IntoPart)
   into = do
@@ -356,7 +356,7 @@ module _ (expr : Bool → Parser ExprTree) (inside : Bool) where
   unfoldable pub groups : Parser (List LetPart)
   groups = do
     t ← peek
-    if is_name t then separated assignment else pure []
+    if is_name t then comma_list assignment else pure []
 
   -- after `COLLECT`
   unfoldable pub collect : Parser ClauseTree
@@ -365,11 +365,11 @@ module _ (expr : Bool → Parser ExprTree) (inside : Bool) where
     counts ← eat_keyword w.With
     if counts then (do
       v ← count_name
-      pure (grouped (ls, e.aggregated v (codes "LENGTH") None ∷ [], None)))
+      pure (collect_clause (ls, e.aggregate_as v (codes "LENGTH") None ∷ [], None)))
         else (do
           gs ← aggregates
           i ← into
-          if says ls gs i then pure (grouped (ls, gs, i)) else refuse)
+          if says ls gs i then pure (collect_clause (ls, gs, i)) else refuse)
 
   unfoldable pub prune : Parser (Option ExprTree)
   prune = do
@@ -381,15 +381,15 @@ module _ (expr : Bool → Parser ExprTree) (inside : Bool) where
     has_some ← eat_word (codes "OPTIONS")
     if has_some then expect s.OpenBrace >> members else pure []
 
-  unfoldable pub traversal : e.WalkNames → Parser ClauseTree
+  unfoldable pub traversal : e.TraversalNames → Parser ClauseTree
   traversal names = do
     depth ← traversal_depth
     direction ← traversal_direction
     start ← expr inside
-    edges ← separated name
+    edges ← comma_list name
     p ← prune
     ms ← settings
-    pure (walked (e.traversal names depth.0 depth.1 direction start edges p ms))
+    pure (traversal_clause (e.traversal names depth.0 depth.1 direction start edges p ms))
 
   abbrev pub single_by : List ℕ → Option (List ℕ) → Parser ClauseTree
   single_by v None = e.for_in v <$> expr inside
@@ -408,10 +408,10 @@ module _ (expr : Bool → Parser ExprTree) (inside : Bool) where
 
   abbrev pub clause_by : List ClauseTree → Option TokenKind → Parser (List ClauseTree)
   clause_by found (Some (k.Keyword w.For)) = skip >> with_clause found <$> for_clause
-  clause_by found (Some (k.Keyword w.Filter)) = skip >> (λ x. with_clause found (keep_if x)) <$> expr inside
-  clause_by found (Some (k.Keyword w.Let)) = skip >> separated_onto let_clause found
+  clause_by found (Some (k.Keyword w.Filter)) = skip >> (λ x. with_clause found (filter_by x)) <$> expr inside
+  clause_by found (Some (k.Keyword w.Let)) = skip >> comma_list_onto let_clause found
   clause_by found (Some (k.Keyword w.Sort)) =
-      skip >> (λ ks. with_clause found (sort ks)) <$> separated sort_key
+      skip >> (λ ks. with_clause found (sort ks)) <$> comma_list sort_key
   clause_by found (Some (k.Keyword w.Limit)) = skip >> with_clause found <$> limit
   clause_by found (Some (k.Keyword w.Collect)) = skip >> with_clause found <$> collect
   clause_by found other = refuse
@@ -447,7 +447,7 @@ module _ (expr : Bool → Parser ExprTree) (inside : Bool) where
   unfoldable pub arguments : Parser (List ExprTree)
   arguments = do
     is_empty ← eat s.CloseParen
-    if is_empty then pure [] else (do found ← separated argument; expect s.CloseParen; pure found)
+    if is_empty then pure [] else (do found ← comma_list argument; expect s.CloseParen; pure found)
 
   -- after a word
   unfoldable pub call_or_name : List ℕ → Parser ExprTree
@@ -477,7 +477,7 @@ module _ (expr : Bool → Parser ExprTree) (inside : Bool) where
   unfoldable pub primary : Parser ExprTree
   primary = peek >>= primary_by
 
-  -- what a keyword introduces in an inline operator
+  -- what a keyword introduces in an inline expression
   unfoldable pub element : Keyword → Parser (Option ExprTree)
   element keyword = do
     has_some ← eat_keyword keyword
@@ -491,7 +491,7 @@ module _ (expr : Bool → Parser ExprTree) (inside : Bool) where
       filter ← element w.Filter
       project ← element w.Return
       expect s.CloseBracket
-      pure (part.each filter project))
+      pure (part.inline filter project))
         else (do
           x ← expr inside
           expect s.CloseBracket
@@ -547,7 +547,7 @@ array_comparison part = do
   if is_quantified then (do
     kind ← quantifier
     o ← comparison
-    tree.quantified left kind o <$> part)
+    tree.array_comparison left kind o <$> part)
       else pure left
 
 module _ (expr : Bool → Parser ExprTree) (inside : Bool) where
@@ -621,7 +621,7 @@ expr (suc depth) inside = conditional (expr depth) inside
 unfoldable pub top : ℕ → Parser QueryTree
 top fuel = do
   has_list ← eat_keyword w.With
-  if has_list then (do names ← separated name; query (expr fuel) false names) else query (expr fuel) false
+  if has_list then (do names ← comma_list name; query (expr fuel) false names) else query (expr fuel) false
       []
 
 abbrev pub at_end : Option (QueryTree × Tokens) → Option QueryTree

@@ -234,9 +234,9 @@ impl<'a> Cursor<'a> {
     }
 
     /// One or more names, with commas between.
-    #[tactic(auto, unfolding(crate::specs::Input::separated_onto, crate::specs::Input::separated_from))]
+    #[tactic(auto, unfolding(crate::specs::Input::comma_list_onto, crate::specs::Input::comma_list_from))]
     pub fn names(&mut self, alloc: Global) -> Result<Names, ParseFault>
-        ensures { Reads (input.separated input.name self.old) result self.new }
+        ensures { Reads (input.comma_list input.name self.old) result self.new }
     {
         let mut found = Seq::new(alloc);
         for _turn in 0..self.left() {

@@ -5,20 +5,20 @@ use Rattle.std.specs.Bool.{Decides}
 use Rattle.std.specs.Cmp.{unsigned_Decides}
 use Rattle.std.proofs.lemmas.Slice.Eq.{bytes_eq-Decides}
 use Rattle.std.specs.List.{list_any}
-use Rattle.aql_value.specs.Tree.{Tree}
+use Rattle.aql_value.specs.Datum.{Datum}
 use Rattle.aql_tree.specs.declared.syntax.Ident.{Ident}
 use Rattle.aql_tree.specs.declared.syntax.Ident.TheVariants.{Name, Num}
 use Rattle.aql_meaning.specs.Row.{Row, bind, same_ident}
 use Rattle.aql_meaning.specs.Visible.{sees}
-use Rattle.aql_lift.specs.Names.{Names, number_of, idents}
+use Rattle.aql_lift.specs.Numbering.{Numbering, number_of, idents}
 
 -- the value of a name that has this number, or no value
-abbrev pub AlikeAt : Row → Option ℕ → Option Tree → Type 0
+abbrev pub AlikeAt : Row → Option ℕ → Option Datum → Type 0
 AlikeAt s None o = o ≡ None
-AlikeAt s (Some k) o = (v : Tree) × (s (Num k) ≡ Some v) × (o ≡ Some v)
+AlikeAt s (Some k) o = (v : Datum) × (s (Num k) ≡ Some v) × (o ≡ Some v)
 
 -- s has under its number the value that r has under each visible name, and r has no others
-abbrev pub Alike : Names → Row → Row → Type 0
+abbrev pub Alike : Numbering → Row → Row → Type 0
 Alike names s r = (x : Ident) → AlikeAt s (number_of names x) (r x)
 
 abbrev pub BelowAt : ℕ → Option ℕ → Type 0
@@ -26,7 +26,7 @@ BelowAt n None = Unit {0}
 BelowAt n (Some k) = k < n
 
 -- the numbers of the visible names are below n
-abbrev pub Below : ℕ → Names → Type 0
+abbrev pub Below : ℕ → Numbering → Type 0
 Below n names = (x : Ident) → BelowAt n (number_of names x)
 
 same_answer : (a b : Bool) {P Q : Type 0} → Decides a P → Decides b Q → (P → Q) → (Q → P) → a ≡ b
@@ -52,28 +52,28 @@ same_ident_sym (Num k) (Name a) = refl
 same_ident_sym (Num k) (Num j) = same_answer _ _ (unsigned_Decides k j) (unsigned_Decides j k) sym sym
 
 -- a greater bound
-pub below_more : (n m : ℕ) (names : Names) → n ≤ m → Below n names → Below m names
+pub below_more : (n m : ℕ) (names : Numbering) → n ≤ m → Below n names → Below m names
 below_more n m names h b x = by (number_of names x) (b x)
   where
     by : (o : Option ℕ) → BelowAt n o → BelowAt m o
     by None l = tt
     by (Some k) l = omega arith
 
-pub below_bind : (n m : ℕ) (names : Names) (x : Ident) → n < m → Below n names → Below m ((x, n) ∷ names)
+pub below_bind : (n m : ℕ) (names : Numbering) (x : Ident) → n < m → Below n names → Below m ((x, n) ∷ names)
 below_bind n m names x h b y = by (same_ident x y)
   where
     by : (c : Bool) → BelowAt m (cond c (Some n) (number_of names y))
     by true = h
     by false = below_more n m names (omega arith) b y
 
-pub bind_at : (n k : ℕ) (s : Row) (v : Tree) → k < n → bind (Num n) s v (Num k) ≡ s (Num k)
+pub bind_at : (n k : ℕ) (s : Row) (v : Datum) → k < n → bind (Num n) s v (Num k) ≡ s (Num k)
 bind_at n k s v h = ap (λ (b : Bool). cond b (Some v) (s (Num k))) (num_apart n k h)
 
-pub bind_self : (n : ℕ) (s : Row) (v : Tree) → bind (Num n) s v (Num n) ≡ Some v
+pub bind_self : (n : ℕ) (s : Row) (v : Datum) → bind (Num n) s v (Num n) ≡ Some v
 bind_self n s v = ap (λ (b : Bool). cond b (Some v) (s (Num n))) (num_self n)
 
 -- a further number changes nothing
-pub alike_more : (names : Names) (n : ℕ) (s r : Row) (v : Tree) → Below n names → Alike names s r
+pub alike_more : (names : Numbering) (n : ℕ) (s r : Row) (v : Datum) → Below n names → Alike names s r
     → Alike names (bind (Num n) s v) r
 alike_more names n s r v b h x = by (number_of names x) (b x) (h x)
   where
@@ -82,7 +82,8 @@ alike_more names n s r v b h x = by (number_of names x) (b x) (h x)
     by (Some j) l k = (k.0, bind_at n j s v l ∙ k.1, k.2)
 
 -- a new variable, by its number and by its name
-pub alike_bind : (names : Names) (n : ℕ) (x : Ident) (s r : Row) (v : Tree) → Below n names → Alike names s r
+pub alike_bind : (names : Numbering) (n : ℕ) (x : Ident) (s r : Row) (v : Datum) → Below n names
+    → Alike names s r
     → Alike ((x, n) ∷ names) (bind (Num n) s v) (bind x r v)
 alike_bind names n x s r v b h y = by (same_ident x y)
   where
@@ -91,7 +92,7 @@ alike_bind names n x s r v b h y = by (same_ident x y)
     by false = alike_more names n s r v b h y
 
 -- a name has a number where it is one of the query's own or of the outer ones
-seen_append : (own outer : Names) (y : Ident) → is_some (number_of (own ++ outer) y)
+seen_append : (own outer : Numbering) (y : Ident) → is_some (number_of (own ++ outer) y)
     ≡ (list_any (same_ident y) (idents own) || is_some (number_of outer y))
 seen_append [] outer y = refl
 seen_append (v ∷ own) outer y =
@@ -108,7 +109,7 @@ seen_append (v ∷ own) outer y =
     by false h = h
 
 -- the written query sees the names that have a number
-pub sees_own : (own outer : Names) (s r : Row) → Alike outer s r → (x : Ident)
+pub sees_own : (own outer : Numbering) (s r : Row) → Alike outer s r → (x : Ident)
     → sees r (idents own) x ≡ is_some (number_of (own ++ outer) x)
 sees_own own outer s r a x =
     ap (λ (b : Bool). list_any (same_ident x) (idents own) || b) (by (number_of outer x) (a x))

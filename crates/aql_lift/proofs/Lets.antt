@@ -2,50 +2,50 @@
 use Rattle.std.proofs.Common.{◌≡◌, ◌∙◌, ℕ, suc, ◌<◌, List, [], ◌∷◌, ◌++◌, refl, ap, sym, subst, arith}
 use Rattle.std.specs.Prelude.{Some}
 use Rattle.std.specs.List.{AllZip}
-use Rattle.aql_value.specs.Tree.{Tree, null}
+use Rattle.aql_value.specs.Datum.{Datum, null}
 use Rattle.aql_value.specs.Parts.{list}
 use Rattle.aql_value.specs.Database.{Database}
 use Rattle.aql_tree.specs.declared.syntax.Ident.{Ident}
 use Rattle.aql_tree.specs.declared.syntax.Ident.TheVariants.{Num}
 use Rattle.aql_tree.specs.Tree.{subquery, ClauseTrees, no_clauses, clause_then}
 use Rattle.aql_meaning.specs.Row.{Row, bind}
-use Rattle.aql_meaning.specs.Clauses.{bound}
-use Rattle.aql_meaning.specs.Meaning.{Ev, Through, Answer}
-use Rattle.aql_lift.specs.Names.{Names}
-use Rattle.aql_lift.specs.Lifting.{Taken, with_lets, followed}
+use Rattle.aql_meaning.specs.Clauses.{with_values}
+use Rattle.aql_meaning.specs.Meaning.{Evaluates, Through, IsAnswer}
+use Rattle.aql_lift.specs.Numbering.{Numbering}
+use Rattle.aql_lift.specs.Lifting.{NumberedSubquery, with_lets, append_clauses}
 use Rattle.aql_lift.proofs.Alike.{Alike, Below, below_more, alike_more, bind_at, bind_self}
 use Rattle.aql_lift.proofs.Within.{Within}
 use Rattle.aql_lift.proofs.Lists.{zip_join}
 
 module _ (db : Database) where
   -- t is s with an answer of each
-  abbrev pub Ran : List Taken → Row → Row → Type 0
+  abbrev pub Ran : List NumberedSubquery → Row → Row → Type 0
   Ran [] s t = t ≡ s
-  Ran (u ∷ us) s t = (vs : List Tree) × Answer db u.1 s vs × Ran us (bind (Num u.0) s (list vs)) t
+  Ran (u ∷ us) s t = (vs : List Datum) × IsAnswer db u.1 s vs × Ran us (bind (Num u.0) s (list vs)) t
 
   -- t has an answer of this one, at some row that is like r
-  abbrev pub HeldOne : Taken → Names → Row → Row → Type 0
-  HeldOne u names t r = (vs : List Tree) × (s : Row)
-      × Alike names s r × Answer db u.1 s vs × (t (Num u.0) ≡ Some (list vs))
+  abbrev pub HeldOne : NumberedSubquery → Numbering → Row → Row → Type 0
+  HeldOne u names t r = (vs : List Datum) × (s : Row)
+      × Alike names s r × IsAnswer db u.1 s vs × (t (Num u.0) ≡ Some (list vs))
 
-  abbrev pub Held : List Taken → Names → Row → Row → Type 0
+  abbrev pub Held : List NumberedSubquery → Numbering → Row → Row → Type 0
   Held [] names t r = Unit {0}
   Held (u ∷ us) names t r = HeldOne u names t r × Held us names t r
 
   -- t is like r, and has an answer of each
-  abbrev pub Fits : List Taken → Names → Row → Row → Type 0
+  abbrev pub Fits : List NumberedSubquery → Numbering → Row → Row → Type 0
   Fits us names t r = Alike names t r × Held us names t r
 
-  held_split : (us ws : List Taken) (names : Names) (t r : Row) → Held (us ++ ws) names t r
+  held_split : (us ws : List NumberedSubquery) (names : Numbering) (t r : Row) → Held (us ++ ws) names t r
       → Held us names t r × Held ws names t r
   held_split [] ws names t r h = (tt, h)
   held_split (u ∷ us) ws names t r h = let k = held_split us ws names t r h.1 in ((h.0, k.0), k.1)
 
-  pub fits_split : (us ws : List Taken) (names : Names) (t r : Row) → Fits (us ++ ws) names t r
+  pub fits_split : (us ws : List NumberedSubquery) (names : Numbering) (t r : Row) → Fits (us ++ ws) names t r
       → Fits us names t r × Fits ws names t r
   fits_split us ws names t r h = let k = held_split us ws names t r h.1 in ((h.0, k.0), (h.0, k.1))
 
-  ran_keeps : (us : List Taken) (n m k : ℕ) (s t : Row) → Within n us m → k < n → Ran us s t
+  ran_keeps : (us : List NumberedSubquery) (n m k : ℕ) (s t : Row) → Within n us m → k < n → Ran us s t
       → t (Num k) ≡ s (Num k)
   ran_keeps [] n m k s t w l h = ap (λ (f : Row). f (Num k)) h
   ran_keeps (u ∷ us) n m k s t w l h =
@@ -53,7 +53,8 @@ module _ (db : Database) where
       ran_keeps us (suc u.0) m k (bind (Num u.0) s (list h.0)) t w.1 (omega arith) h.2
       ∙ bind_at u.0 k s (list h.0) (omega arith)
 
-  ran_fits : (us : List Taken) (names : Names) (n m : ℕ) (s t r : Row) → Below n names → Within n us m
+  ran_fits : (us : List NumberedSubquery) (names : Numbering) (n m : ℕ) (s t r : Row) → Below n names
+      → Within n us m
       → Alike names s r → Ran us s t → Fits us names t r
   ran_fits [] names n m s t r b w a h = (subst (λ (f : Row). Alike names f r) (sym h) a, tt)
   ran_fits (u ∷ us) names n m s t r b w a h =
@@ -66,7 +67,8 @@ module _ (db : Database) where
       (k.0, ((h.0, s, a, h.1, kept ∙ bind_self u.0 s (list h.0)), k.1))
 
   -- rows behind the LETs fit those that the rows before them are like
-  pub rans_fit : (us : List Taken) (names : Names) (n m : ℕ) (ss ts rs : List Row) → Below n names
+  pub rans_fit : (us : List NumberedSubquery) (names : Numbering) (n m : ℕ) (ss ts rs : List Row)
+      → Below n names
       → Within n us m → AllZip (Ran us) ss ts → AllZip (Alike names) ss rs → AllZip (Fits us names) ts rs
   rans_fit us names n m ss ts rs b w h a =
       zip_join (Ran us) (Alike names) (Fits us names) (λ s t r g i. ran_fits us names n m s t r b w i g)
@@ -76,8 +78,10 @@ module _ (db : Database) where
   ran_none [] = tt
   ran_none (s ∷ rows) = (refl, ran_none rows)
 
-  ran_first : (u : Taken) (us : List Taken) (rows : List Row) (vs : List Tree) (mids : List Row)
-      → AllZip (Ev db (subquery u.1) null) rows vs → AllZip (Ran us) (bound (Num u.0) rows vs) mids
+  ran_first : (u : NumberedSubquery) (us : List NumberedSubquery) (rows : List Row) (vs : List Datum)
+      (mids : List Row)
+      → AllZip (Evaluates db (subquery u.1) null) rows vs
+      → AllZip (Ran us) (with_values (Num u.0) rows vs) mids
       → AllZip (Ran (u ∷ us)) rows mids
   ran_first u us [] [] [] h k = tt
   ran_first u us [] [] (t ∷ mids) h k = absurd k
@@ -85,24 +89,24 @@ module _ (db : Database) where
   ran_first u us (s ∷ rows) [] mids h k = absurd h
   ran_first u us (s ∷ rows) (v ∷ vs) [] h k = absurd k
   ran_first u us (s ∷ rows) (v ∷ vs) (t ∷ mids) h k = (
-    (h.0.0, h.0.1, subst (λ (w : Tree). Ran us (bind (Num u.0) s w) t) h.0.2 k.0),
+    (h.0.0, h.0.1, subst (λ (w : Datum). Ran us (bind (Num u.0) s w) t) h.0.2 k.0),
     ran_first u us rows vs mids h.1 k.1,
   )
 
   -- the rows behind the LETs
-  pub through_lets : (us : List Taken) (cs : ClauseTrees) (start : Row) (vars : List Ident)
+  pub through_lets : (us : List NumberedSubquery) (cs : ClauseTrees) (start : Row) (vars : List Ident)
       (rows out : List Row) → Through db (with_lets us cs) start vars rows out
       → (behind : List Ident) × (mids : List Row) × AllZip (Ran us) rows mids
       × Through db cs start behind mids out
   through_lets [] cs start vars rows out h = (vars, rows, ran_none rows, h)
   through_lets (u ∷ us) cs start vars rows out h =
       let vs = h.1.0 in
-      let k = through_lets us cs start (Num u.0 ∷ vars) (bound (Num u.0) rows vs) out
+      let k = through_lets us cs start (Num u.0 ∷ vars) (with_values (Num u.0) rows vs) out
       (subst (λ (mid : List Row). Through db (with_lets us cs) start (Num u.0 ∷ vars) mid out) h.1.2 h.2) in
       (k.0, k.1, ran_first u us rows vs k.1 h.1.1 k.2, k.3)
 
   pub through_followed : (cs ds : ClauseTrees) (start : Row) (vars : List Ident) (rows out : List Row)
-      → Through db (followed cs ds) start vars rows out
+      → Through db (append_clauses cs ds) start vars rows out
       → (behind : List Ident) × (mid : List Row) × Through db cs start vars rows mid
       × Through db ds start behind mid out
   through_followed no_clauses ds start vars rows out h = (vars, rows, refl, h)

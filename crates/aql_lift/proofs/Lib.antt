@@ -3,10 +3,10 @@ pub mod Places
 pub mod Within
 pub mod Lists
 pub mod Lets
-pub mod Walks
+pub mod Traversals
 pub mod SameValues
 pub mod Rows
-pub mod Classes
+pub mod Groups
 pub mod Answers
 pub mod Computed
 pub mod LiftedIsPlain

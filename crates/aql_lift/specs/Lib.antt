@@ -1,4 +1,4 @@
-pub mod Names
+pub mod Numbering
 pub mod Lifting
 pub mod Prunes
 pub mod Theorem

@@ -1,18 +1,18 @@
 -- The queries in which no PRUNE has a subquery (Graphs, Traversals: pruning). PRUNE is asked at each path, so
 -- there is no clause before which its subquery could stand. Each definition asks this of all parts of a tree.
-use Rattle.aql_tree.specs.Tree.{ExprTree, listed, made, access, called, unary_of, chain, quantified, choice, range_of, subquery, ExprTrees, no_exprs, expr_then, MaybeExpr, no_expr, one_expr, MemberTrees, no_members, named_then, computed_then, StepTrees, no_steps, name_then, at_then, each_then, LinkTrees, no_links, link_then, ClauseTree, for_each, for_documents, for_paths, keep_if, define, sort_by, limit, collect, AggregateTrees, no_aggregates, aggregate_then, IntoTree, no_into, into, ClauseTrees, no_clauses, clause_then, QueryTree, query}
+use Rattle.aql_tree.specs.Tree.{ExprTree, array_literal, object_literal, access, function_call, unary_of, chain, array_comparison, ternary, range_of, subquery, ExprTrees, no_exprs, expr_then, MaybeExpr, no_expr, one_expr, MemberTrees, no_members, named_then, computed_then, StepTrees, no_steps, name_then, at_then, inline_then, LinkTrees, no_links, link_then, ClauseTree, for_each, for_documents, traversal, filter_by, let_be, sort_by, limit, collect, AggregateTrees, no_aggregates, aggregate_then, IntoTree, no_into, into, ClauseTrees, no_clauses, clause_then, QueryTree, query}
 use Rattle.aql_meaning.specs.Plain.{MaybePlain}
 
 abbrev mutual
   pub ExprPrunes : ExprTree → Type 0
-  ExprPrunes (listed es) = ExprsPrunes es
-  ExprPrunes (made ms) = MembersPrunes ms
+  ExprPrunes (array_literal es) = ExprsPrunes es
+  ExprPrunes (object_literal ms) = MembersPrunes ms
   ExprPrunes (access e ss) = ExprPrunes e × StepsPrunes ss
-  ExprPrunes (called name es) = ExprsPrunes es
+  ExprPrunes (function_call name es) = ExprsPrunes es
   ExprPrunes (unary_of op e) = ExprPrunes e
   ExprPrunes (chain e ls) = ExprPrunes e × LinksPrunes ls
-  ExprPrunes (quantified e kind op f) = ExprPrunes e × ExprPrunes f
-  ExprPrunes (choice test first other) = ExprPrunes test × MaybePrunes first × ExprPrunes other
+  ExprPrunes (array_comparison e kind op f) = ExprPrunes e × ExprPrunes f
+  ExprPrunes (ternary test first other) = ExprPrunes test × MaybePrunes first × ExprPrunes other
   ExprPrunes (range_of e f) = ExprPrunes e × ExprPrunes f
   ExprPrunes (subquery q) = PrunesPlain q
   ExprPrunes e = Unit {0}
@@ -34,7 +34,7 @@ abbrev mutual
   StepsPrunes no_steps = Unit {0}
   StepsPrunes (name_then name ss) = StepsPrunes ss
   StepsPrunes (at_then e ss) = ExprPrunes e × StepsPrunes ss
-  StepsPrunes (each_then filter gives ss) = MaybePrunes filter × MaybePrunes gives × StepsPrunes ss
+  StepsPrunes (inline_then filter gives ss) = MaybePrunes filter × MaybePrunes gives × StepsPrunes ss
 
   pub LinksPrunes : LinkTrees → Type 0
   LinksPrunes no_links = Unit {0}
@@ -51,9 +51,9 @@ abbrev mutual
   pub ClausePrunes : ClauseTree → Type 0
   ClausePrunes (for_each x e) = ExprPrunes e
   ClausePrunes (for_documents x name) = Unit {0}
-  ClausePrunes (for_paths w e names prune settings) = ExprPrunes e × MaybePlain prune
-  ClausePrunes (keep_if e) = ExprPrunes e
-  ClausePrunes (define x e) = ExprPrunes e
+  ClausePrunes (traversal w e names prune settings) = ExprPrunes e × MaybePlain prune
+  ClausePrunes (filter_by e) = ExprPrunes e
+  ClausePrunes (let_be x e) = ExprPrunes e
   ClausePrunes (sort_by directions es) = ExprsPrunes es
   ClausePrunes (limit offset count) = Unit {0}
   ClausePrunes (collect xs es gs i) = ExprsPrunes es × AggregatesPrunes gs × IntoPrunes i

@@ -5,17 +5,17 @@ use Rattle.std.specs.Prelude.{ℕ, ◌≡◌, List, [], ◌∷◌, map, Some, No
 use Prim.Native.String.{String}
 use Rattle.aql_tree.specs.declared.syntax.Ident.TheVariants.{Num}
 use Rattle.aql_tree.specs.declared.syntax.Direction.TheVariants.{Outbound}
-use Rattle.aql_tree.specs.Tree.{WalkShape, ExprTree, variable, range_of, subquery, ClauseTree, for_each, for_documents, keep_if, define, QueryTree}
-use Rattle.aql_tree.specs.Made as made
-use Rattle.aql_tree.specs.View.{named, grouped, walked}
+use Rattle.aql_tree.specs.Tree.{TraversalShape, ExprTree, variable, range_of, subquery, ClauseTree, for_each, for_documents, filter_by, let_be, QueryTree}
+use Rattle.aql_tree.specs.Build as build
+use Rattle.aql_tree.specs.View.{named, collect_clause, traversal_clause}
 use Rattle.aql_meaning.specs.worked.Words.{int, txt, var, dot, for, set, agg, returning}
 use Rattle.aql_meaning.specs.worked.Expressions.{items}
-use Rattle.aql_lift.specs.Lifting.{scoped}
+use Rattle.aql_lift.specs.Lifting.{scope_query}
 
 -- the query becomes this one, and these are the names of the numbers from 1 on
 pub record Becomes (written with_numbers : QueryTree) (names : List String) : Type 0 where
-  pub tree : (scoped [] 1 written).tree ≡ with_numbers
-  pub said : (scoped [] 1 written).said ≡ map (λ (name : String). codes name) names
+  pub tree : (scope_query [] 1 written).tree ≡ with_numbers
+  pub said : (scope_query [] 1 written).said ≡ map (λ (name : String). codes name) names
 
 -- ---- parts with numbers
 
@@ -26,7 +26,7 @@ abbrev pub for_nth : ℕ → ExprTree → ClauseTree
 for_nth n e = for_each (Num n) e
 
 abbrev pub set_nth : ℕ → ExprTree → ClauseTree
-set_nth n e = define (Num n) e
+set_nth n e = let_be (Num n) e
 
 -- ---- parts of the queries
 
@@ -39,25 +39,26 @@ inner_nth x y = subquery (returning (for_nth y (nth x) ∷ []) (nth y))
 
 -- `COLLECT k = e`, and `COLLECT INTO g`
 abbrev pub by_key : ExprTree → ClauseTree
-by_key e = grouped (made.assigned (codes "k") e ∷ [], [], None)
+by_key e = collect_clause (build.assignment (codes "k") e ∷ [], [], None)
 
 abbrev pub all_into : ClauseTree
-all_into = grouped ([], [], Some (made.into (codes "g") None []))
+all_into = collect_clause ([], [], Some (build.collect_into (codes "g") None []))
 
 -- the same with numbers, where INTO has its expression
 abbrev pub by_nth : ℕ → ExprTree → ClauseTree
-by_nth n e = grouped ((Num n, e) ∷ [], [], None)
+by_nth n e = collect_clause ((Num n, e) ∷ [], [], None)
 
 abbrev pub into_nth : ℕ → ExprTree → ClauseTree
-into_nth n e = grouped ([], [], Some (Num n, Some e, []))
+into_nth n e = collect_clause ([], [], Some (Num n, Some e, []))
 
 -- `FOR v, e, p IN 1..2 OUTBOUND start edges PRUNE prune`
 abbrev pub path_over : ExprTree → ExprTree → ClauseTree
 path_over start prune =
-    walked (made.traversal (record { vertex = codes "v"; edge = Some (codes "e"); path = Some (codes "p") })
+    traversal_clause
+    (build.traversal (record { vertex = codes "v"; edge = Some (codes "e"); path = Some (codes "p") })
     1 2 Outbound start (codes "edges" ∷ []) (Some prune) [])
 
-abbrev pub path_shape : ℕ → ℕ → ℕ → WalkShape
+abbrev pub path_shape : ℕ → ℕ → ℕ → TraversalShape
 path_shape v e p = record {
   vertex = Num v;
   edge = Some (Num e);
@@ -65,15 +66,15 @@ path_shape v e p = record {
   min = 1;
   max = 2;
   direction = Outbound;
-  options = made.default_options;
+  options = build.default_options;
 }
 
 pub record WorkedQueries : Type 0 where
   -- FOR x IN docs FILTER (FOR y IN x RETURN y) LET z = (FOR y IN x RETURN y)
   -- RETURN [(FOR y IN x RETURN y), z]
   pub each_in_its_let : Becomes
-      (returning (for "x" (var "docs") ∷ keep_if inner ∷ set "z" inner ∷ []) (items (inner ∷ var "z" ∷ [])))
-      (returning (for_documents (Num 1) (codes "docs") ∷ set_nth 2 (inner_nth 1 3) ∷ keep_if (nth 2)
+      (returning (for "x" (var "docs") ∷ filter_by inner ∷ set "z" inner ∷ []) (items (inner ∷ var "z" ∷ [])))
+      (returning (for_documents (Num 1) (codes "docs") ∷ set_nth 2 (inner_nth 1 3) ∷ filter_by (nth 2)
       ∷ set_nth 4 (inner_nth 1 5) ∷ set_nth 6 (inner_nth 1 7) ∷ []) (items (nth 6 ∷ nth 4 ∷ [])))
       ("x" ∷ "sub" ∷ "y" ∷ "z" ∷ "y" ∷ "sub" ∷ "y" ∷ [])
   -- RETURN (RETURN (RETURN 1))
@@ -100,17 +101,17 @@ pub record WorkedQueries : Type 0 where
   -- FOR x IN 1..3 LET y = 4 COLLECT k = x AGGREGATE s = SUM(y) INTO g RETURN [k, s, g]
   pub grouped_with_all : Becomes
       (returning (for "x" (range_of (int 1) (int 3)) ∷ set "y" (int 4)
-      ∷ grouped (
-        made.assigned (codes "k") (var "x") ∷ [],
+      ∷ collect_clause (
+        build.assignment (codes "k") (var "x") ∷ [],
         agg "s" "SUM" (Some (var "y")) ∷ [],
-        Some (made.into (codes "g") None []),
+        Some (build.collect_into (codes "g") None []),
       ) ∷ [])
       (items (var "k" ∷ var "s" ∷ var "g" ∷ [])))
       (returning (for_nth 1 (range_of (int 1) (int 3)) ∷ set_nth 2 (int 4)
-      ∷ grouped (
+      ∷ collect_clause (
         (Num 3, nth 1) ∷ [],
         (Num 4, codes "SUM", Some (nth 2)) ∷ [],
-        Some (Num 5, Some (made.object (named (codes "x") (nth 1) ∷ named (codes "y") (nth 2) ∷ [])), []),
+        Some (Num 5, Some (build.object (named (codes "x") (nth 1) ∷ named (codes "y") (nth 2) ∷ [])), []),
       ) ∷ [])
       (items (nth 3 ∷ nth 4 ∷ nth 5 ∷ [])))
       ("x" ∷ "y" ∷ "k" ∷ "s" ∷ "g" ∷ [])
@@ -119,7 +120,7 @@ pub record WorkedQueries : Type 0 where
       (returning (for "o" (var "c") ∷ set "z" (subquery (returning (for "x" (var "o") ∷ all_into ∷ [])
       (items (var "o" ∷ var "g" ∷ [])))) ∷ []) (var "z"))
       (returning (for_documents (Num 1) (codes "c") ∷ set_nth 2 (subquery (returning (for_nth 3 (nth 1)
-      ∷ into_nth 4 (made.object (named (codes "x") (nth 3) ∷ [])) ∷ []) (items (nth 1 ∷ nth 4 ∷ [])))) ∷ [])
+      ∷ into_nth 4 (build.object (named (codes "x") (nth 3) ∷ [])) ∷ []) (items (nth 1 ∷ nth 4 ∷ [])))) ∷ [])
       (nth 2))
       ("o" ∷ "z" ∷ "x" ∷ "g" ∷ [])
   -- FOR x IN 1..3 COLLECT k = x FOR z IN x RETURN z, where x is a collection after COLLECT
@@ -132,5 +133,6 @@ pub record WorkedQueries : Type 0 where
   pub names_of_path : Becomes
       (returning (set "s" (txt "a/1") ∷ path_over (var "s") (dot (var "v") "end") ∷ []) (var "p"))
       (returning (set_nth 1 (txt "a/1")
-      ∷ walked (path_shape 2 3 4, nth 1, codes "edges" ∷ [], Some (dot (nth 2) "end"), []) ∷ []) (nth 4))
+      ∷ traversal_clause (path_shape 2 3 4, nth 1, codes "edges" ∷ [], Some (dot (nth 2) "end"), []) ∷ [])
+      (nth 4))
       ("s" ∷ "v" ∷ "e" ∷ "p" ∷ [])

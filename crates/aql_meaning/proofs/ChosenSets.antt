@@ -3,17 +3,17 @@ use Rattle.std.proofs.Common.{◌≡◌, ◌∙◌, refl, sym, ap, subst, ℕ, �
 use Rattle.std.specs.Prelude.{bytes_eq, nat_le}
 use Rattle.std.specs.List.{list_all, list_any}
 use Rattle.std.proofs.lemmas.Slice.Eq.{bytes_eq-Decides}
-use Rattle.aql_value.specs.Tree.{Tree}
-use Rattle.aql_tree.specs.Tree.{WalkShape}
-use Rattle.aql_meaning.specs.Paths.{EdgeStep, Path, steps_from, end_of, empty_path, extended, IsIn, is_reached, Apart, IsBuilt, IsChosen}
+use Rattle.aql_value.specs.Datum.{Datum}
+use Rattle.aql_tree.specs.Tree.{TraversalShape}
+use Rattle.aql_meaning.specs.Paths.{EdgeStep, Path, steps_from, end_of, empty_path, extension, IsIn, is_reached, AreApart, IsBuilt, IsChosen}
 
-module _ (w : WalkShape) (es : List Tree) (pruned : Path → Bool) (start : List ℕ) (max : ℕ) where
+module _ (w : TraversalShape) (es : List Datum) (pruned : Path → Bool) (start : List ℕ) (max : ℕ) where
   -- all but what the set must reach
   pub record Made (T : List Path) : Type 0 where
     pub holds_empty : IsIn (empty_path start) T
     pub built : (p : Path) → IsIn p T → IsBuilt w es pruned start T p
     pub short : (p : Path) → IsIn p T → length p.steps ≤ max
-    pub apart : Apart T
+    pub apart : AreApart T
 
   pub only_start : Made (empty_path start ∷ [])
   only_start = record {
@@ -33,17 +33,17 @@ module _ (w : WalkShape) (es : List Tree) (pruned : Path → Bool) (start : List
 
   pub one_more : (T : List Path) (t : Path) (s : EdgeStep) → Made T → IsIn t T → pruned t ≡ false
       → IsIn s (steps_from w.direction es (end_of t)) → length t.steps + 1 ≤ max → is_reached s.to T ≡ false
-      → Made (extended t s ∷ T)
+      → Made (extension t s ∷ T)
   one_more T t s m i f e l r = record {
     holds_empty = inr m.holds_empty;
     built =
         λ p. elim [
           | inl h ↦ inr (t, s, h, inr i, f, e)
-          | inr h ↦ built_more (extended t s) p T (m.built p h)
+          | inr h ↦ built_more (extension t s) p T (m.built p h)
         ];
     short = λ p. elim [
       | inl h ↦ subst (λ (q : Path). length q.steps ≤ max) (sym h)
-          (let k : length (extended t s).steps ≤ max =
+          (let k : length (extension t s).steps ≤ max =
           omega arith in k)
       | inr h ↦ m.short p h
     ];

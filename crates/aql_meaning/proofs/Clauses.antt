@@ -1,14 +1,14 @@
 -- The worked clauses: most are computed; where another order is an answer too, the order is given.
 use Rattle.std.proofs.Common.{refl, List, [], ◌∷◌, false, true}
 use Rattle.std.specs.Prelude.{codes}
-use Rattle.aql_value.specs.Tree.{Tree}
+use Rattle.aql_value.specs.Datum.{Datum}
 use Rattle.aql_value.specs.Parts.{list}
 use Rattle.aql_tree.specs.declared.syntax.Ident.TheVariants.{Name}
 use Rattle.aql_tree.specs.Tree.{subquery, limit, range_of}
 use Rattle.aql_tree.specs.View.{clauses, sort, at}
-use Rattle.aql_tree.specs.Made as made
+use Rattle.aql_tree.specs.Build as build
 use Rattle.aql_meaning.specs.Row.{Row, empty_row, bind}
-use Rattle.aql_meaning.specs.Meaning.{Changes, Answer}
+use Rattle.aql_meaning.specs.Meaning.{Changes, IsAnswer}
 use Rattle.aql_meaning.specs.laws.SomeAnswer.{some_answer}
 use Rattle.aql_meaning.specs.laws.Shuffles.{skip, flip, permutes}
 use Rattle.aql_meaning.specs.worked.Words.{num, str, attr, document, int, var, dot, for, set, returning}
@@ -18,35 +18,35 @@ use Rattle.aql_meaning.proofs.Computed.{computed}
 use Rattle.aql_meaning.proofs.Orders.{answer_behind, in_any_order}
 
 -- the row with a document of A
-abbrev at_a : Tree → Row
+abbrev at_a : Datum → Row
 at_a d = bind (Name (codes "a")) empty_row d
 
-abbrev p : Tree
+abbrev p : Datum
 p = document "A/p" "p" []
 
-abbrev q : Tree
+abbrev q : Datum
 q = document "A/q" "q" []
 
 q_first : Changes a_and_b (for "a" (var "A")) empty_row [] (empty_row ∷ []) (at_a q ∷ at_a p ∷ [])
 q_first = permutes (flip (at_a p) (at_a q) [])
 
-key_q : Answer a_and_b (returning (for "a" (var "A") ∷ limit 0 1 ∷ []) (dot (var "a") "_key")) empty_row
+key_q : IsAnswer a_and_b (returning (for "a" (var "A") ∷ limit 0 1 ∷ []) (dot (var "a") "_key")) empty_row
     (str "q" ∷ [])
 key_q =
     (answer_behind a_and_b [] (for "a" (var "A")) (clauses (limit 0 1 ∷ [])) false
     (dot (var "a") "_key") empty_row
     (at_a q ∷ at_a p ∷ []) q_first).1
 
-pairs_q : Answer a_and_b one_of_a empty_row
+pairs_q : IsAnswer a_and_b one_of_a empty_row
     (list (str "q" ∷ str "u" ∷ []) ∷ list (str "q" ∷ str "v" ∷ []) ∷ list (str "q" ∷ str "w" ∷ []) ∷ [])
 pairs_q = (answer_behind a_and_b [] (for "a" (var "A")) (clauses (limit 0 1 ∷ for "b" (var "B") ∷ [])) false
     (items (dot (var "a") "_key" ∷ dot (var "b") "_key" ∷ [])) empty_row (at_a q ∷ at_a p ∷ []) q_first).1
 
 -- the row with a document of c
-abbrev at_x : Tree → Row
+abbrev at_x : Datum → Row
 at_x d = bind (Name (codes "x")) empty_row d
 
-abbrev of_c : Tree → Tree → Tree → Tree → List Row
+abbrev of_c : Datum → Datum → Datum → Datum → List Row
 of_c d e f g = at_x d ∷ at_x e ∷ at_x f ∷ at_x g ∷ []
 
 pub worked_clauses : WorkedClauses
@@ -59,7 +59,7 @@ worked_clauses = record {
     answer = (answer_behind a_and_b []
         (set "x" (subquery (returning (for "a" (var "A") ∷ limit 0 1 ∷ []) (dot (var "a") "_key"))))
         (clauses (for "i" (range_of (int 1) (int 3)) ∷ [])) false
-        (made.stepped (var "x") (at (int 0)) []) empty_row
+        (build.with_steps (var "x") (at (int 0)) []) empty_row
         (bind (Name (codes "x")) empty_row (list (str "q" ∷ [])) ∷ [])
         (list (str "q" ∷ []) ∷ [], ((str "q" ∷ [], key_q, refl), tt), refl)).1;
   };

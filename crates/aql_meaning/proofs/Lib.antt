@@ -3,9 +3,9 @@ pub mod Orders
 pub mod Expressions
 pub mod Clauses
 pub mod ChosenSets
-pub mod Walks
+pub mod Traversals
 pub mod Fixed
 pub mod Absent
 pub mod RefutedClauses
-pub mod RefutedWalks
+pub mod RefutedTraversals
 pub mod Refuted

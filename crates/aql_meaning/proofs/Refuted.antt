@@ -1,7 +1,7 @@
 -- Lists that are no answers.
 use Rattle.aql_meaning.specs.worked.Refuted.{RefutedAnswers}
 use Rattle.aql_meaning.proofs.RefutedClauses.{last_kept, not_sorted, document_twice, document_left_out, member_left_out, evaluated_again}
-use Rattle.aql_meaning.proofs.RefutedWalks.{beyond_prune, later_depth, two_paths, vertex_left_out, beyond_pruned_b}
+use Rattle.aql_meaning.proofs.RefutedTraversals.{beyond_prune, later_depth, two_paths, vertex_left_out, beyond_pruned_b}
 
 pub refuted_answers : RefutedAnswers
 refuted_answers = record {

@@ -1,9 +1,9 @@
--- What expressions without a subquery say of rows, outside of inline operators (AQL's high-level
+-- What expressions without a subquery say of rows, outside of inline expressions (AQL's high-level
 -- operations): a value of each row, the keys by which SORT compares two rows, whether a filter lets a row
 -- pass, and whether a traversal stops after a path (Graphs, Traversals: pruning).
 use Rattle.std.specs.Prelude.{List, map, Bool, true, false}
 use Rattle.std.specs.Ordering.{is_lt}
-use Rattle.aql_value.specs.Tree.{Tree, null, boolean}
+use Rattle.aql_value.specs.Datum.{Datum, null, boolean}
 use Rattle.aql_value.specs.Truth.{truth}
 use Rattle.aql_tree.specs.Tree.{ExprTree, ExprTrees, MaybeExpr}
 use Rattle.aql_meaning.specs.Row.{Row}
@@ -11,14 +11,14 @@ use Rattle.aql_meaning.specs.Value.{value, values, value_or}
 use Rattle.aql_meaning.specs.Clauses.{keys_cmp}
 
 -- the value of an expression at a row, and at each row
-abbrev pub value_of : ExprTree → Row → Tree
+abbrev pub value_of : ExprTree → Row → Datum
 value_of e row = value e null row
 
-abbrev pub values_of : ExprTree → List Row → List Tree
+abbrev pub values_of : ExprTree → List Row → List Datum
 values_of e rows = map (value_of e) rows
 
 -- the values of several expressions at a row
-abbrev pub keys_of : ExprTrees → Row → List Tree
+abbrev pub keys_of : ExprTrees → Row → List Datum
 keys_of es row = values es null row
 
 -- a row comes before another by these keys

@@ -4,7 +4,7 @@
 use Rattle.std.specs.Prelude.{ℕ, ◌≡◌, List, [], map, Bool, not, ◌&&◌}
 use Rattle.std.specs.Bool.{MatchBool}
 use Rattle.std.specs.List.{list_any, list_all}
-use Rattle.aql_value.specs.Tree.{Tree, boolean}
+use Rattle.aql_value.specs.Datum.{Datum, boolean}
 use Rattle.aql_value.specs.Parts.{record_of, elements}
 use Rattle.aql_value.specs.Truth.{truth}
 use Rattle.aql_func.specs.declared.operators.BinOp.{BinOp}
@@ -22,16 +22,16 @@ holds_for Any answers = list_any (λ b. b) answers
 holds_for None answers = not (list_any (λ b. b) answers)
 
 -- `a ALL op b`, `a ANY op b`, `a NONE op b`: each element of a against b; false where a isn't an array
-abbrev pub quantify : QuantKind → BinOp → Tree → Tree → Tree
+abbrev pub quantify : QuantKind → BinOp → Datum → Datum → Datum
 quantify kind op a b =
     boolean (is_array a && holds_for kind (map (λ element. truth (binary op element b)) (elements a)))
 
 -- an object literal of these members: a repeated name keeps its last value
-abbrev pub object_literal : List (List ℕ × Tree) → Tree
-object_literal members = record_of (with_all [] members)
+abbrev pub object_value : List (List ℕ × Datum) → Datum
+object_value members = record_of (with_all [] members)
 
 -- `a op e` gives v, where `Right` says which values e has: `&&` and `||` look at e only where they need it
-abbrev pub Linked : BinOp → (Tree → Type 0) → Tree → Tree → Type 0
-Linked And Right a v = MatchBool (truth a) (Right v) (v ≡ a)
-Linked Or Right a v = MatchBool (truth a) (v ≡ a) (Right v)
-Linked op Right a v = (b : Tree) × Right b × (v ≡ binary op a b)
+abbrev pub LinkGives : BinOp → (Datum → Type 0) → Datum → Datum → Type 0
+LinkGives And Right a v = MatchBool (truth a) (Right v) (v ≡ a)
+LinkGives Or Right a v = MatchBool (truth a) (v ≡ a) (Right v)
+LinkGives op Right a v = (b : Datum) × Right b × (v ≡ binary op a b)

@@ -2,7 +2,7 @@
 -- side of a LET, and is such a query itself. No single name stands after IN, since a FOR over a collection is
 -- a clause of its own; the options of a traversal are read; INTO has its expression.
 use Rattle.aql_tree.specs.declared.syntax.Ident.TheVariants.{Name}
-use Rattle.aql_tree.specs.Tree.{ExprTree, variable, subquery, no_expr, one_expr, MemberTrees, no_members, ClauseTree, for_each, for_documents, for_paths, keep_if, define, sort_by, limit, collect, AggregateTrees, no_aggregates, aggregate_then, IntoTree, no_into, into, ClauseTrees, no_clauses, clause_then, QueryTree, query}
+use Rattle.aql_tree.specs.Tree.{ExprTree, variable, subquery, no_expr, one_expr, MemberTrees, no_members, ClauseTree, for_each, for_documents, traversal, filter_by, let_be, sort_by, limit, collect, AggregateTrees, no_aggregates, aggregate_then, IntoTree, no_into, into, ClauseTrees, no_clauses, clause_then, QueryTree, query}
 use Rattle.aql_meaning.specs.Plain.{IsPlain, AllPlain, MaybePlain}
 
 -- the expression is no single name, which after IN may mean a collection
@@ -27,10 +27,10 @@ abbrev mutual
   pub ClauseLifted : ClauseTree → Type 0
   ClauseLifted (for_each x e) = IsPlain e × IsNoName e
   ClauseLifted (for_documents x name) = Unit {0}
-  ClauseLifted (for_paths w e names prune settings) = IsPlain e × MaybePlain prune × NoSettings settings
-  ClauseLifted (keep_if e) = IsPlain e
-  ClauseLifted (define x (subquery q)) = IsLifted q
-  ClauseLifted (define x e) = IsPlain e
+  ClauseLifted (traversal w e names prune settings) = IsPlain e × MaybePlain prune × NoSettings settings
+  ClauseLifted (filter_by e) = IsPlain e
+  ClauseLifted (let_be x (subquery q)) = IsLifted q
+  ClauseLifted (let_be x e) = IsPlain e
   ClauseLifted (sort_by directions es) = AllPlain es
   ClauseLifted (limit offset count) = Unit {0}
   ClauseLifted (collect xs es aggregates i) = AllPlain es × AggregatesPlain aggregates × IntoPlain i

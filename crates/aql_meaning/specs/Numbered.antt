@@ -5,7 +5,7 @@ use Rattle.std.specs.Prelude.{suc, List, [], ◌++◌}
 use Rattle.std.specs.List.{AllByRecursion}
 use Rattle.aql_tree.specs.declared.syntax.Ident.{Ident}
 use Rattle.aql_tree.specs.declared.syntax.Ident.TheVariants.{Num}
-use Rattle.aql_tree.specs.Tree.{subquery, ClauseTree, for_each, for_documents, for_paths, keep_if, define, sort_by, limit, collect, ClauseTrees, no_clauses, clause_then, QueryTree, query}
+use Rattle.aql_tree.specs.Tree.{subquery, ClauseTree, for_each, for_documents, traversal, filter_by, let_be, sort_by, limit, collect, ClauseTrees, no_clauses, clause_then, QueryTree, query}
 use Rattle.aql_meaning.specs.Visible.{vars_after}
 use Rattle.aql_meaning.specs.Uses.{Use, Uses, used_variable, uses, all_uses, maybe_uses, aggregate_uses, into_uses}
 
@@ -21,16 +21,16 @@ UsesNumbers us = AllByRecursion (λ (u : Use). IsNumber (used_variable u)) us
 abbrev pub clause_uses : ClauseTree → Uses
 clause_uses (for_each x e) = uses e
 clause_uses (for_documents x name) = []
-clause_uses (for_paths w e names prune settings) = uses e ++ maybe_uses prune
-clause_uses (keep_if e) = uses e
-clause_uses (define x e) = uses e
+clause_uses (traversal w e names prune settings) = uses e ++ maybe_uses prune
+clause_uses (filter_by e) = uses e
+clause_uses (let_be x e) = uses e
 clause_uses (sort_by directions es) = all_uses es
 clause_uses (limit offset count) = []
 clause_uses (collect xs es aggregates i) = all_uses es ++ (aggregate_uses aggregates ++ into_uses i)
 
 abbrev mutual
   pub ClauseNumbered : ClauseTree → Type 0
-  ClauseNumbered (define x (subquery q)) = IsNumber x × IsNumbered q
+  ClauseNumbered (let_be x (subquery q)) = IsNumber x × IsNumbered q
   ClauseNumbered c = AllByRecursion IsNumber (vars_after c []) × UsesNumbers (clause_uses c)
 
   pub ClausesNumbered : ClauseTrees → Type 0

@@ -1,14 +1,14 @@
 -- Places in a tree: q at each place where the variable x stands, also within subqueries and whatever x
 -- means there. So a tree with x at some place and nowhere else is a tree with a place for an expression.
 use Rattle.std.specs.Prelude.{◌≡◌, List, cond}
-use Rattle.aql_value.specs.Tree.{Tree}
+use Rattle.aql_value.specs.Datum.{Datum}
 use Rattle.aql_value.specs.Database.{Database}
 use Rattle.aql_tree.specs.declared.syntax.Ident.{Ident}
-use Rattle.aql_tree.specs.Tree.{ExprTree, literal, variable, current, listed, made, access, called, unary_of, chain, quantified, choice, range_of, subquery, ExprTrees, no_exprs, expr_then, MaybeExpr, no_expr, one_expr, MemberTrees, no_members, named_then, computed_then, StepTrees, no_steps, name_then, at_then, each_then, LinkTrees, no_links, link_then, ClauseTree, for_each, for_documents, for_paths, keep_if, define, sort_by, limit, collect, AggregateTrees, no_aggregates, aggregate_then, IntoTree, no_into, into, ClauseTrees, no_clauses, clause_then, QueryTree, query}
+use Rattle.aql_tree.specs.Tree.{ExprTree, literal, variable, current, array_literal, object_literal, access, function_call, unary_of, chain, array_comparison, ternary, range_of, subquery, ExprTrees, no_exprs, expr_then, MaybeExpr, no_expr, one_expr, MemberTrees, no_members, named_then, computed_then, StepTrees, no_steps, name_then, at_then, inline_then, LinkTrees, no_links, link_then, ClauseTree, for_each, for_documents, traversal, filter_by, let_be, sort_by, limit, collect, AggregateTrees, no_aggregates, aggregate_then, IntoTree, no_into, into, ClauseTrees, no_clauses, clause_then, QueryTree, query}
 use Rattle.aql_meaning.specs.Row.{Row, same_ident}
 use Rattle.aql_meaning.specs.Value.{value}
 use Rattle.aql_meaning.specs.Visible.{collection_meant}
-use Rattle.aql_meaning.specs.Meaning.{Ev}
+use Rattle.aql_meaning.specs.Meaning.{Evaluates}
 
 module _ (x : Ident) (q : ExprTree) where
   abbrev mutual
@@ -16,14 +16,14 @@ module _ (x : Ident) (q : ExprTree) where
     put (literal v) = literal v
     put (variable y) = cond (same_ident x y) q (variable y)
     put current = current
-    put (listed es) = listed (put_all es)
-    put (made ms) = made (put_members ms)
+    put (array_literal es) = array_literal (put_all es)
+    put (object_literal ms) = object_literal (put_members ms)
     put (access e ss) = access (put e) (put_steps ss)
-    put (called name es) = called name (put_all es)
+    put (function_call name es) = function_call name (put_all es)
     put (unary_of op e) = unary_of op (put e)
     put (chain e ls) = chain (put e) (put_links ls)
-    put (quantified a kind op b) = quantified (put a) kind op (put b)
-    put (choice test first other) = choice (put test) (put_maybe first) (put other)
+    put (array_comparison a kind op b) = array_comparison (put a) kind op (put b)
+    put (ternary test first other) = ternary (put test) (put_maybe first) (put other)
     put (range_of a b) = range_of (put a) (put b)
     put (subquery s) = subquery (put_query s)
 
@@ -44,7 +44,7 @@ module _ (x : Ident) (q : ExprTree) where
     put_steps no_steps = no_steps
     put_steps (name_then name ss) = name_then name (put_steps ss)
     put_steps (at_then e ss) = at_then (put e) (put_steps ss)
-    put_steps (each_then filter gives ss) = each_then (put_maybe filter) (put_maybe gives) (put_steps ss)
+    put_steps (inline_then filter gives ss) = inline_then (put_maybe filter) (put_maybe gives) (put_steps ss)
 
     pub put_links : LinkTrees → LinkTrees
     put_links no_links = no_links
@@ -54,9 +54,9 @@ module _ (x : Ident) (q : ExprTree) where
     pub put_clause : ClauseTree → ClauseTree
     put_clause (for_each y e) = for_each y (put e)
     put_clause (for_documents y name) = for_documents y name
-    put_clause (for_paths w e names prune settings) = for_paths w (put e) names (put_maybe prune) settings
-    put_clause (keep_if e) = keep_if (put e)
-    put_clause (define y e) = define y (put e)
+    put_clause (traversal w e names prune settings) = traversal w (put e) names (put_maybe prune) settings
+    put_clause (filter_by e) = filter_by (put e)
+    put_clause (let_be y e) = let_be y (put e)
     put_clause (sort_by directions es) = sort_by directions (put_all es)
     put_clause (limit offset count) = limit offset count
     put_clause (collect xs es aggregates i) = collect xs (put_all es) (put_aggregates aggregates) (put_into i)
@@ -79,7 +79,7 @@ module _ (x : Ident) (q : ExprTree) where
 -- each value of q is one of e; and where a place asks for more than the values, they are the same: the one
 -- value that PRUNE goes by, and what stands right after IN, where a single name may mean a collection
 pub record StandsFor (db : Database) (q e : ExprTree) : Type 0 where
-  pub values : (cur : Tree) (row : Row) (v : Tree) → Ev db q cur row v → Ev db e cur row v
-  pub plain : (cur : Tree) (row : Row) → value q cur row ≡ value e cur row
+  pub values : (cur : Datum) (row : Row) (v : Datum) → Evaluates db q cur row v → Evaluates db e cur row v
+  pub plain : (cur : Datum) (row : Row) → value q cur row ≡ value e cur row
   pub after_in : (start : Row) (vars : List Ident)
       → collection_meant q start vars ≡ collection_meant e start vars

@@ -1,20 +1,20 @@
 -- Expressions without a subquery. Every other form of an expression (AQL fundamentals) has one value where
 -- its parts have one.
-use Rattle.aql_tree.specs.Tree.{ExprTree, literal, variable, current, listed, made, access, called, unary_of, chain, quantified, choice, range_of, subquery, ExprTrees, no_exprs, expr_then, MaybeExpr, no_expr, one_expr, MemberTrees, no_members, named_then, computed_then, StepTrees, no_steps, name_then, at_then, each_then, LinkTrees, no_links, link_then}
+use Rattle.aql_tree.specs.Tree.{ExprTree, literal, variable, current, array_literal, object_literal, access, function_call, unary_of, chain, array_comparison, ternary, range_of, subquery, ExprTrees, no_exprs, expr_then, MaybeExpr, no_expr, one_expr, MemberTrees, no_members, named_then, computed_then, StepTrees, no_steps, name_then, at_then, inline_then, LinkTrees, no_links, link_then}
 
 abbrev mutual
   pub IsPlain : ExprTree → Type 0
   IsPlain (literal t) = Unit {0}
   IsPlain (variable x) = Unit {0}
   IsPlain current = Unit {0}
-  IsPlain (listed es) = AllPlain es
-  IsPlain (made ms) = MembersPlain ms
+  IsPlain (array_literal es) = AllPlain es
+  IsPlain (object_literal ms) = MembersPlain ms
   IsPlain (access e ss) = IsPlain e × StepsPlain ss
-  IsPlain (called name es) = AllPlain es
+  IsPlain (function_call name es) = AllPlain es
   IsPlain (unary_of op e) = IsPlain e
   IsPlain (chain e ls) = IsPlain e × LinksPlain ls
-  IsPlain (quantified e kind op f) = IsPlain e × IsPlain f
-  IsPlain (choice test first other) = IsPlain test × MaybePlain first × IsPlain other
+  IsPlain (array_comparison e kind op f) = IsPlain e × IsPlain f
+  IsPlain (ternary test first other) = IsPlain test × MaybePlain first × IsPlain other
   IsPlain (range_of e f) = IsPlain e × IsPlain f
   IsPlain (subquery q) = ⊥
 
@@ -35,7 +35,7 @@ abbrev mutual
   StepsPlain no_steps = Unit {0}
   StepsPlain (name_then name ss) = StepsPlain ss
   StepsPlain (at_then e ss) = IsPlain e × StepsPlain ss
-  StepsPlain (each_then filter gives ss) = MaybePlain filter × MaybePlain gives × StepsPlain ss
+  StepsPlain (inline_then filter gives ss) = MaybePlain filter × MaybePlain gives × StepsPlain ss
 
   pub LinksPlain : LinkTrees → Type 0
   LinksPlain no_links = Unit {0}

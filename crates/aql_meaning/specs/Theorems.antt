@@ -1,6 +1,6 @@
 -- The laws of the meaning, each the contract of a public function.
 use Rattle.std.specs.Prelude.{◌≡◌, List, Bool, true, false, IsPermutation}
-use Rattle.aql_value.specs.Tree.{Tree}
+use Rattle.aql_value.specs.Datum.{Datum}
 use Rattle.aql_value.specs.Database.{Database}
 use Rattle.aql_tree.specs.declared.syntax.Ident.{Ident}
 use Rattle.aql_tree.specs.Tree.{ExprTree, QueryTree, ClauseTree, sort_by, limit, collect}
@@ -9,18 +9,19 @@ use Rattle.aql_meaning.specs.Value.{value}
 use Rattle.aql_meaning.specs.Visible.{collection_meant}
 use Rattle.aql_meaning.specs.Plain.{IsPlain}
 use Rattle.aql_meaning.specs.Uses.{uses, Agree}
-use Rattle.aql_meaning.specs.Meaning.{Ev, Changes, Answer}
+use Rattle.aql_meaning.specs.Meaning.{Evaluates, Changes, IsAnswer}
 use Rattle.aql_meaning.specs.Places.{put, put_query, StandsFor}
 
 -- every query has an answer from every row, also from one that lacks outer variables
 abbrev pub EveryQueryHasAnAnswer : Type 0
 EveryQueryHasAnAnswer =
-    (db : Database) (q : QueryTree) (start : Row) → (out : List Tree) × Answer db q start out
+    (db : Database) (q : QueryTree) (start : Row) → (out : List Datum) × IsAnswer db q start out
 
 -- an expression without a subquery has one value, whatever the database
 abbrev pub PlainHasOneValue : Type 0
-PlainHasOneValue = (db : Database) (e : ExprTree) → IsPlain e → (cur : Tree) (row : Row)
-    → Ev db e cur row (value e cur row) × ((v : Tree) → Ev db e cur row v → v ≡ value e cur row)
+PlainHasOneValue = (db : Database) (e : ExprTree) → IsPlain e → (cur : Datum) (row : Row)
+    → Evaluates db e cur row (value e cur row)
+    × ((v : Datum) → Evaluates db e cur row v → v ≡ value e cur row)
 
 -- FOR, FILTER and LET take each row alone
 abbrev pub takes_rows_alone : ClauseTree → Bool
@@ -38,21 +39,21 @@ PermutationPasses = (db : Database) (c : ClauseTree) → takes_rows_alone c ≡ 
 
 -- at rows that agree in what an expression uses it has the same value, and the same values where it is plain
 abbrev pub ValueNeedsOnlyWhatIsUsed : Type 0
-ValueNeedsOnlyWhatIsUsed = (e : ExprTree) (cur : Tree) (r s : Row) → Agree (uses e) r s
+ValueNeedsOnlyWhatIsUsed = (e : ExprTree) (cur : Datum) (r s : Row) → Agree (uses e) r s
     → (value e cur r ≡ value e cur s)
-    × ((db : Database) (v : Tree) → IsPlain e → Ev db e cur r v → Ev db e cur s v)
+    × ((db : Database) (v : Datum) → IsPlain e → Evaluates db e cur r v → Evaluates db e cur s v)
 
 -- an expression may stand for another at any place of a tree, also within a subquery: of an expression then
 -- each value is one of the other tree's, and of a query each answer
 abbrev pub StandsAtAnyPlace : Type 0
 StandsAtAnyPlace = (db : Database) (q e : ExprTree) → StandsFor db q e → (x : Ident)
     → ((tree : ExprTree) → StandsFor db (put x q tree) (put x e tree))
-    × ((tree : QueryTree) (start : Row) (out : List Tree)
-    → Answer db (put_query x q tree) start out → Answer db (put_query x e tree) start out)
+    × ((tree : QueryTree) (start : Row) (out : List Datum)
+    → IsAnswer db (put_query x q tree) start out → IsAnswer db (put_query x e tree) start out)
 
 -- of two expressions without a subquery it is enough that they have the same value at every row
 abbrev pub EqualPlainStandFor : Type 0
 EqualPlainStandFor = (db : Database) (q e : ExprTree) → IsPlain q → IsPlain e
-    → ((cur : Tree) (row : Row) → value q cur row ≡ value e cur row)
+    → ((cur : Datum) (row : Row) → value q cur row ≡ value e cur row)
     → ((start : Row) (vars : List Ident) → collection_meant q start vars ≡ collection_meant e start vars)
     → StandsFor db q e

@@ -4,7 +4,7 @@
 use Rattle.std.specs.Prelude.{ℕ, ◌≡◌, List, [], ◌∷◌, ◌++◌}
 use Rattle.aql_value.specs.Parts.{at_name}
 use Rattle.aql_tree.specs.declared.syntax.Ident.{Ident}
-use Rattle.aql_tree.specs.Tree.{ExprTree, literal, variable, current, listed, made, access, called, unary_of, chain, quantified, choice, range_of, subquery, ExprTrees, no_exprs, expr_then, MaybeExpr, no_expr, one_expr, MemberTrees, no_members, named_then, computed_then, StepTrees, no_steps, name_then, at_then, each_then, LinkTrees, no_links, link_then, AggregateTrees, no_aggregates, aggregate_then, IntoTree, no_into, into}
+use Rattle.aql_tree.specs.Tree.{ExprTree, literal, variable, current, array_literal, object_literal, access, function_call, unary_of, chain, array_comparison, ternary, range_of, subquery, ExprTrees, no_exprs, expr_then, MaybeExpr, no_expr, one_expr, MemberTrees, no_members, named_then, computed_then, StepTrees, no_steps, name_then, at_then, inline_then, LinkTrees, no_links, link_then, AggregateTrees, no_aggregates, aggregate_then, IntoTree, no_into, into}
 use Rattle.aql_meaning.specs.Row.{Row, value_at}
 
 -- a variable as a whole, or only its attribute of a name
@@ -25,15 +25,15 @@ abbrev mutual
   uses (literal v) = []
   uses (variable x) = Whole x ∷ []
   uses current = []
-  uses (listed es) = all_uses es
-  uses (made ms) = member_uses ms
+  uses (array_literal es) = all_uses es
+  uses (object_literal ms) = member_uses ms
   uses (access (variable x) (name_then name ss)) = Part x name ∷ step_uses ss
   uses (access e ss) = uses e ++ step_uses ss
-  uses (called name es) = all_uses es
+  uses (function_call name es) = all_uses es
   uses (unary_of op e) = uses e
   uses (chain e ls) = uses e ++ link_uses ls
-  uses (quantified a kind op b) = uses a ++ uses b
-  uses (choice test first other) = uses test ++ (maybe_uses first ++ uses other)
+  uses (array_comparison a kind op b) = uses a ++ uses b
+  uses (ternary test first other) = uses test ++ (maybe_uses first ++ uses other)
   uses (range_of a b) = uses a ++ uses b
   uses (subquery q) = []
 
@@ -54,7 +54,7 @@ abbrev mutual
   step_uses no_steps = []
   step_uses (name_then name ss) = step_uses ss
   step_uses (at_then e ss) = uses e ++ step_uses ss
-  step_uses (each_then filter gives ss) = maybe_uses filter ++ (maybe_uses gives ++ step_uses ss)
+  step_uses (inline_then filter gives ss) = maybe_uses filter ++ (maybe_uses gives ++ step_uses ss)
 
   pub link_uses : LinkTrees → Uses
   link_uses no_links = []

@@ -17,5 +17,5 @@ last_tree code.None = bounds.no_last
 last_tree (code.OneOf e) = bounds.one_of (view.tree e)
 last_tree (code.Range low high) = bounds.between (option_map end_tree low) (option_map end_tree high)
 
-abbrev pub options_tree : WalkOptions → tree.WalkOptions
+abbrev pub options_tree : WalkOptions → tree.TraversalOptions
 options_tree o = record { edges = o.edges; vertices = o.vertices; bfs = o.bfs }

@@ -3,11 +3,11 @@
 -- rows.
 use Rattle.std.specs.Prelude.{ℕ, List, [], ◌∷◌, filter, flat_map, cond, not, ◌||◌, bytes_eq, Bool, Option, Some, None, is_some, option_to_list}
 use Rattle.std.specs.List.{list_any}
-use Rattle.aql_value.specs.Tree.{Tree}
+use Rattle.aql_value.specs.Datum.{Datum}
 use Rattle.aql_value.specs.Database.{Database, documents_named}
 use Rattle.aql_tree.specs.declared.syntax.Ident.{Ident}
 use Rattle.aql_tree.specs.declared.syntax.Ident.TheVariants.{Name}
-use Rattle.aql_tree.specs.Tree.{ExprTree, variable, ClauseTree, for_each, for_documents, for_paths, keep_if, define, sort_by, limit, collect, AggregateTrees, no_aggregates, aggregate_then, IntoTree, no_into, into}
+use Rattle.aql_tree.specs.Tree.{ExprTree, variable, ClauseTree, for_each, for_documents, traversal, filter_by, let_be, sort_by, limit, collect, AggregateTrees, no_aggregates, aggregate_then, IntoTree, no_into, into}
 use Rattle.aql_meaning.specs.Row.{Row, same_ident}
 use Rattle.aql_meaning.specs.Groups.{aggregate_of}
 
@@ -16,12 +16,12 @@ aggregate_vars no_aggregates = []
 aggregate_vars (aggregate_then x name e rest) = x ∷ aggregate_vars rest
 
 -- a function for each aggregate, by its name
-abbrev pub functions_by : (List ℕ → List Tree → Tree) → AggregateTrees → List (List Tree → Tree)
+abbrev pub functions_by : (List ℕ → List Datum → Datum) → AggregateTrees → List (List Datum → Datum)
 functions_by of_name no_aggregates = []
 functions_by of_name (aggregate_then x name e rest) = of_name name ∷ functions_by of_name rest
 
 -- what each aggregate makes of the values of all members
-abbrev pub aggregate_functions : AggregateTrees → List (List Tree → Tree)
+abbrev pub aggregate_functions : AggregateTrees → List (List Datum → Datum)
 aggregate_functions aggregates = functions_by aggregate_of aggregates
 
 abbrev pub into_var : IntoTree → Option Ident
@@ -37,10 +37,10 @@ onto (x ∷ xs) vars = onto xs (x ∷ vars)
 abbrev pub vars_after : ClauseTree → List Ident → List Ident
 vars_after (for_each x e) vars = x ∷ vars
 vars_after (for_documents x name) vars = x ∷ vars
-vars_after (for_paths w e names prune settings) vars =
+vars_after (traversal w e names prune settings) vars =
     onto (option_to_list w.path) (onto (option_to_list w.edge) (w.vertex ∷ vars))
-vars_after (keep_if e) vars = vars
-vars_after (define x e) vars = x ∷ vars
+vars_after (filter_by e) vars = vars
+vars_after (let_be x e) vars = x ∷ vars
 vars_after (sort_by directions es) vars = vars
 vars_after (limit offset count) vars = vars
 vars_after (collect xs es aggregates i) vars =
@@ -61,5 +61,5 @@ each_once [] = []
 each_once (n ∷ ns) = n ∷ filter (λ m. not (bytes_eq n m)) (each_once ns)
 
 -- the edges of these collections; a collection named twice counts once
-abbrev pub edges_named : Database → List (List ℕ) → List Tree
+abbrev pub edges_named : Database → List (List ℕ) → List Datum
 edges_named db names = flat_map (documents_named db) (each_once names)

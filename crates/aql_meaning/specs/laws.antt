@@ -1,6 +1,6 @@
 pub mod Shuffles
 pub mod SomeOrder
-pub mod SomeWalk
+pub mod SomeTraversal
 pub mod SomeAnswer
 pub mod OneValue
 pub mod Agrees

@@ -1,5 +1,5 @@
 pub mod Words
 pub mod Expressions
 pub mod Clauses
-pub mod Walks
+pub mod Traversals
 pub mod Refuted

@@ -3,7 +3,7 @@
 
 ghost use Rattle.aql_meaning.specs.worked.Expressions.{WorkedExpressions};
 ghost use Rattle.aql_meaning.specs.worked.Clauses.{WorkedClauses};
-ghost use Rattle.aql_meaning.specs.worked.Walks.{WorkedWalks};
+ghost use Rattle.aql_meaning.specs.worked.Traversals.{WorkedTraversals};
 ghost use Rattle.aql_meaning.specs.worked.Refuted.{RefutedAnswers};
 
 /// Expressions and functions.
@@ -18,7 +18,7 @@ pub fn worked_clauses()
 
 /// Traversals.
 pub fn worked_walks()
-    ensures { WorkedWalks }
+    ensures { WorkedTraversals }
 {}
 
 /// Lists that are no answers.

@@ -6,26 +6,26 @@ use Rattle.std.specs.Prelude.{reverse, Option, Some, None, Result, Ok, Err, code
 use Rattle.std.specs.Char.{to_ascii_lowercase}
 use lib.Pointwise.{bytes_decides}
 use Rattle.std.specs.Str.{str_eq_ignore_ascii_case}
-use Rattle.aql_func.specs.Aggregates.{Aggregate, counting, summing, least, greatest, all_distinct, counting_distinct, aggregate_named}
+use Rattle.aql_func.specs.Aggregates.{Aggregate, count, sum, min, max, sorted_unique, count_distinct, aggregate_named}
 use Rattle.aql_tree.specs.declared.syntax.Ident.{Ident}
-use Rattle.aql_tree.specs.Tree.{WalkShape, WalkOptions, ExprTree, literal, variable, current, listed, made, access, called, unary_of, chain, quantified, choice, range_of, subquery, MaybeExpr, MemberTrees, no_members, named_then, into, no_expr, ClauseTree, for_each, for_documents, for_paths, define, QueryTree}
+use Rattle.aql_tree.specs.Tree.{TraversalShape, TraversalOptions, ExprTree, literal, variable, current, array_literal, object_literal, access, function_call, unary_of, chain, array_comparison, ternary, range_of, subquery, MaybeExpr, MemberTrees, no_members, named_then, into, no_expr, ClauseTree, for_each, for_documents, traversal, let_be, QueryTree}
 use Rattle.aql_tree.specs.View.{MemberPart, named, computed, members, maybe, trees}
 use Rattle.aql_meaning.specs.Row.{same_ident}
 use Rattle.aql_meaning.specs.Visible.{onto}
-use Rattle.aql_meaning.specs.Groups.{names_taken}
+use Rattle.aql_meaning.specs.Groups.{into_names}
 use Rattle.aql_tree.specs.declared.syntax.Ident.TheVariants.{Name, Num}
-use Rattle.aql_lift.specs.Names.{Names, number_of, numbered, idents, text_of, object_of, numbered_walk, walk_names}
+use Rattle.aql_lift.specs.Numbering.{Numbering, number_of, numbered_variable, idents, text_of, variable_members, number_traversal, traversal_names}
 use Rattle.aql_doc.specs.Declarations.{place_of}
 use Rattle.aql_names.specs.declared.faults.ScopeFault.{ScopeFault}
 use Rattle.aql_names.specs.declared.options.Written.{Written}
 use Rattle.aql_names.specs.declared.faults.ScopeFault.TheVariants.{BadOption}
-use Rattle.aql_names.specs.Options.{unwritten}
-use Rattle.aql_names.specs.Faults.{first, count, new_name, new_names, seen, unless, walk_vars, edge_collections, known_collection, kept_names}
-use Rattle.aql_names.specs.Walk as W
-use Rattle.aql_names.specs.Walk.{options_in, written_options}
+use Rattle.aql_names.specs.Options.{no_settings}
+use Rattle.aql_names.specs.Faults.{first, expr_count, new_name, new_names, visible_variables, unless, traversal_variables, edge_collections, known_collection, keep_fault}
+use Rattle.aql_names.specs.Visit as W
+use Rattle.aql_names.specs.Visit.{options_in, options_after}
 
 -- a name that has no number among the first ones has that of the others
-pub number_behind : (own outer : Names) (x : Ident) → number_of own x ≡ None
+pub number_behind : (own outer : Numbering) (x : Ident) → number_of own x ≡ None
     → number_of (own ++ outer) x ≡ number_of outer x
 number_behind [] outer x none = refl
 number_behind (v ∷ own) outer x none = by (same_ident v.0 x) none (number_behind own outer x) where
@@ -35,7 +35,7 @@ number_behind (v ∷ own) outer x none = by (same_ident v.0 x) none (number_behi
   by true h f = absurd (cc)
   by false h f = f h
 
-pub number_before : (own outer : Names) (x : Ident) (n : ℕ) → number_of own x ≡ Some n
+pub number_before : (own outer : Numbering) (x : Ident) (n : ℕ) → number_of own x ≡ Some n
     → number_of (own ++ outer) x ≡ Some n
 number_before [] outer x n found = absurd (cc)
 number_before (v ∷ own) outer x n found = by (same_ident v.0 x) found (number_before own outer x n) where
@@ -46,10 +46,10 @@ number_before (v ∷ own) outer x n found = by (same_ident v.0 x) found (number_
   by false h f = f h
 
 -- the names of a list whose latest entry comes first, the latest last
-pub idents_turned : (entries : Names) → reverse (idents (reverse entries)) ≡ idents entries
+pub idents_turned : (entries : Numbering) → reverse (idents (reverse entries)) ≡ idents entries
 idents_turned [] = refl
 idents_turned (v ∷ entries) =
-    ap (λ (names : Names). reverse (idents names)) (reverse-cons v entries)
+    ap (λ (names : Numbering). reverse (idents names)) (reverse-cons v entries)
     ∙ ap reverse (map-append (λ (entry : Ident × ℕ). entry.0) (reverse entries) (v ∷ []))
     ∙ reverse-append (idents (reverse entries)) (v.0 ∷ [])
     ∙ ap (λ xs. v.0 ∷ xs) (idents_turned entries)
@@ -70,23 +70,23 @@ new_append visible earlier (x ∷ xs) ys =
       by None e = e
 
 -- where a setting is written, the options are those of the settings
-pub options_written : (ms : List MemberPart) (o : WalkOptions) (w : Written) → 0 < length ms
-    → written_options (members ms) o w ≡ options_in w
+pub options_written : (ms : List MemberPart) (o : TraversalOptions) (w : Written) → 0 < length ms
+    → options_after (members ms) o w ≡ options_in w
 options_written [] o w some = absurd (omega arith)
 options_written (named name e ∷ ms) o w some = refl
 options_written (computed k e ∷ ms) o w some = refl
 
 -- a member of the object of variables
-abbrev pub member_of : Names → List ℕ → MemberPart
-member_of names x = named x (numbered (number_of names (Name x)))
+abbrev pub member_of : Numbering → List ℕ → MemberPart
+member_of names x = named x (numbered_variable (number_of names (Name x)))
 
-pub object_members : (names : Names) (xs : List (List ℕ))
-    → object_of names xs ≡ members (map (member_of names) xs)
+pub object_members : (names : Numbering) (xs : List (List ℕ))
+    → variable_members names xs ≡ members (map (member_of names) xs)
 object_members names [] = refl
 object_members names (x ∷ xs) =
-    ap (λ ms. named_then x (numbered (number_of names (Name x))) ms) (object_members names xs)
+    ap (λ ms. named_then x (numbered_variable (number_of names (Name x))) ms) (object_members names xs)
 
-pub kept_taken : (vars : List Ident) (keep : List (List ℕ)) → 0 < length keep → names_taken vars keep ≡ keep
+pub kept_taken : (vars : List Ident) (keep : List (List ℕ)) → 0 < length keep → into_names vars keep ≡ keep
 kept_taken vars [] some = absurd (omega arith)
 kept_taken vars (x ∷ keep) some = refl
 
@@ -115,10 +115,10 @@ no_aggregate name = by (Same (codes "LENGTH") name) (Same (codes "COUNT") name) 
     (Same (codes "COUNT_DISTINCT") name) where
       by : (a b c d e f g : Bool) → a ≡ false → b ≡ false → c ≡ false → d ≡ false → e ≡ false → f ≡ false → g ≡ false
           → option_map (λ (entry : List ℕ × Aggregate). entry.1)
-          (cond a (Some (codes "LENGTH", counting)) (cond b (Some (codes "COUNT", counting))
-          (cond c (Some (codes "SUM", summing)) (cond d (Some (codes "MIN", least)) (cond e (Some (codes "MAX", greatest))
-          (cond f (Some (codes "SORTED_UNIQUE", all_distinct))
-          (cond g (Some (codes "COUNT_DISTINCT", counting_distinct)) None))))))) ≡ None
+          (cond a (Some (codes "LENGTH", count)) (cond b (Some (codes "COUNT", count))
+          (cond c (Some (codes "SUM", sum)) (cond d (Some (codes "MIN", min)) (cond e (Some (codes "MAX", max))
+          (cond f (Some (codes "SORTED_UNIQUE", sorted_unique))
+          (cond g (Some (codes "COUNT_DISTINCT", count_distinct)) None))))))) ≡ None
       by false false false false false false false _ _ _ _ _ _ _ = refl
       by true b c d e f g h _ _ _ _ _ _ = absurd (cc)
       by false true c d e f g _ h _ _ _ _ _ = absurd (cc)
@@ -134,8 +134,8 @@ triple a b c = (a, b, c)
 -- what follows the parts of a traversal may stand behind the last of them
 parts_on : {A B C R S : Type 0} (o : W.Outcome A S) (fault : Option ScopeFault) (m : S → W.Outcome B S)
     (n : S → W.Outcome C S) (k : A → B → C → S → W.Outcome R S)
-    → W.on o (λ f st. W.judged fault (W.on (m st) (λ p st. W.on (n st) (λ w st. k f p w st))))
-    ≡ W.on (W.on o (λ f st. W.judged fault (W.on (m st) (λ p st. W.on (n st) (λ w st. Ok (triple f p w, st))))))
+    → W.on o (λ f st. W.judge fault (W.on (m st) (λ p st. W.on (n st) (λ w st. k f p w st))))
+    ≡ W.on (W.on o (λ f st. W.judge fault (W.on (m st) (λ p st. W.on (n st) (λ w st. Ok (triple f p w, st))))))
     (λ r st. k r.0 r.1 r.2 st)
 parts_on (Err e) fault m n k = refl
 parts_on (Ok q) (Some e) m n k = refl
@@ -151,27 +151,28 @@ parts_on {A} {B} {C} {R} {S} (Ok q) None m n k = by (m q.1) where
   by (Ok r) = by_last q.0 r.0 (n r.1)
 
 -- the clause of a traversal from its parts
-abbrev pub walk_done : WalkShape → ℕ → List (List ℕ) → MemberTrees → Names → (ExprTree × Option ExprTree × Written)
+abbrev pub walk_done : TraversalShape → ℕ → List (List ℕ) → MemberTrees → Numbering → (ExprTree × Option ExprTree × Written)
     → W.Done
 walk_done w n cs ms more r =
-    (for_paths (W.walk_with (W.written_options ms w.options r.2) (numbered_walk n w)) r.0 cs (maybe r.1) no_members, more)
+    (traversal (W.shape_with (W.options_after ms w.options r.2) (number_traversal n w)) r.0 cs (maybe r.1) no_members, more)
 
-pub paths_clause : (s : W.Site) (w : WalkShape) (e : ExprTree) (cs : List (List ℕ)) (prune : MaybeExpr)
+pub paths_clause : (s : W.Site) (w : TraversalShape) (e : ExprTree) (cs : List (List ℕ)) (prune : MaybeExpr)
     (ms : MemberTrees) (st : W.State)
-    → W.clause s (for_paths w e cs prune ms) st
-    ≡ W.judged (new_names (seen (W.place s)) [] (walk_vars w))
-    (W.judged (unless (nat_le w.min w.max) (BadOption (codes "depth")))
-    (W.on (W.walk_parts s (walk_names (W.next st.said) w s.own) e cs prune ms (W.say_all (walk_vars w) st))
-    (λ r later. Ok (walk_done w (W.next st.said) cs ms (walk_names (W.next st.said) w s.own) r, later))))
+    → W.clause s (traversal w e cs prune ms) st
+    ≡ W.judge (new_names (visible_variables (W.place s)) [] (traversal_variables w))
+    (W.judge (unless (nat_le w.min w.max) (BadOption (codes "depth")))
+    (W.on (W.traversal_parts s (traversal_names (W.next st.said) w s.own) e cs prune ms
+    (W.say_all (traversal_variables w) st))
+    (λ r later. Ok (walk_done w (W.next st.said) cs ms (traversal_names (W.next st.said) w s.own) r, later))))
 paths_clause s w e cs prune ms st =
-    ap (λ o. W.judged (new_names (seen (W.place s)) [] (walk_vars w))
-    (W.judged (unless (nat_le w.min w.max) (BadOption (codes "depth"))) o))
-    (parts_on (W.expr s e (W.say_all (walk_vars w) st)) (edge_collections s.held cs)
-    (λ later. W.maybe (W.inline_site (W.with_own (walk_names (W.next st.said) w s.own) s)) prune later)
-    (λ later. W.settings (W.inline_site s) unwritten ms later)
-    (λ f p written later. Ok (walk_done w (W.next st.said) cs ms (walk_names (W.next st.said) w s.own) (triple f p written), later)))
+    ap (λ o. W.judge (new_names (visible_variables (W.place s)) [] (traversal_variables w))
+    (W.judge (unless (nat_le w.min w.max) (BadOption (codes "depth"))) o))
+    (parts_on (W.expr s e (W.say_all (traversal_variables w) st)) (edge_collections s.held cs)
+    (λ later. W.maybe (W.inline_site (W.with_own (traversal_names (W.next st.said) w s.own) s)) prune later)
+    (λ later. W.settings (W.inline_site s) no_settings ms later)
+    (λ f p written later. Ok (walk_done w (W.next st.said) cs ms (traversal_names (W.next st.said) w s.own) (triple f p written), later)))
 
-pub count_trees : (ts : List ExprTree) → count (trees ts) ≡ length ts
+pub count_trees : (ts : List ExprTree) → expr_count (trees ts) ≡ length ts
 count_trees [] = refl
 count_trees (t ∷ ts) = ap suc (count_trees ts)
 
@@ -188,23 +189,23 @@ some_same a b h = cc
 
 one_judged : {A T : Type 0} (fault : Option ScopeFault) (r : Result T ScopeFault) (said : List (List ℕ))
     (lets : List ClauseTree) (g : T → A)
-    → W.judged fault (W.on (W.keeping (record { said = said; lets = lets }) r) (λ t later. Ok (g t, later)))
-    ≡ W.beside lets (W.judged fault (W.on (W.keeping said r) (λ t later. Ok (g t, later))))
+    → W.judge fault (W.on (W.keep_state (record { said = said; lets = lets }) r) (λ t later. Ok (g t, later)))
+    ≡ W.beside lets (W.judge fault (W.on (W.keep_state said r) (λ t later. Ok (g t, later))))
 one_judged (Some e) r said lets g = refl
 one_judged None (Ok t) said lets g = refl
 one_judged None (Err e) said lets g = refl
 
 two_judged : {A : Type 0} (fault other : Option ScopeFault) (a : A) (said : List (List ℕ)) (lets : List ClauseTree)
-    → W.judged fault (W.judged other (Ok (a, record { said = said; lets = lets })))
-    ≡ W.beside lets (W.judged fault (W.judged other (Ok (a, said))))
+    → W.judge fault (W.judge other (Ok (a, record { said = said; lets = lets })))
+    ≡ W.beside lets (W.judge fault (W.judge other (Ok (a, said))))
 two_judged (Some e) other a said lets = refl
 two_judged None (Some e) a said lets = refl
 two_judged None None a said lets = refl
 
 inner_judged : {A T : Type 0} (fault : Option ScopeFault) (o : W.Outcome T (List (List ℕ))) (lets : List ClauseTree)
     (g : T → A)
-    → W.judged fault (W.on o (λ t said. Ok (g t, record { said = said; lets = lets })))
-    ≡ W.beside lets (W.judged fault (W.on o (λ t said. Ok (g t, said))))
+    → W.judge fault (W.on o (λ t said. Ok (g t, record { said = said; lets = lets })))
+    ≡ W.beside lets (W.judge fault (W.on o (λ t said. Ok (g t, said))))
 inner_judged (Some e) o lets g = refl
 inner_judged None (Ok p) lets g = refl
 inner_judged None (Err e) lets g = refl
@@ -212,62 +213,62 @@ inner_judged None (Err e) lets g = refl
 pub collection_clause : (s : W.Site) (x : Ident) (c : List ℕ) (st : W.State)
     → W.clause s (for_documents x c) st ≡ W.beside st.lets (W.for_collection s x c st.said)
 collection_clause s x c st =
-    two_judged (new_name (seen (W.place s)) [] x) (known_collection s.held c)
+    two_judged (new_name (visible_variables (W.place s)) [] x) (known_collection s.held c)
     (for_documents (Num (W.next st.said)) c, (x, W.next st.said) ∷ s.own) (st.said ++ text_of x ∷ []) st.lets
 
 pub lifted_clause : (s : W.Site) (x : Ident) (q : QueryTree) (st : W.State)
-    → W.clause s (define x (subquery q)) st ≡ W.beside st.lets (W.let_lifted s x q st.said)
+    → W.clause s (let_be x (subquery q)) st ≡ W.beside st.lets (W.let_subquery s x q st.said)
 lifted_clause s x q st =
-    inner_judged (new_name (seen (W.place s)) [] x) (W.query_walk s.held (W.visible s) q (st.said ++ text_of x ∷ []))
-    st.lets (λ inner. (define (Num (W.next st.said)) (subquery inner), (x, W.next st.said) ∷ s.own))
+    inner_judged (new_name (visible_variables (W.place s)) [] x) (W.visit_query s.held (W.visible s) q (st.said ++ text_of x ∷ []))
+    st.lets (λ inner. (let_be (Num (W.next st.said)) (subquery inner), (x, W.next st.said) ∷ s.own))
 
-pub named_into : (s : W.Site) (inner : Names) (x : Ident) (keep : List (List ℕ)) (st : W.State)
-    → W.into_walk s inner (into x no_expr keep) st ≡ W.beside st.lets (W.into_named s inner x keep st.said)
+pub named_into : (s : W.Site) (inner : Numbering) (x : Ident) (keep : List (List ℕ)) (st : W.State)
+    → W.visit_into s inner (into x no_expr keep) st ≡ W.beside st.lets (W.into_object s inner x keep st.said)
 named_into s inner x keep st =
-    two_judged (new_name (seen (W.place s)) (idents inner) x) (kept_names (idents s.own) keep) (
-      Some (Num (W.next st.said), Some (made (object_of (W.visible s) (names_taken (idents s.own) keep))), []),
+    two_judged (new_name (visible_variables (W.place s)) (idents inner) x) (keep_fault (idents s.own) keep) (
+      Some (Num (W.next st.said), Some (object_literal (variable_members (W.visible s) (into_names (idents s.own) keep))), []),
       (x, W.next st.said) ∷ inner,
     ) (st.said ++ text_of x ∷ []) st.lets
 
 name_clause : (s : W.Site) (x : Ident) (c : List ℕ) (st : W.State)
-    → W.clause s (for_each x (variable (Name c))) st ≡ W.beside st.lets (W.for_named s x c st.said)
+    → W.clause s (for_each x (variable (Name c))) st ≡ W.beside st.lets (W.for_name s x c st.said)
 name_clause s x c st =
-    one_judged (new_name (seen (W.place s)) [] x)
+    one_judged (new_name (visible_variables (W.place s)) [] x)
     (W.source (W.next st.said) c (number_of (W.visible s) (Name c)) (place_of s.held c)) (st.said ++ text_of x ∷ [])
     st.lets (λ t. (t, (x, W.next st.said) ∷ s.own))
 
 -- FOR goes by whether its expression is a single name
 pub for_by_name : (s : W.Site) (x : Ident) (e : ExprTree) (c : List ℕ) (st : W.State) → W.single_name e ≡ Some c
-    → W.clause s (for_each x e) st ≡ W.beside st.lets (W.for_named s x c st.said)
+    → W.clause s (for_each x e) st ≡ W.beside st.lets (W.for_name s x c st.said)
 for_by_name s x (variable (Name n)) c st h =
-    name_clause s x n st ∙ ap (λ m. W.beside st.lets (W.for_named s x m st.said)) (some_same n c h)
+    name_clause s x n st ∙ ap (λ m. W.beside st.lets (W.for_name s x m st.said)) (some_same n c h)
 for_by_name s x (variable (Num k)) c st h = absurd (none_some c h)
 for_by_name s x (literal v) c st h = absurd (none_some c h)
 for_by_name s x current c st h = absurd (none_some c h)
-for_by_name s x (listed es) c st h = absurd (none_some c h)
-for_by_name s x (made ms) c st h = absurd (none_some c h)
+for_by_name s x (array_literal es) c st h = absurd (none_some c h)
+for_by_name s x (object_literal ms) c st h = absurd (none_some c h)
 for_by_name s x (access e ss) c st h = absurd (none_some c h)
-for_by_name s x (called f es) c st h = absurd (none_some c h)
+for_by_name s x (function_call f es) c st h = absurd (none_some c h)
 for_by_name s x (unary_of op e) c st h = absurd (none_some c h)
 for_by_name s x (chain e ls) c st h = absurd (none_some c h)
-for_by_name s x (quantified e kind op f) c st h = absurd (none_some c h)
-for_by_name s x (choice e m f) c st h = absurd (none_some c h)
+for_by_name s x (array_comparison e kind op f) c st h = absurd (none_some c h)
+for_by_name s x (ternary e m f) c st h = absurd (none_some c h)
 for_by_name s x (range_of e f) c st h = absurd (none_some c h)
 for_by_name s x (subquery q) c st h = absurd (none_some c h)
 
 pub for_by_list : (s : W.Site) (x : Ident) (e : ExprTree) (st : W.State) → W.single_name e ≡ None
-    → W.clause s (for_each x e) st ≡ W.for_listed s x e st
+    → W.clause s (for_each x e) st ≡ W.for_expression s x e st
 for_by_list s x (variable (Name n)) st h = absurd (some_none n h)
 for_by_list s x (variable (Num k)) st h = refl
 for_by_list s x (literal v) st h = refl
 for_by_list s x current st h = refl
-for_by_list s x (listed es) st h = refl
-for_by_list s x (made ms) st h = refl
+for_by_list s x (array_literal es) st h = refl
+for_by_list s x (object_literal ms) st h = refl
 for_by_list s x (access e ss) st h = refl
-for_by_list s x (called f es) st h = refl
+for_by_list s x (function_call f es) st h = refl
 for_by_list s x (unary_of op e) st h = refl
 for_by_list s x (chain e ls) st h = refl
-for_by_list s x (quantified e kind op f) st h = refl
-for_by_list s x (choice e m f) st h = refl
+for_by_list s x (array_comparison e kind op f) st h = refl
+for_by_list s x (ternary e m f) st h = refl
 for_by_list s x (range_of e f) st h = refl
 for_by_list s x (subquery q) st h = refl

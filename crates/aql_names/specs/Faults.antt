@@ -1,27 +1,27 @@
--- The first fault of a query, in the order of its text (AQL fundamentals, Accessing data, Calling functions; the
--- high-level operations; Graphs, Traversals): a name that is not visible, one that is declared twice, a collection
--- or function that there is not, a wrong number of arguments, a document collection in place of an edge
--- collection, a subquery where none may stand, a setting that a traversal does not have.
+-- The first fault of a query, in the order of its text (AQL fundamentals, Accessing data, Calling functions;
+-- the high-level operations; Graphs, Traversals): a name that is not visible, one that is declared twice, a
+-- collection or function that there is not, a wrong number of arguments, a document collection in place of an
+-- edge collection, a subquery where none may stand, a setting that a traversal does not have.
 use Rattle.std.specs.Prelude.{ℕ, suc, List, [], ◌∷◌, ◌++◌, Bool, true, false, not, ◌||◌, codes, Option, Some, None, is_some, option_to_list, slice_get, nat_le}
 use Rattle.std.specs.List.{list_any}
 use Rattle.aql_func.specs.declared.names.FuncName.{FuncName}
-use Rattle.aql_func.specs.Names.{looked_up, allows}
-use Rattle.aql_func.specs.Aggregates.{Aggregate, counting, aggregate_named}
+use Rattle.aql_func.specs.Names.{function_named, allows}
+use Rattle.aql_func.specs.Aggregates.{Aggregate, count, aggregate_named}
 use Rattle.aql_tree.specs.declared.syntax.Ident.{Ident}
 use Rattle.aql_tree.specs.declared.syntax.Ident.TheVariants.{Name}
-use Rattle.aql_tree.specs.Tree.{WalkShape, ExprTree, literal, variable, current, listed, made, access, called, unary_of, chain, quantified, choice, range_of, subquery, ExprTrees, no_exprs, expr_then, MaybeExpr, no_expr, one_expr, MemberTrees, no_members, named_then, computed_then, StepTrees, no_steps, name_then, at_then, each_then, LinkTrees, no_links, link_then, ClauseTree, for_each, for_documents, for_paths, keep_if, define, sort_by, limit, collect, AggregateTrees, no_aggregates, aggregate_then, IntoTree, no_into, into, ClauseTrees, no_clauses, clause_then, QueryTree, query}
+use Rattle.aql_tree.specs.Tree.{TraversalShape, ExprTree, literal, variable, current, array_literal, object_literal, access, function_call, unary_of, chain, array_comparison, ternary, range_of, subquery, ExprTrees, no_exprs, expr_then, MaybeExpr, no_expr, one_expr, MemberTrees, no_members, named_then, computed_then, StepTrees, no_steps, name_then, at_then, inline_then, LinkTrees, no_links, link_then, ClauseTree, for_each, for_documents, traversal, filter_by, let_be, sort_by, limit, collect, AggregateTrees, no_aggregates, aggregate_then, IntoTree, no_into, into, ClauseTrees, no_clauses, clause_then, QueryTree, query}
 use Rattle.aql_meaning.specs.Row.{same_ident}
 use Rattle.aql_meaning.specs.Visible.{onto, vars_after, aggregate_vars}
-use Rattle.aql_lift.specs.Names.{text_of}
+use Rattle.aql_lift.specs.Numbering.{text_of}
 use Rattle.aql_doc.specs.Held.{Held}
 use Rattle.aql_doc.specs.Declarations.{place_of}
 use Rattle.aql_names.specs.declared.faults.ScopeFault.{ScopeFault}
 use Rattle.aql_names.specs.declared.faults.ScopeFault.TheVariants.{UnknownName, Redeclared, UnknownCollection, UnknownFunction, WrongArity, NotEdge, SubqueryNotAllowed, BadOption}
 use Rattle.aql_names.specs.declared.options.Written.{Written}
-use Rattle.aql_names.specs.Options.{unwritten, with_setting, agree, is_breadth, global_fits}
+use Rattle.aql_names.specs.Options.{no_settings, with_setting, agree, is_breadth_first, global_fits}
 
--- where a part stands: the variables of the query at hand, the latest first, those of the queries around it, the
--- collections, and whether a subquery may stand there
+-- where a part stands: the variables of the query at hand, the latest first, those of the queries around it,
+-- the collections, and whether a subquery may stand there
 pub record Place : Type 0 where
   pub own : List Ident
   pub outer : List Ident
@@ -32,23 +32,23 @@ abbrev pub is_among : List Ident → Ident → Bool
 is_among xs x = list_any (λ y. same_ident y x) xs
 
 -- the visible variables
-abbrev pub seen : Place → List Ident
-seen p = p.own ++ p.outer
+abbrev pub visible_variables : Place → List Ident
+visible_variables p = p.own ++ p.outer
 
--- within an inline operator, PRUNE and OPTIONS no subquery may stand
+-- within an inline expression, PRUNE and OPTIONS no subquery may stand
 abbrev pub inline : Place → Place
 inline p = record p { lifts = false }
 
 -- at the opening of a subquery
-abbrev pub opened : Place → Place
-opened p = record { own = []; outer = seen p; held = p.held; lifts = true }
+abbrev pub within_subquery : Place → Place
+within_subquery p = record { own = []; outer = visible_variables p; held = p.held; lifts = true }
 
-abbrev pub behind : ClauseTree → Place → Place
-behind c p = record p { own = vars_after c p.own }
+abbrev pub after_clause : ClauseTree → Place → Place
+after_clause c p = record p { own = vars_after c p.own }
 
-abbrev pub behind_all : ClauseTrees → Place → Place
-behind_all no_clauses p = p
-behind_all (clause_then c cs) p = behind_all cs (behind c p)
+abbrev pub after_clauses : ClauseTrees → Place → Place
+after_clauses no_clauses p = p
+after_clauses (clause_then c cs) p = after_clauses cs (after_clause c p)
 
 -- a fault that is there where the test fails
 abbrev pub unless : Bool → ScopeFault → Option ScopeFault
@@ -88,9 +88,9 @@ abbrev pub edge_collections : List Held → List (List ℕ) → Option ScopeFaul
 edge_collections held [] = None
 edge_collections held (c ∷ cs) = first (edge_fault held c (place_of held c)) (edge_collections held cs)
 
-abbrev pub count : ExprTrees → ℕ
-count no_exprs = 0
-count (expr_then e es) = suc (count es)
+abbrev pub expr_count : ExprTrees → ℕ
+expr_count no_exprs = 0
+expr_count (expr_then e es) = suc (expr_count es)
 
 -- a call is judged at the function's name, before its arguments
 abbrev pub call_fault : Option FuncName → List ℕ → ℕ → Option ScopeFault
@@ -99,7 +99,7 @@ call_fault (Some f) name n = unless (allows f n) (WrongArity name n)
 
 -- LENGTH and COUNT
 abbrev pub is_counting : Aggregate → Bool
-is_counting counting = true
+is_counting count = true
 is_counting kind = false
 
 abbrev pub is_given : MaybeExpr → Bool
@@ -111,23 +111,23 @@ abbrev pub aggregate_fault : Option Aggregate → List ℕ → MaybeExpr → Opt
 aggregate_fault None name e = Some (UnknownFunction name)
 aggregate_fault (Some kind) name e = unless (is_counting kind || is_given e) (WrongArity name 0)
 
--- the names behind KEEP are variables of the same query
-abbrev pub kept_names : List Ident → List (List ℕ) → Option ScopeFault
-kept_names own [] = None
-kept_names own (n ∷ ns) = first (unless (is_among own (Name n)) (UnknownName n)) (kept_names own ns)
+-- the names after KEEP are variables of the same query
+abbrev pub keep_fault : List Ident → List (List ℕ) → Option ScopeFault
+keep_fault own [] = None
+keep_fault own (n ∷ ns) = first (unless (is_among own (Name n)) (UnknownName n)) (keep_fault own ns)
 
 -- vertex, edge and path of a traversal
-abbrev pub walk_vars : WalkShape → List Ident
-walk_vars w = w.vertex ∷ (option_to_list w.edge ++ option_to_list w.path)
+abbrev pub traversal_variables : TraversalShape → List Ident
+traversal_variables w = w.vertex ∷ (option_to_list w.edge ++ option_to_list w.path)
 
 -- what one setting shows, and the settings with it
 abbrev pub setting_fault : List ℕ → Option Written → Option ScopeFault
 setting_fault name None = Some (BadOption name)
 setting_fault name (Some w) = unless (agree w.order w.bfs) (BadOption (codes "order"))
 
-abbrev pub taken_over : Written → Option Written → Written
-taken_over w None = w
-taken_over w (Some now) = now
+abbrev pub settings_after : Written → Option Written → Written
+settings_after w None = w
+settings_after w (Some now) = now
 
 -- the value of a setting that is a literal
 abbrev pub setting_of : List ℕ → ExprTree → Written → Option Written
@@ -137,18 +137,19 @@ setting_of name e w = None
 abbrev mutual
   pub in_expr : Place → ExprTree → Option ScopeFault
   in_expr p (literal v) = None
-  in_expr p (variable x) = unless (is_among (seen p) x) (UnknownName (text_of x))
+  in_expr p (variable x) = unless (is_among (visible_variables p) x) (UnknownName (text_of x))
   in_expr p current = None
-  in_expr p (listed es) = in_exprs p es
-  in_expr p (made ms) = in_members p ms
+  in_expr p (array_literal es) = in_exprs p es
+  in_expr p (object_literal ms) = in_members p ms
   in_expr p (access e ss) = first (in_expr p e) (in_steps p ss)
-  in_expr p (called name es) = first (call_fault (looked_up name) name (count es)) (in_exprs p es)
+  in_expr p (function_call name es) =
+      first (call_fault (function_named name) name (expr_count es)) (in_exprs p es)
   in_expr p (unary_of op e) = in_expr p e
   in_expr p (chain e ls) = first (in_expr p e) (in_links p ls)
-  in_expr p (quantified e kind op f) = first (in_expr p e) (in_expr p f)
-  in_expr p (choice test chosen other) = first (in_expr p test) (first (in_maybe p chosen) (in_expr p other))
+  in_expr p (array_comparison e kind op f) = first (in_expr p e) (in_expr p f)
+  in_expr p (ternary test chosen other) = first (in_expr p test) (first (in_maybe p chosen) (in_expr p other))
   in_expr p (range_of e f) = first (in_expr p e) (in_expr p f)
-  in_expr p (subquery q) = first (unless p.lifts SubqueryNotAllowed) (in_query (opened p) q)
+  in_expr p (subquery q) = first (unless p.lifts SubqueryNotAllowed) (in_query (within_subquery p) q)
 
   pub in_exprs : Place → ExprTrees → Option ScopeFault
   in_exprs p no_exprs = None
@@ -167,7 +168,7 @@ abbrev mutual
   in_steps p no_steps = None
   in_steps p (name_then name ss) = in_steps p ss
   in_steps p (at_then e ss) = first (in_expr p e) (in_steps p ss)
-  in_steps p (each_then filter gives ss) =
+  in_steps p (inline_then filter gives ss) =
       first (in_maybe (inline p) filter) (first (in_maybe (inline p) gives) (in_steps p ss))
 
   pub in_links : Place → LinkTrees → Option ScopeFault
@@ -177,44 +178,47 @@ abbrev mutual
   -- the settings of a traversal, where w are those before them: first the parts of each, then what it shows
   pub in_settings : Place → Written → MemberTrees → Option ScopeFault
   in_settings p w no_members =
-      unless (global_fits w.vertices (is_breadth w.order w.bfs)) (BadOption (codes "uniqueVertices"))
+      unless (global_fits w.vertices (is_breadth_first w.order w.bfs)) (BadOption (codes "uniqueVertices"))
   in_settings p w (named_then name e ms) =
       first (in_expr p e) (first (setting_fault name (setting_of name e w))
-      (in_settings p (taken_over w (setting_of name e w)) ms))
+      (in_settings p (settings_after w (setting_of name e w)) ms))
   in_settings p w (computed_then k e ms) =
       first (in_expr p k) (first (in_expr p e) (Some (BadOption (codes "computed"))))
 
   -- the criteria with their variables, where these were declared earlier in the same COLLECT
   pub in_criteria : Place → List Ident → List Ident → ExprTrees → Option ScopeFault
-  in_criteria p earlier xs no_exprs = new_names (seen p) earlier xs
+  in_criteria p earlier xs no_exprs = new_names (visible_variables p) earlier xs
   in_criteria p earlier [] (expr_then e es) = first (in_expr p e) (in_criteria p earlier [] es)
   in_criteria p earlier (x ∷ xs) (expr_then e es) =
-      first (new_name (seen p) earlier x) (first (in_expr p e) (in_criteria p (x ∷ earlier) xs es))
+      first (new_name (visible_variables p) earlier x)
+      (first (in_expr p e) (in_criteria p (x ∷ earlier) xs es))
 
   pub in_aggregates : Place → List Ident → AggregateTrees → Option ScopeFault
   in_aggregates p earlier no_aggregates = None
   in_aggregates p earlier (aggregate_then x name e gs) =
-      first (new_name (seen p) earlier x) (first (aggregate_fault (aggregate_named name) name e)
+      first (new_name (visible_variables p) earlier x) (first (aggregate_fault (aggregate_named name) name e)
       (first (in_maybe p e) (in_aggregates p (x ∷ earlier) gs)))
 
   pub in_into : Place → List Ident → IntoTree → Option ScopeFault
   in_into p earlier no_into = None
   in_into p earlier (into x what keep) =
-      first (new_name (seen p) earlier x) (first (in_maybe p what) (kept_names p.own keep))
+      first (new_name (visible_variables p) earlier x) (first (in_maybe p what) (keep_fault p.own keep))
 
   -- a single name after IN is a variable or a collection
   pub in_clause : Place → ClauseTree → Option ScopeFault
   in_clause p (for_each x (variable (Name c))) =
-      first (new_name (seen p) [] x) (unless (is_among (seen p) (Name c) || is_some (place_of p.held c)) (UnknownCollection c))
-  in_clause p (for_each x e) = first (new_name (seen p) [] x) (in_expr p e)
-  in_clause p (for_documents x c) = first (new_name (seen p) [] x) (known_collection p.held c)
-  in_clause p (for_paths w e cs prune settings) =
-      first (new_names (seen p) [] (walk_vars w)) (first (unless (nat_le w.min w.max) (BadOption (codes "depth")))
+      first (new_name (visible_variables p) [] x) (unless
+      (is_among (visible_variables p) (Name c) || is_some (place_of p.held c)) (UnknownCollection c))
+  in_clause p (for_each x e) = first (new_name (visible_variables p) [] x) (in_expr p e)
+  in_clause p (for_documents x c) = first (new_name (visible_variables p) [] x) (known_collection p.held c)
+  in_clause p (traversal w e cs prune settings) =
+      first (new_names (visible_variables p) [] (traversal_variables w))
+      (first (unless (nat_le w.min w.max) (BadOption (codes "depth")))
       (first (in_expr p e) (first (edge_collections p.held cs)
-      (first (in_maybe (inline (behind (for_paths w e cs prune settings) p)) prune)
-      (in_settings (inline p) unwritten settings)))))
-  in_clause p (keep_if e) = in_expr p e
-  in_clause p (define x e) = first (new_name (seen p) [] x) (in_expr p e)
+      (first (in_maybe (inline (after_clause (traversal w e cs prune settings) p)) prune)
+      (in_settings (inline p) no_settings settings)))))
+  in_clause p (filter_by e) = in_expr p e
+  in_clause p (let_be x e) = first (new_name (visible_variables p) [] x) (in_expr p e)
   in_clause p (sort_by directions es) = in_exprs p es
   in_clause p (limit offset n) = None
   in_clause p (collect xs es gs i) =
@@ -224,11 +228,11 @@ abbrev mutual
   -- the place is that of the query's opening
   pub in_query : Place → QueryTree → Option ScopeFault
   in_query p (query with cs distinct e) =
-      first (known_collections p.held with) (first (in_clauses p cs) (in_expr (behind_all cs p) e))
+      first (known_collections p.held with) (first (in_clauses p cs) (in_expr (after_clauses cs p) e))
 
   pub in_clauses : Place → ClauseTrees → Option ScopeFault
   in_clauses p no_clauses = None
-  in_clauses p (clause_then c cs) = first (in_clause p c) (in_clauses (behind c p) cs)
+  in_clauses p (clause_then c cs) = first (in_clause p c) (in_clauses (after_clause c p) cs)
 
 -- the place of a query that stands in no other
 abbrev pub outermost : List Held → Place

@@ -1,3 +1,3 @@
 pub mod Options
 pub mod Faults
-pub mod Walk
+pub mod Visit

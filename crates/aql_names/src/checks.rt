@@ -2,11 +2,11 @@
 
 ghost use Rattle.std.specs.Prelude.{◌≡◌, ◌++◌, ◌∷◌, [], suc, length, map, option_map, is_some, nat_le, codes};
 ghost use Rattle.std.specs.Str.{str_eq_ignore_ascii_case};
-ghost use Rattle.aql_func.specs.Names.{looked_up};
+ghost use Rattle.aql_func.specs.Names.{function_named};
 ghost use Rattle.aql_func.specs.Aggregates.{aggregate_named};
 ghost use Rattle.aql_tree.specs.View.{tree, trees, maybe};
-ghost use Rattle.aql_lift.specs.Names.{idents, text_of};
-ghost use Rattle.aql_names.specs.Walk.{Judges};
+ghost use Rattle.aql_lift.specs.Numbering.{idents, text_of};
+ghost use Rattle.aql_names.specs.Visit.{Judges};
 ghost use Rattle.aql_doc.specs.Declarations.{place_of};
 ghost use Rattle.aql_names.specs.Faults as fault;
 
@@ -68,7 +68,8 @@ pub fn check_edges(alloc: Global, catalog: &Catalog, names: &[Text]) -> Result<(
 }
 
 fn check_edge(alloc: Global, catalog: &Catalog, name: &Text) -> Result<(), ScopeFault>
-    ensures { Judges (fault.edge_fault catalog.now name.now (place_of catalog.now name.now)) result }
+    ensures { Judges
+        (fault.edge_fault catalog.now name.now (place_of catalog.now name.now)) result }
 {
     let Some(number) = catalog.find(name.as_str()) else {
         return Err(ScopeFault::UnknownCollection {
@@ -89,7 +90,7 @@ fn check_edge(alloc: Global, catalog: &Catalog, name: &Text) -> Result<(), Scope
 
 // A call with a number of arguments, at the function's name.
 fn check_call(alloc: Global, name: &Text, given: usize) -> Result<(), ScopeFault>
-    ensures { Judges (fault.call_fault (looked_up name.now) name.now given) result }
+    ensures { Judges (fault.call_fault (function_named name.now) name.now given) result }
 {
     let Some(function) = lookup(name.as_str()) else {
         return Err(ScopeFault::UnknownFunction {
@@ -110,8 +111,8 @@ fn check_call(alloc: Global, name: &Text, given: usize) -> Result<(), ScopeFault
 
 /// A call with these arguments, at the function's name.
 pub fn check_args(alloc: Global, name: &Text, args: &[Expr]) -> Result<(), ScopeFault>
-    ensures { Judges (fault.call_fault (looked_up name.now) name.now
-        (fault.count (trees (map tree args.now)))) result }
+    ensures { Judges (fault.call_fault (function_named name.now) name.now
+        (fault.expr_count (trees (map tree args.now)))) result }
 {
     check_call(alloc, name, args.len())
 }
@@ -123,7 +124,8 @@ fn is_called(name: &str, meant: &str) -> bool
     meant.eq_ignore_ascii_case(name)
 }
 
-// Whether the aggregate of this name may have no argument; nothing where there is no such aggregate.
+// Whether the aggregate of this name may have no argument; nothing where there is no such
+// aggregate.
 #[tactic(auto, using(crate::proofs::Words::no_aggregate))]
 fn counts(name: &Text) -> Option<bool>
     ensures { result ≡ option_map fault.is_counting (aggregate_named name.now) }
@@ -174,9 +176,9 @@ pub fn check_aggregate(alloc: Global, name: &Text, arg: &Option<Expr>) -> Result
     }
 }
 
-/// The names behind KEEP, among the variables of the query.
+/// The names after KEEP, among the variables of the query.
 pub fn check_kept(alloc: Global, own: &NameList, keep: &[Text]) -> Result<(), ScopeFault>
-    ensures { Judges (fault.kept_names (idents own.now) keep.now) result }
+    ensures { Judges (fault.keep_fault (idents own.now) keep.now) result }
 {
     for name in keep {
         let ident = Ident::Name(name.copy(alloc)?);

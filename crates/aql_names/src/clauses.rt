@@ -2,17 +2,17 @@
 
 ghost use Rattle.std.specs.Prelude.{◌≡◌, [], ◌∷◌, ◌++◌, map, length, suc, Some, Ok, Err, IfOk, OnOk, option_to_list, option_map, nat_le, codes};
 ghost use Rattle.aql_tree.specs.Tree as spec;
-ghost use Rattle.aql_tree.specs.View.{tree, clause_tree, query_tree, into_part, traversal_part, options_part, members, member_part, named, walked, step_part, each, aggregate_part};
+ghost use Rattle.aql_tree.specs.View.{tree, clause_tree, query_tree, into_part, traversal_part, options_part, members, member_part, named, traversal_clause, step_part, inline, aggregate_part};
 ghost use Rattle.aql_tree.specs.declared.syntax.Ident.TheVariants.{Name, Num};
 ghost use Rattle.aql_doc.specs.Declarations.{place_of};
-ghost use Rattle.aql_meaning.specs.Groups.{names_taken};
+ghost use Rattle.aql_meaning.specs.Groups.{into_names};
 ghost use Rattle.aql_meaning.specs.Visible.{onto};
-ghost use Rattle.aql_lift.specs.Names.{number_of, numbered, idents, text_of, given, entered, numbered_walk, walk_names, object_of};
+ghost use Rattle.aql_lift.specs.Numbering.{number_of, numbered_variable, idents, text_of, maybe_number, enter, number_traversal, traversal_names, variable_members};
 ghost use Rattle.aql_names.specs.declared.faults.ScopeFault.TheVariants.{BadOption};
-ghost use Rattle.aql_names.specs.Options.{is_breadth, global_fits};
+ghost use Rattle.aql_names.specs.Options.{is_breadth_first, global_fits};
 ghost use Rattle.aql_names.specs.Faults as fault;
-ghost use Rattle.aql_names.specs.Walk as walk;
-ghost use Rattle.aql_names.specs.Walk.{Gives, Judges, Walks, site_of, site_within};
+ghost use Rattle.aql_names.specs.Visit as visit;
+ghost use Rattle.aql_names.specs.Visit.{Gives, Judges, Visits, site_of, site_within};
 
 use crate::ScopeFault;
 use crate::checks::{check_collection, check_kept, check_new};
@@ -38,7 +38,7 @@ pub fn copy_texts(alloc: Global, texts: &[Text]) -> Result<Names, OutOfMemory>
 
 /// The name, where an expression is a single one.
 pub fn single_name(list: &Expr) -> Option<&Text>
-    ensures { option_map (λ t. t.now) result ≡ walk.single_name (tree list.now) }
+    ensures { option_map (λ t. t.now) result ≡ visit.single_name (tree list.now) }
 {
     match list {
         Expr::Var(Ident::Name(name)) => Some(name),
@@ -48,8 +48,8 @@ pub fn single_name(list: &Expr) -> Option<&Text>
 
 /// A variable by its number.
 pub fn variable(at: &At<'_>, ident: &Ident) -> Result<Expr, ScopeFault>
-    ensures { (st : walk.State) → Walks tree
-        (walk.expr (site_of at.now) (spec.variable ident.now) st) result st }
+    ensures { (st : visit.State) → Visits tree
+        (visit.expr (site_of at.now) (spec.variable ident.now) st) result st }
 {
     match at.scope.find(ident) {
         Some(number) => Ok(Expr::Var(Ident::Num(number))),
@@ -76,7 +76,7 @@ pub fn lift_query(
 ) -> Result<Expr, OutOfMemory>
     ensures variable { IfOk result (λ e. tree e ≡ spec.variable (Num number)) }
     ensures lets { OnOk result (map clause_tree lets.new ≡ map clause_tree lets.old
-        ++ spec.define (Num number) (spec.subquery (query_tree inner)) ∷ []) }
+        ++ spec.let_be (Num number) (spec.subquery (query_tree inner)) ∷ []) }
 {
     lets.push(Clause::Let {
         var: Ident::Num(number),
@@ -92,7 +92,8 @@ pub fn declare_new(
     ident: &Ident,
     said: &mut Names,
 ) -> Result<u32, ScopeFault>
-    ensures fault { Judges (fault.new_name (idents scope.now.own ++ idents scope.now.outer) [] ident.now) result }
+    ensures fault { Judges
+        (fault.new_name (idents scope.now.own ++ idents scope.now.outer) [] ident.now) result }
     ensures number { IfOk result (λ n. n ≡ suc (length said.old)) }
     ensures said { OnOk result (said.new ≡ said.old ++ text_of ident.now ∷ []) }
 {
@@ -107,7 +108,8 @@ pub fn enter_new(
     behind: &mut NameList,
     said: &mut Names,
 ) -> Result<u32, ScopeFault>
-    ensures fault { Judges (fault.new_name (idents at.now.scope.now.own ++ idents at.now.scope.now.outer)
+    ensures fault { Judges
+        (fault.new_name (idents at.now.scope.now.own ++ idents at.now.scope.now.outer)
         (idents behind.old) ident.now) result }
     ensures number { IfOk result (λ n. n ≡ suc (length said.old)) }
     ensures behind { OnOk result (behind.new ≡ (ident.now, suc (length said.old)) ∷ behind.old) }
@@ -127,7 +129,8 @@ pub fn for_each(
     list: Box<Expr>,
     scope: &mut Scope,
 ) -> Result<Clause, OutOfMemory>
-    ensures clause { IfOk result (λ c. clause_tree c ≡ spec.for_each (Num number) (tree list.value)) }
+    ensures clause { IfOk result
+        (λ c. clause_tree c ≡ spec.for_each (Num number) (tree list.value)) }
     ensures own { OnOk result (scope.new.own ≡ (ident.now, number) ∷ scope.old.own) }
     ensures outer { scope.new.outer ≡ scope.old.outer }
 {
@@ -146,7 +149,8 @@ pub fn define(
     value: Box<Expr>,
     scope: &mut Scope,
 ) -> Result<Clause, OutOfMemory>
-    ensures clause { IfOk result (λ c. clause_tree c ≡ spec.define (Num number) (tree value.value)) }
+    ensures clause { IfOk result
+        (λ c. clause_tree c ≡ spec.let_be (Num number) (tree value.value)) }
     ensures own { OnOk result (scope.new.own ≡ (ident.now, number) ∷ scope.old.own) }
     ensures outer { scope.new.outer ≡ scope.old.outer }
 {
@@ -166,7 +170,7 @@ pub fn define_query(
     scope: &mut Scope,
 ) -> Result<Clause, OutOfMemory>
     ensures clause { IfOk result (λ c. clause_tree c
-        ≡ spec.define (Num number) (spec.subquery (query_tree inner))) }
+        ≡ spec.let_be (Num number) (spec.subquery (query_tree inner))) }
     ensures own { OnOk result (scope.new.own ≡ (ident.now, number) ∷ scope.old.own) }
     ensures outer { scope.new.outer ≡ scope.old.outer }
 {
@@ -186,7 +190,7 @@ pub fn source(
     found: Option<u32>,
 ) -> Result<Clause, ScopeFault>
     ensures { Gives clause_tree
-        (walk.source number name.now found (place_of at.now.catalog.now name.now)) result }
+        (visit.source number name.now found (place_of at.now.catalog.now name.now)) result }
 {
     let var = Ident::Num(number);
     if let Some(found) = found {
@@ -208,8 +212,8 @@ pub fn for_name(
     scope: &mut Scope,
     said: &mut Names,
 ) -> Result<Clause, ScopeFault>
-    ensures clause { Walks (λ c. (clause_tree c, scope.new.own))
-        (walk.for_named (site_within at.now scope.old) var.now name.now said.old) result said.new }
+    ensures clause { Visits (λ c. (clause_tree c, scope.new.own))
+        (visit.for_name (site_within at.now scope.old) var.now name.now said.old) result said.new }
     ensures outer { scope.new.outer ≡ scope.old.outer }
 {
     let number = declare_new(at.alloc, scope, var, said)?;
@@ -226,8 +230,8 @@ pub fn documents_clause(
     scope: &mut Scope,
     said: &mut Names,
 ) -> Result<Clause, ScopeFault>
-    ensures clause { Walks (λ c. (clause_tree c, scope.new.own))
-        (walk.for_collection (site_within at.now scope.old) var.now collection.now said.old)
+    ensures clause { Visits (λ c. (clause_tree c, scope.new.own))
+        (visit.for_collection (site_within at.now scope.old) var.now collection.now said.old)
         result said.new }
     ensures outer { scope.new.outer ≡ scope.old.outer }
 {
@@ -240,7 +244,7 @@ pub fn documents_clause(
     })
 }
 
-/// The names of a traversal, numbered, the query's own names behind it, and its edge collections.
+/// The names of a traversal, numbered, the query's own names after it, and its edge collections.
 #[derive(Drop)]
 pub struct WalkHead {
     pub vertex: Ident,
@@ -298,9 +302,9 @@ fn declare_maybe(
     behind: &mut NameList,
     said: &mut Names,
 ) -> Result<Option<Ident>, OutOfMemory>
-    ensures number { IfOk result (λ x. x ≡ given (suc (length said.old)) ident.now) }
-    ensures behind { OnOk result (behind.new ≡ entered (option_to_list ident.now)
-        (option_to_list (given (suc (length said.old)) ident.now)) behind.old) }
+    ensures number { IfOk result (λ x. x ≡ maybe_number (suc (length said.old)) ident.now) }
+    ensures behind { OnOk result (behind.new ≡ enter (option_to_list ident.now)
+        (option_to_list (maybe_number (suc (length said.old)) ident.now)) behind.old) }
     ensures said { OnOk result (said.new ≡ said.old ++ map text_of (option_to_list ident.now)) }
 {
     match ident {
@@ -321,13 +325,13 @@ fn declare_walk(
     said: &mut Names,
 ) -> Result<WalkHead, OutOfMemory>
     ensures vars { IfOk result (λ v.
-        let w = numbered_walk (suc (length said.old)) (traversal_part traversal.now).0 in
+        let w = number_traversal (suc (length said.old)) (traversal_part traversal.now).0 in
         (v.vertex ≡ w.vertex) × (v.edge ≡ w.edge) × (v.path ≡ w.path)) }
     ensures behind { IfOk result (λ v. v.behind
-        ≡ walk_names (suc (length said.old)) (traversal_part traversal.now).0 own.now) }
+        ≡ traversal_names (suc (length said.old)) (traversal_part traversal.now).0 own.now) }
     ensures collections { IfOk result (λ v. v.collections ≡ traversal.now.collections) }
     ensures said { OnOk result (said.new
-        ≡ said.old ++ map text_of (fault.walk_vars (traversal_part traversal.now).0)) }
+        ≡ said.old ++ map text_of (fault.traversal_variables (traversal_part traversal.now).0)) }
 {
     let collections = copy_texts(alloc, traversal.collections.as_slice())?;
     let mut behind = own.copy(alloc)?;
@@ -366,16 +370,18 @@ pub fn open_walk(
 ) -> Result<WalkHead, ScopeFault>
     ensures fault { Judges (fault.first
         (fault.new_names (idents scope.now.own ++ idents scope.now.outer) []
-        (traversal.now.vertex ∷ (option_to_list traversal.now.edge ++ option_to_list traversal.now.path)))
-        (fault.unless (nat_le traversal.now.min traversal.now.max) (BadOption (codes "depth")))) result }
+        (traversal.now.vertex
+        ∷ (option_to_list traversal.now.edge ++ option_to_list traversal.now.path)))
+        (fault.unless (nat_le traversal.now.min traversal.now.max) (BadOption (codes "depth"))))
+        result }
     ensures vars { IfOk result (λ v.
-        let w = numbered_walk (suc (length said.old)) (traversal_part traversal.now).0 in
+        let w = number_traversal (suc (length said.old)) (traversal_part traversal.now).0 in
         (v.vertex ≡ w.vertex) × (v.edge ≡ w.edge) × (v.path ≡ w.path)) }
     ensures behind { IfOk result (λ v. v.behind
-        ≡ walk_names (suc (length said.old)) (traversal_part traversal.now).0 scope.now.own) }
+        ≡ traversal_names (suc (length said.old)) (traversal_part traversal.now).0 scope.now.own) }
     ensures collections { IfOk result (λ v. v.collections ≡ traversal.now.collections) }
     ensures said { OnOk result (said.new
-        ≡ said.old ++ map text_of (fault.walk_vars (traversal_part traversal.now).0)) }
+        ≡ said.old ++ map text_of (fault.traversal_variables (traversal_part traversal.now).0)) }
 {
     check_walk_vars(alloc, scope, traversal)?;
     check_depth(alloc, traversal)?;
@@ -389,8 +395,10 @@ pub fn check_setting(
     name: &Text,
     value: &Expr,
 ) -> Result<Written, ScopeFault>
-    ensures fault { Judges (fault.setting_fault name.now (fault.setting_of name.now (tree value.now) found)) result }
-    ensures ok { IfOk result (λ w. w ≡ fault.taken_over found (fault.setting_of name.now (tree value.now) found)) }
+    ensures fault { Judges
+        (fault.setting_fault name.now (fault.setting_of name.now (tree value.now) found)) result }
+    ensures ok { IfOk result
+        (λ w. w ≡ fault.settings_after found (fault.setting_of name.now (tree value.now) found)) }
 {
     let with = match value {
         Expr::Lit(value) => found.with(name.as_str(), value),
@@ -411,8 +419,8 @@ pub fn check_setting(
 
 /// Settings that are all read, where "global" goes with breadth first alone.
 pub fn check_settings(alloc: Global, found: Written) -> Result<Written, ScopeFault>
-    ensures { (st : walk.State) → Walks (λ w. w) (walk.judged
-        (fault.unless (global_fits found.vertices (is_breadth found.order found.bfs))
+    ensures { (st : visit.State) → Visits (λ w. w) (visit.judge
+        (fault.unless (global_fits found.vertices (is_breadth_first found.order found.bfs))
         (BadOption (codes "uniqueVertices"))) (Ok (found, st))) result st }
 {
     if !found.fits() {
@@ -425,7 +433,7 @@ pub fn check_settings(alloc: Global, found: Written) -> Result<Written, ScopeFau
 
 /// A setting whose name is an expression.
 pub fn computed_setting(alloc: Global) -> Result<Written, ScopeFault>
-    ensures { (st : walk.State) → Walks (λ w. w) (Err (BadOption (codes "computed"))) result st }
+    ensures { (st : visit.State) → Visits (λ w. w) (Err (BadOption (codes "computed"))) result st }
 {
     Err(ScopeFault::BadOption {
         name: Text::new(alloc, "computed")?,
@@ -449,7 +457,7 @@ fn bare_options(alloc: Global, edges: UniqueEdges, vertices: UniqueVertices, bfs
 fn options_from(alloc: Global, options: &Options, found: Written) -> Options
     ensures { options_part result ≡ (
       [],
-      walk.written_options
+      visit.options_after
           (members (map member_part options.now.settings)) (options_part options.now).1 found,
     ) }
 {
@@ -523,12 +531,12 @@ pub fn walk_of(
     parts: WalkParts,
     scope: &mut Scope,
 ) -> Clause
-    ensures clause { clause_tree result ≡ walked (
+    ensures clause { clause_tree result ≡ traversal_clause (
       record (traversal_part traversal.now).0 {
         vertex = head.vertex;
         edge = head.edge;
         path = head.path;
-        options = walk.written_options (members (traversal_part traversal.now).4)
+        options = visit.options_after (members (traversal_part traversal.now).4)
             (traversal_part traversal.now).0.options parts.written;
       },
       tree parts.start.value,
@@ -553,10 +561,10 @@ pub fn walk_of(
     ))
 }
 
-/// An inline operator with this FILTER and RETURN.
+/// An inline expression with this FILTER and RETURN.
 pub fn each_step(filter: Option<Box<Expr>>, project: Option<Box<Expr>>) -> Step
     ensures { step_part result
-        ≡ each (option_map (λ b. tree b.value) filter) (option_map (λ b. tree b.value) project) }
+        ≡ inline (option_map (λ b. tree b.value) filter) (option_map (λ b. tree b.value) project) }
 {
     Step::Each {
         filter: unbox(filter),
@@ -585,7 +593,8 @@ pub fn aggregate_item(
 // A member with a variable by its name.
 fn named_member(at: &At<'_>, name: &Text) -> Result<Field, OutOfMemory>
     ensures { IfOk result (λ f. member_part f
-        ≡ named name.now (numbered (number_of (walk.visible (site_of at.now)) (Name name.now)))) }
+        ≡ named name.now
+        (numbered_variable (number_of (visit.visible (site_of at.now)) (Name name.now)))) }
 {
     let number = number_of_name(at.alloc, at.scope, name)?;
     let name = name.copy(at.alloc)?;
@@ -597,7 +606,7 @@ fn named_member(at: &At<'_>, name: &Text) -> Result<Field, OutOfMemory>
 }
 
 fn object(fields: Fields) -> Expr
-    ensures { tree result ≡ spec.made (members (map member_part fields)) }
+    ensures { tree result ≡ spec.object_literal (members (map member_part fields)) }
 {
     Expr::Object(fields)
 }
@@ -606,7 +615,7 @@ fn object(fields: Fields) -> Expr
 #[tactic(auto, using(crate::proofs::Words::object_members))]
 fn object_with(at: &At<'_>, names: &[Text]) -> Result<Expr, OutOfMemory>
     ensures { IfOk result (λ e. tree e
-        ≡ spec.made (object_of (walk.visible (site_of at.now)) names.now)) }
+        ≡ spec.object_literal (variable_members (visit.visible (site_of at.now)) names.now)) }
 {
     let mut fields = Seq::new(at.alloc);
     for name in names {
@@ -619,8 +628,9 @@ fn object_with(at: &At<'_>, names: &[Text]) -> Result<Expr, OutOfMemory>
 /// KEEP names.
 #[tactic(auto, using(crate::proofs::Words::kept_taken))]
 pub fn variables_object(at: &At<'_>, keep: &[Text]) -> Result<Expr, OutOfMemory>
-    ensures { IfOk result (λ e. tree e ≡ spec.made (object_of (walk.visible (site_of at.now))
-        (names_taken (idents at.now.scope.now.own) keep.now))) }
+    ensures { IfOk result
+        (λ e. tree e ≡ spec.object_literal (variable_members (visit.visible (site_of at.now))
+        (into_names (idents at.now.scope.now.own) keep.now))) }
 {
     if keep.len() == 0 {
         let own = at.scope.own.names(at.alloc)?;
@@ -637,8 +647,8 @@ pub fn into_names(
     behind: &mut NameList,
     said: &mut Names,
 ) -> Result<Into, ScopeFault>
-    ensures { Walks (λ i. (Some (into_part i), behind.new))
-        (walk.into_named (site_of at.now) behind.old var.now keep.now said.old) result said.new }
+    ensures { Visits (λ i. (Some (into_part i), behind.new))
+        (visit.into_object (site_of at.now) behind.old var.now keep.now said.old) result said.new }
 {
     let number = enter_new(at, var, behind, said)?;
     check_kept(at.alloc, &at.scope.own, keep)?;

@@ -3,19 +3,19 @@ use std::alloc::{AllocError, AllocFailed};
 
 /// The first fault of a query, in the order of its text.
 pub enum ScopeFault {
-    /// A name in an expression is no visible variable, or one behind KEEP none of the same query.
+    /// A name in an expression is no visible variable, or one after KEEP none of the same query.
     UnknownName { name: Text },
     /// A declared name is visible already, or declared earlier in the same clause.
     Redeclared { name: Text },
-    /// A name of WITH, a single name behind IN or an edge collection is no collection.
+    /// A name of WITH, a single name after IN or an edge collection is no collection.
     UnknownCollection { name: Text },
-    /// There is no such function, or behind AGGREGATE no such aggregate.
+    /// There is no such function, or after AGGREGATE no such aggregate.
     UnknownFunction { name: Text },
     /// A function does not take this number of arguments.
     WrongArity { name: Text, given: u32 },
     /// A document collection stands among the edge collections of a traversal.
     NotEdge { name: Text },
-    /// A subquery stands within PRUNE, OPTIONS or an inline operator.
+    /// A subquery stands within PRUNE, OPTIONS or an inline expression.
     SubqueryNotAllowed,
     /// A depth of a traversal descends (`depth`), or a setting of OPTIONS may not stand there.
     BadOption { name: Text },

@@ -1,10 +1,10 @@
 //! The visible names and their numbers.
 
 ghost use Rattle.std.specs.Prelude.{◌≡◌, [], ◌∷◌, ◌++◌, suc, length, reverse, IfOk, OnOk};
-ghost use Rattle.aql_lift.specs.Names.{number_of, idents, text_of};
+ghost use Rattle.aql_lift.specs.Numbering.{number_of, idents, text_of};
 ghost use Rattle.aql_meaning.specs.Row.{same_ident};
 ghost use Rattle.aql_names.specs.Faults.{is_among};
-ghost use Rattle.aql_names.specs.Walk.{site_of, site_within, inline_site};
+ghost use Rattle.aql_names.specs.Visit.{site_of, site_within, inline_site};
 ghost use Rattle.aql_meaning.specs.Groups.{names_of};
 
 use aql_doc::Catalog;
@@ -25,9 +25,9 @@ impl Drop for NameList {
 }
 
 impl Model for NameList {
-    ghost use Rattle.aql_lift.specs.Names.{Names};
+    ghost use Rattle.aql_lift.specs.Numbering.{Numbering};
 
-    ghost Value = { Names };
+    ghost Value = { Numbering };
 
     ghost use Rattle.std.specs.Prelude.{reverse};
 
@@ -265,7 +265,7 @@ pub fn declare_ident(alloc: Global, said: &mut Names, ident: &Ident) -> Result<u
 }
 
 impl<'a> At<'a> {
-    /// Within an inline operator, PRUNE or OPTIONS, where no subquery may stand.
+    /// Within an inline expression, PRUNE or OPTIONS, where no subquery may stand.
     pub fn inline(&self) -> At<'a>
         ensures { site_of result ≡ inline_site (site_of self.now) }
     {

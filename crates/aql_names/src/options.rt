@@ -1,10 +1,10 @@
 //! The settings of a traversal's OPTIONS.
 
 ghost use Rattle.std.specs.Prelude.{◌≡◌};
-ghost use Rattle.aql_value.specs.View.{tree_of};
+ghost use Rattle.aql_value.specs.View.{datum_of};
 ghost use Rattle.aql_names.specs.Options as spec;
 ghost use Rattle.aql_tree.specs.View.{options_part};
-ghost use Rattle.aql_names.specs.Walk.{options_in};
+ghost use Rattle.aql_names.specs.Visit.{options_in};
 
 use aql_tree::{UniqueEdges, UniqueVertices};
 use aql_value::Value;
@@ -21,7 +21,7 @@ pub struct Written {
 }
 
 fn edges_in(value: &Value) -> Option<UniqueEdges>
-    ensures { result ≡ spec.edges_in (tree_of value.now) }
+    ensures { result ≡ spec.edges_in (datum_of value.now) }
 {
     match value {
         Value::Text(text) => {
@@ -38,7 +38,7 @@ fn edges_in(value: &Value) -> Option<UniqueEdges>
 }
 
 fn vertices_in(value: &Value) -> Option<UniqueVertices>
-    ensures { result ≡ spec.vertices_in (tree_of value.now) }
+    ensures { result ≡ spec.vertices_in (datum_of value.now) }
 {
     match value {
         Value::Text(text) => {
@@ -57,7 +57,7 @@ fn vertices_in(value: &Value) -> Option<UniqueVertices>
 }
 
 fn order_in(value: &Value) -> Option<bool>
-    ensures { result ≡ spec.order_in (tree_of value.now) }
+    ensures { result ≡ spec.order_in (datum_of value.now) }
 {
     match value {
         Value::Text(text) => {
@@ -74,7 +74,7 @@ fn order_in(value: &Value) -> Option<bool>
 }
 
 fn bfs_in(value: &Value) -> Option<bool>
-    ensures { result ≡ spec.bfs_in (tree_of value.now) }
+    ensures { result ≡ spec.bfs_in (datum_of value.now) }
 {
     match value {
         Value::Bool(bfs) => Some(*bfs),
@@ -85,7 +85,7 @@ fn bfs_in(value: &Value) -> Option<bool>
 impl Written {
     /// Nothing is written.
     pub fn nothing() -> Written
-        ensures { result ≡ spec.unwritten }
+        ensures { result ≡ spec.no_settings }
     {
         Written {
             edges: None,
@@ -98,7 +98,7 @@ impl Written {
     /// These settings with one more; `None` where its name or its value is none, or it is there
     /// already.
     pub fn with(self, name: &str, value: &Value) -> Option<Written>
-        ensures { result ≡ spec.with_setting name.now (tree_of value.now) self }
+        ensures { result ≡ spec.with_setting name.now (datum_of value.now) self }
     {
         let mut now = self;
         if name == "uniqueEdges" {
@@ -137,9 +137,9 @@ impl Written {
         }
     }
 
-    /// Whether the walk goes breadth first.
+    /// Whether the traversal goes breadth first.
     pub fn is_breadth(&self) -> bool
-        ensures { result ≡ spec.is_breadth self.now.order self.now.bfs }
+        ensures { result ≡ spec.is_breadth_first self.now.order self.now.bfs }
     {
         match (self.order, self.bfs) {
             (Some(order), _) => order,
@@ -150,7 +150,8 @@ impl Written {
 
     /// Whether "global" is not written, or goes with breadth first.
     pub fn fits(&self) -> bool
-        ensures { result ≡ spec.global_fits self.now.vertices (spec.is_breadth self.now.order self.now.bfs) }
+        ensures { result ≡ spec.global_fits self.now.vertices
+            (spec.is_breadth_first self.now.order self.now.bfs) }
     {
         match self.vertices {
             Some(UniqueVertices::Global) => self.is_breadth(),

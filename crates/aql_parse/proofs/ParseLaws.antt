@@ -14,8 +14,8 @@ use Rattle.aql_grammar.specs.declared.faults.ParseFault.{ParseFault}
 use Rattle.aql_grammar.specs.declared.faults.ParseFault.TheVariants.{TooDeep, TooManyClauses, NotInGrammar}
 use Rattle.aql_grammar.specs.declared.faults.ParseFault.TheVariants.{WalkTooDeep, Memory}
 use Rattle.aql_grammar.specs.laws.TreeLaws.{tree_whole, one_tree}
-use Rattle.aql_parse.specs.Parsed.{WithinLimits, IsShallow, HasNoTree, TraversesTooDeep, Gives, Parsed}
-use Rattle.aql_parse.specs.Parsed.{ReadsWhole}
+use Rattle.aql_parse.specs.Parses.{WithinLimits, IsShallow, HasNoTree, TraversesTooDeep, Gives, Parses}
+use Rattle.aql_parse.specs.Parses.{ReadsWhole}
 
 pub no_tree : (ts : Tokens) → whole_query ts ≡ None → HasNoTree ts
 no_tree ts none q a = let p = tree_whole ts q a in absurd (cc)
@@ -23,24 +23,24 @@ no_tree ts none q a = let p = tree_whole ts q a in absurd (cc)
 -- what the grammar refuses within the limits
 pub refused : (ts : Tokens) (e : ParseFault) → ReadsWhole (whole_query ts) (Err e) → nesting ts ≤ 64
     → marks ts ≤ 256
-    → Parsed ts (Err e)
+    → Parses ts (Err e)
 refused ts TooDeep h deep many = absurd h
 refused ts TooManyClauses h deep many = absurd h
 refused ts NotInGrammar h deep many = ((deep, many), no_tree ts h)
 refused ts WalkTooDeep h deep many = absurd h
 refused ts Memory h deep many = tt
 
-pub gives_tree : (ts : Tokens) (r : Result Query ParseFault) → Parsed ts r
+pub gives_tree : (ts : Tokens) (r : Result Query ParseFault) → Parses ts r
     → IfOk r (λ q. Tree ts (query_tree q))
 gives_tree ts (Ok q) h = h.1.0
 gives_tree ts (Err e) h = tt
 
-pub gives_within : (ts : Tokens) (r : Result Query ParseFault) → Parsed ts r
+pub gives_within : (ts : Tokens) (r : Result Query ParseFault) → Parses ts r
     → IfOk r (λ q. WithinLimits ts × IsShallow (query_tree q))
 gives_within ts (Ok q) h = (h.0, h.1.1)
 gives_within ts (Err e) h = tt
 
-pub gives_only : (ts : Tokens) (r : Result Query ParseFault) → Parsed ts r → (q : QueryTree) → Tree ts q
+pub gives_only : (ts : Tokens) (r : Result Query ParseFault) → Parses ts r → (q : QueryTree) → Tree ts q
     → WithinLimits ts → IsShallow q → Gives q r
 gives_only ts (Ok found) h q a within shallow = one_tree ts (query_tree found) q h.1.0 a
 gives_only ts (Err TooDeep) h q a within shallow = let w = within.0 in absurd (omega arith)
@@ -54,7 +54,7 @@ gives_only ts (Err WalkTooDeep) h q a within shallow =
     absurd (cc)
 gives_only ts (Err Memory) h q a within shallow = tt
 
-pub gives_too_deep : (ts : Tokens) (r : Result Query ParseFault) → Parsed ts r → IsErrOf r TooDeep
+pub gives_too_deep : (ts : Tokens) (r : Result Query ParseFault) → Parses ts r → IsErrOf r TooDeep
     → 64 < nesting ts
 gives_too_deep ts (Ok q) h is = absurd (cc)
 gives_too_deep ts (Err TooDeep) h is = h
@@ -63,7 +63,7 @@ gives_too_deep ts (Err NotInGrammar) h is = absurd (cc)
 gives_too_deep ts (Err WalkTooDeep) h is = absurd (cc)
 gives_too_deep ts (Err Memory) h is = absurd (cc)
 
-pub gives_too_many : (ts : Tokens) (r : Result Query ParseFault) → Parsed ts r → IsErrOf r TooManyClauses
+pub gives_too_many : (ts : Tokens) (r : Result Query ParseFault) → Parses ts r → IsErrOf r TooManyClauses
     → (nesting ts ≤ 64) × (256 < marks ts)
 gives_too_many ts (Ok q) h is = absurd (cc)
 gives_too_many ts (Err TooDeep) h is = absurd (cc)
@@ -72,7 +72,7 @@ gives_too_many ts (Err NotInGrammar) h is = absurd (cc)
 gives_too_many ts (Err WalkTooDeep) h is = absurd (cc)
 gives_too_many ts (Err Memory) h is = absurd (cc)
 
-pub gives_none : (ts : Tokens) (r : Result Query ParseFault) → Parsed ts r → IsErrOf r NotInGrammar
+pub gives_none : (ts : Tokens) (r : Result Query ParseFault) → Parses ts r → IsErrOf r NotInGrammar
     → WithinLimits ts × HasNoTree ts
 gives_none ts (Ok q) h is = absurd (cc)
 gives_none ts (Err TooDeep) h is = absurd (cc)
@@ -81,7 +81,7 @@ gives_none ts (Err NotInGrammar) h is = h
 gives_none ts (Err WalkTooDeep) h is = absurd (cc)
 gives_none ts (Err Memory) h is = absurd (cc)
 
-pub gives_walk : (ts : Tokens) (r : Result Query ParseFault) → Parsed ts r → IsErrOf r WalkTooDeep
+pub gives_walk : (ts : Tokens) (r : Result Query ParseFault) → Parses ts r → IsErrOf r WalkTooDeep
     → WithinLimits ts × TraversesTooDeep ts
 gives_walk ts (Ok q) h is = absurd (cc)
 gives_walk ts (Err TooDeep) h is = absurd (cc)

@@ -1,4 +1,4 @@
-pub mod Parsed
+pub mod Parses
 pub mod Within
 pub mod Deeper
 pub mod Parts

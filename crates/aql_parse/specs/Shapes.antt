@@ -1,10 +1,10 @@
 -- What a FOR and a traversal say beside their expressions, as the grammar says it.
 use Rattle.std.specs.Prelude.{ℕ, List, Option, Some, None}
-use Rattle.aql_tree.specs.Tree.{WalkShape, WalkOptions}
-use Rattle.aql_tree.specs.Made.{default_options}
+use Rattle.aql_tree.specs.Tree.{TraversalShape, TraversalOptions}
+use Rattle.aql_tree.specs.Build.{default_options}
 use Rattle.aql_parse.specs.declared.traversals.Shape.{Shape}
 
-abbrev pub shape_with : Shape → WalkOptions → WalkShape
+abbrev pub shape_with : Shape → TraversalOptions → TraversalShape
 shape_with s options = record {
   vertex = s.vertex;
   edge = s.edge;
@@ -15,7 +15,7 @@ shape_with s options = record {
   options = options;
 }
 
-abbrev pub shape_of : Shape → WalkShape
+abbrev pub shape_of : Shape → TraversalShape
 shape_of s = shape_with s default_options
 
 -- the variable of a FOR, where no edge is named beside it

@@ -1,12 +1,12 @@
 -- How deep the traversals of a query go: whether the greatest depth of each, wherever it stands, is
 -- at most a number (AQL manual, Graphs, Traversals).
 use Rattle.std.specs.Prelude.{ℕ, Bool, true, ◌&&◌, nat_le}
-use Rattle.aql_tree.specs.Tree.{ExprTree, literal, variable, current, listed, made, access, called}
-use Rattle.aql_tree.specs.Tree.{unary_of, chain, quantified, choice, range_of, subquery, ExprTrees}
+use Rattle.aql_tree.specs.Tree.{ExprTree, literal, variable, current, array_literal, object_literal, access, function_call}
+use Rattle.aql_tree.specs.Tree.{unary_of, chain, array_comparison, ternary, range_of, subquery, ExprTrees}
 use Rattle.aql_tree.specs.Tree.{no_exprs, expr_then, MaybeExpr, no_expr, one_expr, MemberTrees, no_members}
 use Rattle.aql_tree.specs.Tree.{named_then, computed_then, StepTrees, no_steps, name_then, at_then}
-use Rattle.aql_tree.specs.Tree.{each_then, LinkTrees, no_links, link_then, ClauseTree, for_each}
-use Rattle.aql_tree.specs.Tree.{for_documents, for_paths, keep_if, define, sort_by, limit, collect}
+use Rattle.aql_tree.specs.Tree.{inline_then, LinkTrees, no_links, link_then, ClauseTree, for_each}
+use Rattle.aql_tree.specs.Tree.{for_documents, traversal, filter_by, let_be, sort_by, limit, collect}
 use Rattle.aql_tree.specs.Tree.{AggregateTrees, no_aggregates, aggregate_then, IntoTree, no_into, into}
 use Rattle.aql_tree.specs.Tree.{ClauseTrees, no_clauses, clause_then, QueryTree, query}
 
@@ -16,14 +16,14 @@ module _ (most : ℕ) where
     expr_within (literal v) = true
     expr_within (variable x) = true
     expr_within current = true
-    expr_within (listed es) = exprs_within es
-    expr_within (made ms) = members_within ms
+    expr_within (array_literal es) = exprs_within es
+    expr_within (object_literal ms) = members_within ms
     expr_within (access e ss) = expr_within e && steps_within ss
-    expr_within (called name es) = exprs_within es
+    expr_within (function_call name es) = exprs_within es
     expr_within (unary_of op e) = expr_within e
     expr_within (chain e ls) = expr_within e && links_within ls
-    expr_within (quantified e kind op f) = expr_within e && expr_within f
-    expr_within (choice t y n) = expr_within t && (maybe_within y && expr_within n)
+    expr_within (array_comparison e kind op f) = expr_within e && expr_within f
+    expr_within (ternary t y n) = expr_within t && (maybe_within y && expr_within n)
     expr_within (range_of e f) = expr_within e && expr_within f
     expr_within (subquery q) = traversals_within q
 
@@ -44,7 +44,7 @@ module _ (most : ℕ) where
     steps_within no_steps = true
     steps_within (name_then name ss) = steps_within ss
     steps_within (at_then e ss) = expr_within e && steps_within ss
-    steps_within (each_then f p ss) = (maybe_within f && maybe_within p) && steps_within ss
+    steps_within (inline_then f p ss) = (maybe_within f && maybe_within p) && steps_within ss
 
     pub links_within : LinkTrees → Bool
     links_within no_links = true
@@ -53,10 +53,10 @@ module _ (most : ℕ) where
     pub clause_within : ClauseTree → Bool
     clause_within (for_each x e) = expr_within e
     clause_within (for_documents x name) = true
-    clause_within (for_paths shape start names prune settings) = nat_le shape.max most &&
+    clause_within (traversal shape start names prune settings) = nat_le shape.max most &&
         (expr_within start && (maybe_within prune && members_within settings))
-    clause_within (keep_if e) = expr_within e
-    clause_within (define x e) = expr_within e
+    clause_within (filter_by e) = expr_within e
+    clause_within (let_be x e) = expr_within e
     clause_within (sort_by descending keys) = exprs_within keys
     clause_within (limit offset count) = true
     clause_within (collect vars criteria gs i) = exprs_within criteria &&

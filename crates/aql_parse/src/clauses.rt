@@ -1,6 +1,6 @@
 //! Clauses.
 
-ghost use Rattle.aql_grammar.specs.Input.{ReadsAs, separated, separated_onto};
+ghost use Rattle.aql_grammar.specs.Input.{ReadsAs, comma_list, comma_list_onto};
 ghost use Rattle.aql_parse.specs.Deeper.{ReadsDeeper};
 ghost use Rattle.aql_parse.specs.Shapes.{lone_vertex};
 ghost use Rattle.aql_tree.specs.View.{clause_tree, key_part};
@@ -54,7 +54,7 @@ impl<F: Fn(Global, &mut Cursor<'_>, usize, bool) -> Result<Expr, ParseFault>> Pa
         mut found: Clauses,
     ) -> Result<Clauses, ParseFault>
         requires { ReadsDeeper self.now.depth (F.pre self.now.deeper) (F.post self.now.deeper) }
-        ensures { ReadsAs (map clause_tree) (separated_onto (reader.let_clause (reader.expr
+        ensures { ReadsAs (map clause_tree) (comma_list_onto (reader.let_clause (reader.expr
             self.now.depth) self.now.inside) (map clause_tree found) tokens.old) result tokens.new }
     {
         for _turn in 0..tokens.left() {
@@ -83,7 +83,7 @@ impl<F: Fn(Global, &mut Cursor<'_>, usize, bool) -> Result<Expr, ParseFault>> Pa
 
     fn sort_keys(&self, tokens: &mut Cursor<'_>) -> Result<Keys, ParseFault>
         requires { ReadsDeeper self.now.depth (F.pre self.now.deeper) (F.post self.now.deeper) }
-        ensures { ReadsAs (map key_part) (separated (reader.sort_key (reader.expr self.now.depth)
+        ensures { ReadsAs (map key_part) (comma_list (reader.sort_key (reader.expr self.now.depth)
             self.now.inside) tokens.old) result tokens.new }
     {
         let mut found = Seq::new(self.alloc);

@@ -1,14 +1,14 @@
 //! The parts of COLLECT.
 
 ghost use Rattle.aql_grammar.specs.Clauses.{says};
-ghost use Rattle.aql_grammar.specs.Input.{ReadsAs, separated};
+ghost use Rattle.aql_grammar.specs.Input.{ReadsAs, comma_list};
 ghost use Rattle.aql_parse.specs.Deeper.{ReadsDeeper};
 ghost use Rattle.aql_tree.specs.View.{tree, clause_tree, let_part, aggregate_part};
 ghost use Rattle.aql_tree.specs.View.{into_part};
 ghost use Rattle.std.specs.Prelude.{◌≡◌, ◌∷◌, IfOk, map, option_map, option_copied, codes, None};
 ghost use Rattle.std.specs.Prelude.{[]};
 ghost use Rattle.aql_grammar.specs.Reader as reader;
-ghost use Rattle.aql_tree.specs.Made as made;
+ghost use Rattle.aql_tree.specs.Build as build;
 
 use crate::parser::Parser;
 use aql_grammar::{Cursor, ParseFault, is_name};
@@ -19,7 +19,8 @@ use std::alloc::Global;
 
 // The aggregate that WITH COUNT INTO stands for.
 fn count_aggregate(alloc: Global, name: Text) -> Result<Aggregates, OutOfMemory>
-    ensures { IfOk result (λ gs. map aggregate_part gs ≡ made.aggregated name (codes "LENGTH") None
+    ensures { IfOk result
+        (λ gs. map aggregate_part gs ≡ build.aggregate_as name (codes "LENGTH") None
         ∷ []) }
 {
     let mut aggregates = Seq::new(alloc);
@@ -51,7 +52,7 @@ impl<F: Fn(Global, &mut Cursor<'_>, usize, bool) -> Result<Expr, ParseFault>> Pa
 
     fn assignments(&self, tokens: &mut Cursor<'_>) -> Result<Lets, ParseFault>
         requires { ReadsDeeper self.now.depth (F.pre self.now.deeper) (F.post self.now.deeper) }
-        ensures { ReadsAs (map let_part) (separated (reader.assignment (reader.expr self.now.depth)
+        ensures { ReadsAs (map let_part) (comma_list (reader.assignment (reader.expr self.now.depth)
             self.now.inside) tokens.old) result tokens.new }
     {
         let mut found = Seq::new(self.alloc);
@@ -106,7 +107,7 @@ impl<F: Fn(Global, &mut Cursor<'_>, usize, bool) -> Result<Expr, ParseFault>> Pa
 
     fn aggregate_list(&self, tokens: &mut Cursor<'_>) -> Result<Aggregates, ParseFault>
         requires { ReadsDeeper self.now.depth (F.pre self.now.deeper) (F.post self.now.deeper) }
-        ensures { ReadsAs (map aggregate_part) (separated (reader.aggregate (reader.expr
+        ensures { ReadsAs (map aggregate_part) (comma_list (reader.aggregate (reader.expr
             self.now.depth) self.now.inside) tokens.old) result tokens.new }
     {
         let mut found = Seq::new(self.alloc);

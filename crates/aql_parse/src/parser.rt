@@ -19,7 +19,7 @@ pub struct Parser<F> {
     pub alloc: Global,
     /// How deep expressions may still nest.
     pub depth: usize,
-    /// Whether the place is in the FILTER or RETURN of an inline operator.
+    /// Whether the place is in the FILTER or RETURN of an inline expression.
     pub inside: bool,
     /// Reads an expression one bracket deeper.
     pub deeper: F,
@@ -35,7 +35,7 @@ impl<F: Fn(Global, &mut Cursor<'_>, usize, bool) -> Result<Expr, ParseFault>> Pa
         (self.deeper)(self.alloc, tokens, self.depth, self.inside)
     }
 
-    /// An expression of an inline operator.
+    /// An expression of an inline expression.
     pub fn element_expr(&self, tokens: &mut Cursor<'_>) -> Result<Expr, ParseFault>
         requires { ReadsDeeper self.now.depth (F.pre self.now.deeper) (F.post self.now.deeper) }
         ensures { ReadsAs tree (reader.expr self.now.depth true tokens.old) result tokens.new }

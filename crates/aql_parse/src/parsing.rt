@@ -5,8 +5,8 @@ ghost use Rattle.aql_grammar.specs.Kinds.{kinds_of};
 ghost use Rattle.aql_grammar.specs.Limits.{nesting, marks};
 ghost use Rattle.aql_grammar.specs.Tree.{Tree};
 ghost use Rattle.aql_lex.specs.declared.kinds.TokenKind.{TokenKind};
-ghost use Rattle.aql_parse.specs.Parsed.{WithinLimits, IsShallow, HasNoTree, TraversesTooDeep};
-ghost use Rattle.aql_parse.specs.Parsed.{Gives, Parsed, ReadsWhole};
+ghost use Rattle.aql_parse.specs.Parses.{WithinLimits, IsShallow, HasNoTree, TraversesTooDeep};
+ghost use Rattle.aql_parse.specs.Parses.{Gives, Parses, ReadsWhole};
 ghost use Rattle.aql_tree.specs.Tree.{QueryTree};
 ghost use Rattle.aql_tree.specs.View.{tree, query_tree};
 ghost use Rattle.std.specs.Prelude.{◌≡◌, ◌≤◌, ◌<◌, IfOk, IsErrOf, List};
@@ -85,7 +85,7 @@ const TRAVERSAL_DEPTH: u32 = 32;
 // The tree within the limits, or the first cause of a refusal.
 #[tactic(auto, using(aql_grammar::specs::laws::TreeLaws::whole_tree, crate::proofs::ParseLaws::refused))]
 fn judge(alloc: Global, tokens: &Tokens) -> Result<Query, ParseFault>
-    ensures { Parsed (kinds_of tokens.now) result }
+    ensures { Parses (kinds_of tokens.now) result }
 {
     if nests_too_deep(alloc, tokens.as_slice())? {
         return Err(ParseFault::TooDeep);

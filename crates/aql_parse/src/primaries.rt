@@ -1,7 +1,7 @@
 //! What an operator stands between: literals, names, calls, subqueries and what is in
 //! parentheses, with the steps after it.
 
-ghost use Rattle.aql_grammar.specs.Input.{ReadsAs, separated};
+ghost use Rattle.aql_grammar.specs.Input.{ReadsAs, comma_list};
 ghost use Rattle.aql_grammar.specs.Objects.{word_value};
 ghost use Rattle.aql_parse.specs.Deeper.{ReadsDeeper};
 ghost use Rattle.aql_tree.specs.View.{tree};
@@ -16,7 +16,7 @@ use aql_tree::{Expr, Exprs, Ident};
 use aql_value::{Seq, Text, Value};
 use std::alloc::Global;
 
-/// A name as a value: the word CURRENT is the element at hand inside an inline operator.
+/// A name as a value: the word CURRENT is the element at hand inside an inline expression.
 pub fn word_value(inside: bool, name: Text) -> Expr
     ensures { tree result ≡ word_value inside name }
 {
@@ -45,7 +45,7 @@ impl<F: Fn(Global, &mut Cursor<'_>, usize, bool) -> Result<Expr, ParseFault>> Pa
 
     fn argument_list(&self, tokens: &mut Cursor<'_>) -> Result<Exprs, ParseFault>
         requires { ReadsDeeper self.now.depth (F.pre self.now.deeper) (F.post self.now.deeper) }
-        ensures { ReadsAs (map tree) (separated (reader.argument (reader.expr self.now.depth)
+        ensures { ReadsAs (map tree) (comma_list (reader.argument (reader.expr self.now.depth)
             self.now.inside) tokens.old) result tokens.new }
     {
         let mut found = Seq::new(self.alloc);

@@ -1,4 +1,4 @@
-//! The steps after an expression: attributes, elements and inline operators.
+//! The steps after an expression: attributes, elements and inline expressions.
 
 ghost use Rattle.aql_grammar.specs.Input.{ReadsAs, many, at_front};
 ghost use Rattle.aql_parse.specs.Deeper.{ReadsDeeper};
@@ -25,7 +25,7 @@ pub fn access_of(alloc: Global, of: Expr, steps: Steps) -> Result<Expr, OutOfMem
 }
 
 impl<F: Fn(Global, &mut Cursor<'_>, usize, bool) -> Result<Expr, ParseFault>> Parser<F> {
-    // What a keyword introduces in an inline operator.
+    // What a keyword introduces in an inline expression.
     #[tactic(auto, unfolding(aql_grammar::specs::Reader::element))]
     fn element(&self, tokens: &mut Cursor<'_>, keyword: Keyword) -> Result<Option<Expr>, ParseFault>
         requires { ReadsDeeper self.now.depth (F.pre self.now.deeper) (F.post self.now.deeper) }

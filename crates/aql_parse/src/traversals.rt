@@ -4,12 +4,12 @@ ghost use Rattle.aql_grammar.specs.Input.{ReadsAs};
 ghost use Rattle.aql_grammar.specs.Names.{traversal_names};
 ghost use Rattle.aql_parse.specs.Deeper.{ReadsDeeper};
 ghost use Rattle.aql_parse.specs.Shapes.{shape_of, shape_with};
-ghost use Rattle.aql_tree.specs.Made.{default_options, written_shape};
-ghost use Rattle.aql_tree.specs.View.{tree, clause_tree, member_part, walked, options_part};
+ghost use Rattle.aql_tree.specs.Build.{default_options, shape_by_names};
+ghost use Rattle.aql_tree.specs.View.{tree, clause_tree, member_part, traversal_clause, options_part};
 ghost use Rattle.aql_tree.specs.View.{traversal_part};
 ghost use Rattle.std.specs.Prelude.{◌≡◌, map, option_map};
 ghost use Rattle.aql_grammar.specs.Reader as reader;
-ghost use Rattle.aql_tree.specs.Made as made;
+ghost use Rattle.aql_tree.specs.Build as build;
 
 use crate::parser::Parser;
 use aql_grammar::{Cursor, Depth, ParseFault, TraversalNames};
@@ -21,7 +21,7 @@ use aql_value::{Names, Seq, Text};
 use std::alloc::Global;
 
 fn ident_of(name: Option<Text>) -> Option<Ident>
-    ensures { result ≡ made.named name }
+    ensures { result ≡ build.maybe_name name }
 {
     match name {
         Some(name) => Some(Ident::Name(name)),
@@ -81,7 +81,7 @@ fn traversal_of(
 }
 
 fn traversal_node(traversal: Traversal) -> Clause
-    ensures { clause_tree result ≡ walked (traversal_part traversal) }
+    ensures { clause_tree result ≡ traversal_clause (traversal_part traversal) }
 {
     Clause::Walk(traversal)
 }
@@ -93,7 +93,7 @@ fn traversal_clause(
     prune: Option<Expr>,
     settings: Fields,
 ) -> Clause
-    ensures { clause_tree result ≡ walked (
+    ensures { clause_tree result ≡ traversal_clause (
       shape_of shape,
       tree start,
       collections,
@@ -106,7 +106,7 @@ fn traversal_clause(
 }
 
 fn traversal_shape(names: TraversalNames, depth: Depth, direction: Direction) -> Shape
-    ensures { shape_of result ≡ written_shape (traversal_names names) depth.least depth.greatest
+    ensures { shape_of result ≡ shape_by_names (traversal_names names) depth.least depth.greatest
         direction }
 {
     Shape {

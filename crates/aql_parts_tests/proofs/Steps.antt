@@ -2,7 +2,7 @@
 use Rattle.std.proofs.Common.{List, [], ◌∷◌, ◌++◌, ◌≡◌, map, subst, sym}
 use Rattle.std.proofs.lemmas.List.{map-append}
 use Rattle.aql_tree.specs.declared.syntax.Step.{Step}
-use Rattle.aql_tree.specs.View.{StepPart, name, at, each, step_part, steps}
+use Rattle.aql_tree.specs.View.{StepPart, name, at, inline, step_part, steps}
 use Rattle.aql_meaning.specs.Plain.{StepsPlain}
 
 then_plain : (ps : List StepPart) (p : StepPart) → StepsPlain (steps ps) → StepsPlain (steps (p ∷ []))
@@ -10,7 +10,7 @@ then_plain : (ps : List StepPart) (p : StepPart) → StepsPlain (steps ps) → S
 then_plain [] p h k = k
 then_plain (name n ∷ ps) p h k = then_plain ps p h k
 then_plain (at e ∷ ps) p h k = (h.0, then_plain ps p h.1 k)
-then_plain (each f g ∷ ps) p h k = (h.0, h.1, then_plain ps p h.2 k)
+then_plain (inline f g ∷ ps) p h k = (h.0, h.1, then_plain ps p h.2 k)
 
 -- a plain step behind plain steps
 pub pushed_plain : (old : List Step) (s : Step) (new : List Step) → new ≡ old ++ s ∷ []

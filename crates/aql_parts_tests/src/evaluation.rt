@@ -3,7 +3,7 @@ ghost use Rattle.std.specs.Prelude.{[], ◌∷◌, IfOk, map, option_map, refl, 
 ghost use Rattle.aql_tree.specs.View.{link_part, maybe, step_part, tree};
 ghost use Rattle.aql_tree.specs.View.{links as link_trees, steps as step_trees};
 ghost use Rattle.aql_meaning.specs.Plain.{IsPlain, LinksPlain, MaybePlain, StepsPlain};
-ghost use Rattle.aql_expr.specs.Numbered.{numbered};
+ghost use Rattle.aql_expr.specs.Numbered.{numbered_row};
 
 use crate::pages::expect;
 use crate::values::is_written;
@@ -20,7 +20,7 @@ struct Listed {
 }
 
 impl RowView for Listed {
-    ghost vars = { λ r. numbered (slice_get r.values) };
+    ghost vars = { λ r. numbered_row (slice_get r.values) };
 
     fn value(&self, var: u32) -> Option<&Value> {
         self.values.get(var as usize)
@@ -227,7 +227,7 @@ fn inline(alloc: Global) -> Result<Expr, OutOfMemory>
     Expr::access(alloc, lit(alloc, "[1,2,3]"), steps)
 }
 
-// `of[* FILTER CURRENT.p]`, with `.p` behind it.
+// `of[* FILTER CURRENT.p]`, with `.p` after it.
 fn filtered(alloc: Global, of: &str) -> Result<Expr, OutOfMemory>
     ensures { IfOk result (λ e. IsPlain (tree e)) }
 {

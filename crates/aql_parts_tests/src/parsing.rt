@@ -60,7 +60,7 @@ fn opening(expr: &Expr) -> &'static str {
     }
 }
 
-// What stands behind them.
+// What stands after them.
 fn closing(expr: &Expr) -> &'static str {
     match expr {
         Expr::Lit(_) | Expr::Var(_) | Expr::Current => "",
@@ -605,7 +605,7 @@ fn trees_of_queries(rt: HostRuntime) {
     check_queries(&rt, alloc, &WHOLE_QUERIES);
 }
 
-// Both behind a RETURN.
+// Both after a RETURN.
 fn check_expressions(rt: &impl Abort, alloc: Global, rows: &[(&str, &str)]) {
     for (text, tree) in rows {
         let mut whole = Page::new(alloc);

@@ -24,7 +24,7 @@ fn write_kind(kind: &TokenKind, page: &mut Page) {
     }
 }
 
-// Each token as its first byte, the byte behind it, a letter for its kind, and what it holds.
+// Each token as its first byte, the byte after it, a letter for its kind, and what it holds.
 fn write_tokens(tokens: &[Token], page: &mut Page) {
     for token in tokens {
         if !page.as_str().is_empty() {

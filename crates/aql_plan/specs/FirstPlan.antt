@@ -3,7 +3,7 @@ use Rattle.std.specs.Prelude.{ℕ, suc, List, [], ◌∷◌, map, cond, Bool, tr
 use Rattle.aql_func.specs.declared.operators.BinOp.{BinOp}
 use Rattle.aql_func.specs.declared.operators.BinOp.TheVariants.{And}
 use Rattle.aql_tree.specs.Tree.{ExprTree, chain, subquery, no_expr, LinkTrees, no_links, link_then}
-use Rattle.aql_tree.specs.Tree.{ClauseTree, for_each, for_documents, for_paths, keep_if, define, sort_by, limit, collect}
+use Rattle.aql_tree.specs.Tree.{ClauseTree, for_each, for_documents, traversal, filter_by, let_be, sort_by, limit, collect}
 use Rattle.aql_tree.specs.Tree.{ClauseTrees, no_clauses, clause_then, QueryTree, query}
 use Rattle.aql_meaning.specs.Visible.{each_once}
 use Rattle.aql_meaning.specs.declared.grouping.Stage.TheVariants.{Whole}
@@ -51,11 +51,11 @@ module _ (facts : Facts) where
       attrs = None;
       shard = None;
     }))
-    after_clause b (for_paths w e names prune settings) =
+    after_clause b (traversal w e names prune settings) =
         Over b (Traversal w e (map (coll_number facts) (each_once names)) prune no_expr)
-    after_clause b (keep_if e) = filters b (parts e)
-    after_clause b (define x (subquery q)) = Over b (Subquery x (first_plan q))
-    after_clause b (define x e) = Over b (Calculation x e)
+    after_clause b (filter_by e) = filters b (parts e)
+    after_clause b (let_be x (subquery q)) = Over b (Subquery x (first_plan q))
+    after_clause b (let_be x e) = Over b (Calculation x e)
     after_clause b (sort_by directions es) = Over b (Sort directions es None)
     after_clause b (limit offset count) = Over b (Limit offset count)
     after_clause b (collect xs es gs i) = Over b (Collect xs es gs i Whole)

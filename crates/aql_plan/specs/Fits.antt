@@ -1,8 +1,8 @@
--- What each node of a well-formed plan needs by itself: its collection, shard and index exist, its expressions
--- hold no subquery, and its numbers are in range.
+-- What each node of a well-formed plan needs by itself: its collection, shard and index exist, its
+-- expressions hold no subquery, and its numbers are in range.
 use Rattle.std.specs.Prelude.{ℕ, ◌≡◌, ◌≤◌, ◌<◌, ◌+◌, ◌^◌, List, [], ◌∷◌, length, Bool, true, Option, Some, None, slice_get, MatchOption, bytes_eq}
 use Rattle.std.specs.List.{list_any, list_all, AllByRecursion}
-use Rattle.aql_func.specs.Aggregates.{Aggregate, counting, aggregate_named}
+use Rattle.aql_func.specs.Aggregates.{Aggregate, count, aggregate_named}
 use Rattle.aql_tree.specs.declared.syntax.Ident.{Ident}
 use Rattle.aql_tree.specs.Tree.{ExprTree, variable, access, name_then, no_steps, ExprTrees, no_exprs, expr_then, MaybeExpr, no_expr, one_expr, AggregateTrees, no_aggregates, aggregate_then}
 use Rattle.aql_meaning.specs.Plain.{IsPlain, AllPlain, MaybePlain}
@@ -29,7 +29,7 @@ LastPlain (between low high) = EndPlain low × EndPlain high
 
 -- only LENGTH and COUNT may stand without an argument
 abbrev pub HasArgument : Aggregate → MaybeExpr → Type 0
-HasArgument counting e = MaybePlain e
+HasArgument count e = MaybePlain e
 HasArgument a no_expr = ⊥
 HasArgument a (one_expr e) = IsPlain e
 
@@ -96,7 +96,7 @@ Fits facts (Traversal w e colls prune keep) = IsPlain e × MaybePlain prune × M
 Fits facts (Calculation x e) = IsPlain e
 Fits facts (Filter e) = IsPlain e
 Fits facts (Sort directions es n) = AllPlain es × MatchOption n (Unit {0}) (λ limit. limit < 2 ^ 64)
-Fits facts (Limit offset count) = offset + count < 2 ^ 64
+Fits facts (Limit offset most) = offset + most < 2 ^ 64
 Fits facts (Collect xs es gs i s) = AllPlain es × AllKnown gs × IntoPlain i
 Fits facts (Return distinct e) = IsPlain e
 Fits facts (Scatter coll only) = IsShard facts coll only
@@ -104,4 +104,3 @@ Fits facts (Distribute coll es) =
     IsShard facts coll None × AllPlain es × (exprs_in es ≡ length (keys_in facts coll))
 Fits facts (Gather directions es) = AllPlain es
 Fits facts n = Unit {0}
-

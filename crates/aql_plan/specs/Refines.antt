@@ -1,7 +1,7 @@
 -- When one plan may stand for another.
 use Rattle.std.specs.Prelude.{◌≡◌, List, map}
 use Rattle.std.specs.List.{AllZip}
-use Rattle.aql_value.specs.Tree.{Tree}
+use Rattle.aql_value.specs.Datum.{Datum}
 use Rattle.aql_value.specs.Database.{Database}
 use Rattle.aql_meaning.specs.Row.{Row}
 use Rattle.aql_meaning.specs.Uses.{Uses, Agree}
@@ -20,9 +20,9 @@ RefinesFor us facts q p = (db : Database) → Meets facts db → (start : Row) (
     → (other : List Row) × Runs p (world facts db) Outside start other × AllZip (Agree us) out other
 
 -- the values that a plan with a Return at its top gives
-abbrev pub Answers : Plan → World → Row → List Tree → Type 0
+abbrev pub Answers : Plan → World → Row → List Datum → Type 0
 Answers p w start vs = (rows : List Row) × Runs p w Outside start rows × (vs ≡ map result_of rows)
 
 abbrev pub Refines : Facts → Plan → Plan → Type 0
-Refines facts q p = (db : Database) → Meets facts db → (start : Row) (vs : List Tree)
+Refines facts q p = (db : Database) → Meets facts db → (start : Row) (vs : List Datum)
     → Answers q (world facts db) start vs → Answers p (world facts db) start vs

@@ -127,7 +127,8 @@ pub data Shaped (facts : Facts) : Plan → Shape → Type 0 where
   gather_in_order : {b : Plan} {directions : List Bool} {es : ExprTrees}
       → Fits facts (Gather directions es) → Shaped facts b (Sent (Fragment (by_keys directions es)))
       → Shaped facts (Over b (Gather directions es)) (Rows false)
-  -- a partial Collect over a fragment, a Gather without keys over it, and the final Collect of the same over this
+  -- a partial Collect over a fragment, a Gather without keys over it, and the final Collect of the same over
+  -- this
   partial : {b : Plan} {xs : List Ident} {es : ExprTrees} {gs : AggregateTrees} {o : Order}
       → Fits facts (Collect xs es gs no_into stage.Partial) → Shaped facts b (Fragment o)
       → Shaped facts (Over b (Collect xs es gs no_into stage.Partial)) (States xs es gs)
@@ -168,4 +169,3 @@ abbrev mutual
   IsNoFragment Remote = ⊥
   IsNoFragment (Gather directions es) = ⊥
   IsNoFragment n = Unit {0}
-

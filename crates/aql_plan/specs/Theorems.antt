@@ -1,13 +1,13 @@
 -- The laws of plans, each the contract of a public function.
 use Rattle.std.specs.Prelude.{Bool, IsSortedBy, ◌≡◌, List, false}
 use Rattle.std.specs.List.{AllZip, AllByRecursion}
-use Rattle.aql_value.specs.Tree.{Tree}
+use Rattle.aql_value.specs.Datum.{Datum}
 use Rattle.aql_value.specs.Database.{Database}
 use Rattle.aql_tree.specs.declared.syntax.Ident.{Ident}
 use Rattle.aql_tree.specs.Tree.{ExprTrees, QueryTree}
 use Rattle.aql_meaning.specs.Row.{Row}
 use Rattle.aql_meaning.specs.Uses.{Uses, Agree}
-use Rattle.aql_meaning.specs.Meaning.{Answer}
+use Rattle.aql_meaning.specs.Meaning.{IsAnswer}
 use Rattle.aql_meaning.specs.Lifted.{IsLifted}
 use Rattle.aql_plan.specs.declared.facts.Facts.{Facts}
 use Rattle.aql_plan.specs.Facts.{Meets}
@@ -31,8 +31,8 @@ PlanNeedsOnlyWhatIsUsed = (p : Plan) (us : Uses) (w : World) (start other : Row)
     → Agree (needs p us) start other → Runs p w Outside start out
     → (more : List Row) × Runs p w Outside other more × AllZip (Agree us) out more
 
--- a part of a plan may be replaced, below any nodes, by one that refines it for what these use of it, where the
--- part does not stand in a fragment: below a Gather and not below the foot of its fragment
+-- a part of a plan may be replaced, below any nodes, by one that refines it for what these use of it, where
+-- the part does not stand in a fragment: below a Gather and not below the foot of its fragment
 abbrev pub PartMayBeReplaced : Type 0
 PartMayBeReplaced = (ns : List Node) → stands_inside ns ≡ false → (us : Uses) (facts : Facts) (q p : Plan)
     → RefinesFor (uses_above ns us) facts q p → RefinesFor us facts (raised q ns) (raised p ns)
@@ -45,8 +45,8 @@ BodyMayBeReplaced = (x : Ident) (us : Uses) (facts : Facts) (b q p : Plan)
 -- each list of the first plan of a scoped query is an answer
 abbrev pub FirstPlanAnswers : Type 0
 FirstPlanAnswers = (facts : Facts) (db : Database) → Meets facts db → (q : QueryTree) → IsLifted q
-    → (start : Row) (vs : List Tree) → Answers (first_plan facts q) (world facts db) start vs
-    → Answer db q start vs
+    → (start : Row) (vs : List Datum) → Answers (first_plan facts q) (world facts db) start vs
+    → IsAnswer db q start vs
 
 -- where no shard's list descends, what a Gather makes of them does not descend
 abbrev pub MergeDoesNotDescend : Type 0

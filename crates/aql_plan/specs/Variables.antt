@@ -46,8 +46,8 @@ abbrev mutual
   FindsInside outer n = Unit {0}
 
 abbrev mutual
-  -- the variables that the nodes of a plan set, those of bodies too; a final Collect sets what its partial one
-  -- sets, which counts once, there, and what a Return gives is no variable
+  -- the variables that the nodes of a plan set, those of bodies too; a final Collect sets what its partial
+  -- one sets, which counts once, there, and what a Return gives is no variable
   pub vars_set : Plan → List Ident
   vars_set Singleton = []
   vars_set (Over b n) = set_once n ++ vars_set b
@@ -61,4 +61,3 @@ abbrev mutual
 abbrev pub are_distinct : List Ident → Bool
 are_distinct [] = true
 are_distinct (x ∷ xs) = not (list_any (same_ident x) xs) && are_distinct xs
-

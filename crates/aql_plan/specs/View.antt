@@ -1,5 +1,5 @@
--- The tree of definitions that a plan of the program stands for: each node goes to the node of the same name, and its
--- variables are numbers.
+-- The tree of definitions that a plan of the program stands for: each node goes to the node of the same name,
+-- and its variables are numbers.
 use Rattle.std.specs.Prelude.{Bool, List, map, Option, option_map}
 use Rattle.aql_value.specs.declared.lists.CollNo.{CollNo}
 use Rattle.aql_tree.specs.declared.syntax.Ident.TheVariants.{Num}

@@ -1,5 +1,5 @@
--- Which plans are well formed: the facts of their collections fit, they have the shape of a plan with a result,
--- each variable that is used is there, and none is set twice.
+-- Which plans are well formed: the facts of their collections fit, they have the shape of a plan with a
+-- result, each variable that is used is there, and none is set twice.
 use Rattle.std.specs.Prelude.{ℕ, ◌≡◌, ◌≤◌, ◌+◌, List, ◌++◌, length, true}
 use Rattle.std.specs.List.{AllByRecursion}
 use Rattle.aql_tree.specs.declared.syntax.Ident.{Ident}

@@ -3,7 +3,7 @@ use Rattle.std.proofs.Common.{◌≡◌, ◌<◌, arith, refl, pos, negsuc, List
 use Rattle.std.specs.Prelude.{codes, Some, None}
 use Prim.Native.String.{String}
 use Rattle.json.specs.Print.{escape_byte}
-use Rattle.aql_value.specs.Tree.{Tree, number, text}
+use Rattle.aql_value.specs.Datum.{Datum, number, text}
 use Rattle.aql_value.specs.Parts.{record_of}
 use Rattle.aql_value.specs.Database.{Database}
 use Rattle.aql_tree.specs.declared.syntax.Ident.TheVariants.{Num}
@@ -19,7 +19,7 @@ use Rattle.aql_plan.specs.Runs.{Outside, result_of}
 use Rattle.aql_plan.specs.laws.SomeRun.{some_run}
 use Rattle.aql_plan.specs.Shapes.{Result, Shaped, one_row, ordered_rows, scatter, remote, lowest, sorting, gather_in_order, partial, joining, finishing, returning}
 
-abbrev document : String → Tree → Tree
+abbrev document : String → Datum → Datum
 document key n = record_of ((codes "_key", text (codes key)) ∷ (codes "n", n) ∷ [])
 
 -- c with three shards, n being 9223372036854775807, 1 and -1
@@ -50,7 +50,7 @@ n = access (variable (Num 1)) (name_then (codes "n") no_steps)
 abbrev reading : Reading
 reading = record { var = Num 1; coll = 0; filter = no_expr; attrs = None; shard = None }
 
-abbrev run : Plan → List Tree
+abbrev run : Plan → List Datum
 run p = map result_of (some_run p (record { facts = facts; db = db }) Outside empty_row).0
 
 abbrev sum : AggregateTrees
@@ -87,7 +87,7 @@ pub indexed : run ranging ≡ number (pos 1) ∷ number (negsuc 0) ∷ []
 indexed = refl
 
 -- the shards of the documents with the keys p, q and r
-pub shards : map (λ (key : Tree). shard_of 3 (key ∷ [])) (text (codes "p") ∷ text (codes "q")
+pub shards : map (λ (key : Datum). shard_of 3 (key ∷ [])) (text (codes "p") ∷ text (codes "q")
     ∷ text (codes "r") ∷ [])
     ≡ 1 ∷ 1 ∷ 0 ∷ []
 unfolding escape_byte shard_of

@@ -8,8 +8,8 @@ use aql_meaning::{Edge, Last, Stage, WalkOptions};
 use aql_tree::{Aggregates, Direction, Expr, Exprs, Into, Keys, Lets};
 use aql_value::{CollNo, CollNos, Names, Seq};
 
-/// A plan: a node over its input. It takes the rows of its input and gives rows; docs/ARCHITECTURE.md
-/// says where their meaning stands. Variables are numbers from 1 on.
+/// A plan: a node over its input. It takes the rows of its input and gives rows;
+/// docs/ARCHITECTURE.md says where their meaning stands. Variables are numbers from 1 on.
 #[derive(Drop)]
 pub enum Plan {
     /// The one row that the plan starts from.
@@ -74,7 +74,10 @@ pub enum Plan {
         body: Box<Plan>,
     },
     /// The rows at which a condition holds: FILTER.
-    Filter { below: Box<Plan>, cond: Expr },
+    Filter {
+        below: Box<Plan>,
+        cond: Expr,
+    },
     /// The rows in the order of their keys, or the first of these: SORT.
     Sort {
         below: Box<Plan>,
@@ -102,7 +105,9 @@ pub enum Plan {
         distinct: bool,
     },
     /// No row; the input isn't asked for any.
-    NoResults { below: Box<Plan> },
+    NoResults {
+        below: Box<Plan>,
+    },
     /// The foot of a fragment: all rows to each shard of a collection, or to one shard of it.
     Scatter {
         below: Box<Plan>,
@@ -116,9 +121,14 @@ pub enum Plan {
         exprs: Exprs,
     },
     /// The rows of its input, over a link.
-    Remote { below: Box<Plan> },
+    Remote {
+        below: Box<Plan>,
+    },
     /// The lists of all shards as one: interleaved, or merged by keys.
-    Gather { below: Box<Plan>, order: Keys },
+    Gather {
+        below: Box<Plan>,
+        order: Keys,
+    },
 }
 
 /// A list of plans.
@@ -134,7 +144,8 @@ pub struct Passed {
 impl Plan {
     /// The input of the node; `None` exactly at `Singleton`.
     pub fn below(&self) -> Option<&Plan>
-        ensures { MatchOption result (plan_tree self.now ≡ spec.Singleton) (λ b. plan_tree self.now ≡ spec.Over (plan_tree b.now) (spec.top (plan_tree self.now))) }
+        ensures { MatchOption result (plan_tree self.now ≡ spec.Singleton)
+            (λ b. plan_tree self.now ≡ spec.Over (plan_tree b.now) (spec.top (plan_tree self.now))) }
     {
         match self {
             Plan::Singleton => None,

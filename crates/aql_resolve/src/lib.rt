@@ -1,5 +1,5 @@
-//! Names become numbers, and subqueries stand in LETs of their own: the walk over expressions, queries
-//! and their clauses, in the order of the text.
+//! Names become numbers, and subqueries stand in LETs of their own: the visit of expressions,
+//! queries and their clauses, in the order of the text.
 #![tactic(auto)]
 
 mod walk;

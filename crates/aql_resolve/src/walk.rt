@@ -1,16 +1,16 @@
-//! Expressions, queries and their clauses: one walk in the order of the text.
+//! Expressions, queries and their clauses: one visit in the order of the text.
 
 ghost use Rattle.std.specs.Prelude.{◌≡◌, [], map, option_map, Some, IfOk};
 ghost use Rattle.aql_tree.specs.Tree as spec;
 ghost use Rattle.aql_tree.specs.View.{tree, trees, maybe as maybe_tree, members as member_trees, clause_tree};
 ghost use Rattle.aql_tree.specs.View.{steps as step_trees, links as link_trees, step_part, member_part};
 ghost use Rattle.aql_tree.specs.View.{link_part, key_part, let_part, aggregate_part, into_part, query_tree};
-ghost use Rattle.aql_tree.specs.View.{aggregates as aggregate_trees, into_tree, traversal_part, walked, grouped, collect_part};
+ghost use Rattle.aql_tree.specs.View.{aggregates as aggregate_trees, into_tree, traversal_part, traversal_clause, collect_clause, collect_part};
 ghost use Rattle.aql_tree.specs.View.{options_part};
-ghost use Rattle.aql_names.specs.Walk as walk;
-ghost use Rattle.aql_names.specs.Walk.{for_listed, let_valued};
-ghost use Rattle.aql_names.specs.Walk.{Walks, site_of, site_within, state};
-ghost use Rattle.aql_names.specs.Options.{unwritten};
+ghost use Rattle.aql_names.specs.Visit as visit;
+ghost use Rattle.aql_names.specs.Visit.{for_expression, let_expression};
+ghost use Rattle.aql_names.specs.Visit.{Visits, site_of, site_within, state};
+ghost use Rattle.aql_names.specs.Options.{no_settings};
 
 use aql_names::{
     At, NameList, Scope, ScopeFault, WalkParts, Written, aggregate_item, check_aggregate,
@@ -27,7 +27,7 @@ use aql_value::{Names, Seq, Text, copy};
 
 #[cycle(walk)]
 fn expr(expr: &Expr, at: &At<'_>, said: &mut Names, lets: &mut Clauses) -> Result<Expr, ScopeFault>
-    ensures { Walks tree (walk.expr (site_of at.now) (tree expr.now) (state said.old lets.old))
+    ensures { Visits tree (visit.expr (site_of at.now) (tree expr.now) (state said.old lets.old))
         result (state said.new lets.new) }
 {
     let alloc = at.alloc;
@@ -86,7 +86,8 @@ fn call(
     said: &mut Names,
     lets: &mut Clauses,
 ) -> Result<Expr, ScopeFault>
-    ensures { Walks tree (walk.expr (site_of at.now) (spec.called name.now (trees (map tree args.now)))
+    ensures { Visits tree
+        (visit.expr (site_of at.now) (spec.function_call name.now (trees (map tree args.now)))
         (state said.old lets.old)) result (state said.new lets.new) }
 {
     check_args(at.alloc, name, args)?;
@@ -103,8 +104,9 @@ fn lift_subquery(
     said: &mut Names,
     lets: &mut Clauses,
 ) -> Result<Expr, ScopeFault>
-    ensures { Walks tree
-        (walk.expr (site_of at.now) (spec.subquery (query_tree query.now)) (state said.old lets.old))
+    ensures { Visits tree
+        (visit.expr (site_of at.now) (spec.subquery (query_tree query.now))
+        (state said.old lets.old))
         result (state said.new lets.new) }
 {
     if !at.lifts {
@@ -122,8 +124,8 @@ fn boxed_expr(
     said: &mut Names,
     lets: &mut Clauses,
 ) -> Result<Box<Expr>, ScopeFault>
-    ensures { Walks (λ b. tree b.value)
-        (walk.expr (site_of at.now) (tree inner.now) (state said.old lets.old))
+    ensures { Visits (λ b. tree b.value)
+        (visit.expr (site_of at.now) (tree inner.now) (state said.old lets.old))
         result (state said.new lets.new) }
 {
     let scoped = expr(inner, at, said, lets)?;
@@ -137,8 +139,9 @@ fn maybe(
     said: &mut Names,
     lets: &mut Clauses,
 ) -> Result<Option<Box<Expr>>, ScopeFault>
-    ensures { Walks (option_map (λ b. tree b.value))
-        (walk.maybe (site_of at.now) (maybe_tree (option_map tree inner.now)) (state said.old lets.old))
+    ensures { Visits (option_map (λ b. tree b.value))
+        (visit.maybe (site_of at.now) (maybe_tree (option_map tree inner.now))
+        (state said.old lets.old))
         result (state said.new lets.new) }
 {
     match inner {
@@ -154,8 +157,8 @@ fn exprs(
     said: &mut Names,
     lets: &mut Clauses,
 ) -> Result<Exprs, ScopeFault>
-    ensures { Walks (map tree)
-        (walk.exprs (site_of at.now) [] (trees (map tree all.now)) (state said.old lets.old))
+    ensures { Visits (map tree)
+        (visit.exprs (site_of at.now) [] (trees (map tree all.now)) (state said.old lets.old))
         result (state said.new lets.new) }
 {
     let mut found = Seq::new(at.alloc);
@@ -172,8 +175,8 @@ fn members(
     said: &mut Names,
     lets: &mut Clauses,
 ) -> Result<Fields, ScopeFault>
-    ensures { Walks (map member_part)
-        (walk.members (site_of at.now) [] (member_trees (map member_part all.now))
+    ensures { Visits (map member_part)
+        (visit.members (site_of at.now) [] (member_trees (map member_part all.now))
         (state said.old lets.old)) result (state said.new lets.new) }
 {
     let mut found = Seq::new(at.alloc);
@@ -200,8 +203,8 @@ fn access_steps(
     said: &mut Names,
     lets: &mut Clauses,
 ) -> Result<Steps, ScopeFault>
-    ensures { Walks (map step_part)
-        (walk.steps (site_of at.now) [] (step_trees (map step_part all.now))
+    ensures { Visits (map step_part)
+        (visit.steps (site_of at.now) [] (step_trees (map step_part all.now))
         (state said.old lets.old)) result (state said.new lets.new) }
 {
     let mut found = Seq::new(at.alloc);
@@ -213,7 +216,7 @@ fn access_steps(
 
 #[cycle(walk)]
 fn step(item: &Step, at: &At<'_>, said: &mut Names, lets: &mut Clauses) -> Result<Step, ScopeFault>
-    ensures { Walks step_part (walk.step (site_of at.now) (step_part item.now)
+    ensures { Visits step_part (visit.step (site_of at.now) (step_part item.now)
         (state said.old lets.old)) result (state said.new lets.new) }
 {
     match item {
@@ -235,8 +238,8 @@ fn links(
     said: &mut Names,
     lets: &mut Clauses,
 ) -> Result<Links, ScopeFault>
-    ensures { Walks (map link_part)
-        (walk.links (site_of at.now) [] (link_trees (map link_part all.now))
+    ensures { Visits (map link_part)
+        (visit.links (site_of at.now) [] (link_trees (map link_part all.now))
         (state said.old lets.old)) result (state said.new lets.new) }
 {
     let mut found = Seq::new(at.alloc);
@@ -252,8 +255,9 @@ fn links(
 // A query among the names that are visible where it stands.
 #[cycle(walk)]
 pub fn query_within(query: &Query, at: &At<'_>, said: &mut Names) -> Result<Query, ScopeFault>
-    ensures { Walks query_tree
-        (walk.query_walk at.now.catalog.now (walk.visible (site_of at.now)) (query_tree query.now) said.old)
+    ensures { Visits query_tree
+        (visit.visit_query at.now.catalog.now (visit.visible (site_of at.now))
+        (query_tree query.now) said.old)
         result said.new }
 {
     let alloc = at.alloc;
@@ -278,7 +282,7 @@ pub fn query_within(query: &Query, at: &At<'_>, said: &mut Names) -> Result<Quer
     })
 }
 
-// A clause, where `at` gives the catalog; the query's own names are then those behind it.
+// A clause, where `at` gives the catalog; the query's own names are then those after it.
 #[tactic(auto, using(aql_names::proofs::Words::collection_clause))]
 #[cycle(walk)]
 fn clause(
@@ -288,8 +292,9 @@ fn clause(
     said: &mut Names,
     lets: &mut Clauses,
 ) -> Result<Clause, ScopeFault>
-    ensures clause { Walks (λ c. (clause_tree c, scope.new.own))
-        (walk.clause (site_within at.now scope.old) (clause_tree item.now) (state said.old lets.old))
+    ensures clause { Visits (λ c. (clause_tree c, scope.new.own))
+        (visit.clause (site_within at.now scope.old) (clause_tree item.now)
+        (state said.old lets.old))
         result (state said.new lets.new) }
     ensures outer { scope.new.outer ≡ scope.old.outer }
 {
@@ -321,8 +326,8 @@ fn for_clause(
     said: &mut Names,
     lets: &mut Clauses,
 ) -> Result<Clause, ScopeFault>
-    ensures clause { Walks (λ c. (clause_tree c, scope.new.own))
-        (walk.clause (site_within at.now scope.old) (spec.for_each var.now (tree list.now))
+    ensures clause { Visits (λ c. (clause_tree c, scope.new.own))
+        (visit.clause (site_within at.now scope.old) (spec.for_each var.now (tree list.now))
         (state said.old lets.old)) result (state said.new lets.new) }
     ensures outer { scope.new.outer ≡ scope.old.outer }
 {
@@ -342,8 +347,8 @@ fn for_list(
     said: &mut Names,
     lets: &mut Clauses,
 ) -> Result<Clause, ScopeFault>
-    ensures clause { Walks (λ c. (clause_tree c, scope.new.own))
-        (for_listed (site_within at.now scope.old) var.now (tree list.now)
+    ensures clause { Visits (λ c. (clause_tree c, scope.new.own))
+        (for_expression (site_within at.now scope.old) var.now (tree list.now)
         (state said.old lets.old)) result (state said.new lets.new) }
     ensures outer { scope.new.outer ≡ scope.old.outer }
 {
@@ -363,8 +368,8 @@ fn let_clause(
     said: &mut Names,
     lets: &mut Clauses,
 ) -> Result<Clause, ScopeFault>
-    ensures clause { Walks (λ c. (clause_tree c, scope.new.own))
-        (walk.clause (site_within at.now scope.old) (spec.define var.now (tree value.now))
+    ensures clause { Visits (λ c. (clause_tree c, scope.new.own))
+        (visit.clause (site_within at.now scope.old) (spec.let_be var.now (tree value.now))
         (state said.old lets.old)) result (state said.new lets.new) }
     ensures outer { scope.new.outer ≡ scope.old.outer }
 {
@@ -383,8 +388,8 @@ fn let_subquery(
     scope: &mut Scope,
     said: &mut Names,
 ) -> Result<Clause, ScopeFault>
-    ensures clause { Walks (λ c. (clause_tree c, scope.new.own))
-        (walk.let_lifted (site_within at.now scope.old) var.now (query_tree query.now) said.old)
+    ensures clause { Visits (λ c. (clause_tree c, scope.new.own))
+        (visit.let_subquery (site_within at.now scope.old) var.now (query_tree query.now) said.old)
         result said.new }
     ensures outer { scope.new.outer ≡ scope.old.outer }
 {
@@ -403,8 +408,8 @@ fn let_value(
     said: &mut Names,
     lets: &mut Clauses,
 ) -> Result<Clause, ScopeFault>
-    ensures clause { Walks (λ c. (clause_tree c, scope.new.own))
-        (let_valued (site_within at.now scope.old) var.now (tree value.now)
+    ensures clause { Visits (λ c. (clause_tree c, scope.new.own))
+        (let_expression (site_within at.now scope.old) var.now (tree value.now)
         (state said.old lets.old)) result (state said.new lets.new) }
     ensures outer { scope.new.outer ≡ scope.old.outer }
 {
@@ -422,8 +427,9 @@ fn walk_clause(
     said: &mut Names,
     lets: &mut Clauses,
 ) -> Result<Clause, ScopeFault>
-    ensures clause { Walks (λ c. (clause_tree c, scope.new.own))
-        (walk.clause (site_within at.now scope.old) (walked (traversal_part traversal.now))
+    ensures clause { Visits (λ c. (clause_tree c, scope.new.own))
+        (visit.clause (site_within at.now scope.old)
+        (traversal_clause (traversal_part traversal.now))
         (state said.old lets.old)) result (state said.new lets.new) }
     ensures outer { scope.new.outer ≡ scope.old.outer }
 {
@@ -442,8 +448,9 @@ fn walk_parts(
     said: &mut Names,
     lets: &mut Clauses,
 ) -> Result<WalkParts, ScopeFault>
-    ensures { Walks (λ p. (tree p.start.value, option_map (λ b. tree b.value) p.prune, p.written))
-        (walk.walk_parts (site_within at.now scope.now) behind.now (traversal_part traversal.now).1
+    ensures { Visits (λ p. (tree p.start.value, option_map (λ b. tree b.value) p.prune, p.written))
+        (visit.traversal_parts (site_within at.now scope.now) behind.now
+        (traversal_part traversal.now).1
         (traversal_part traversal.now).2 (maybe_tree (traversal_part traversal.now).3)
         (member_trees (traversal_part traversal.now).4) (state said.old lets.old))
         result (state said.new lets.new) }
@@ -466,8 +473,8 @@ fn written_options(
     said: &mut Names,
     lets: &mut Clauses,
 ) -> Result<Written, ScopeFault>
-    ensures { Walks (λ w. w)
-        (walk.settings (site_of at.now) unwritten (member_trees (options_part options.now).0)
+    ensures { Visits (λ w. w)
+        (visit.settings (site_of at.now) no_settings (member_trees (options_part options.now).0)
         (state said.old lets.old)) result (state said.new lets.new) }
 {
     written_settings(options.settings.as_slice(), at, said, lets)
@@ -483,8 +490,8 @@ fn prune_condition(
     said: &mut Names,
     lets: &mut Clauses,
 ) -> Result<Option<Box<Expr>>, ScopeFault>
-    ensures { Walks (option_map (λ b. tree b.value))
-        (walk.maybe (walk.inline_site (walk.with_own behind.now (site_within at.now scope.now)))
+    ensures { Visits (option_map (λ b. tree b.value))
+        (visit.maybe (visit.inline_site (visit.with_own behind.now (site_within at.now scope.now)))
         (maybe_tree (option_map tree prune.now)) (state said.old lets.old))
         result (state said.new lets.new) }
 {
@@ -500,8 +507,8 @@ fn written_settings(
     said: &mut Names,
     lets: &mut Clauses,
 ) -> Result<Written, ScopeFault>
-    ensures { Walks (λ w. w)
-        (walk.settings (site_of at.now) unwritten (member_trees (map member_part all.now))
+    ensures { Visits (λ w. w)
+        (visit.settings (site_of at.now) no_settings (member_trees (map member_part all.now))
         (state said.old lets.old)) result (state said.new lets.new) }
 {
     let mut found = Written::nothing();
@@ -528,8 +535,8 @@ fn sort_keys(
     said: &mut Names,
     lets: &mut Clauses,
 ) -> Result<Keys, ScopeFault>
-    ensures keys { Walks (λ ks. map (λ k. k.0) (map key_part ks))
-        (walk.exprs (site_of at.now) [] (trees (map (λ k. k.0) (map key_part all.now)))
+    ensures keys { Visits (λ ks. map (λ k. k.0) (map key_part ks))
+        (visit.exprs (site_of at.now) [] (trees (map (λ k. k.0) (map key_part all.now)))
         (state said.old lets.old)) result (state said.new lets.new) }
     ensures directions { IfOk result (λ ks. map (λ k. k.1) (map key_part ks)
         ≡ map (λ k. k.1) (map key_part all.now)) }
@@ -544,7 +551,7 @@ fn sort_keys(
     Ok(found)
 }
 
-// COLLECT: behind it only its own names are left.
+// COLLECT: after it only its own names are left.
 #[cycle(walk)]
 fn collect_clause(
     collect: &Collect,
@@ -553,8 +560,8 @@ fn collect_clause(
     said: &mut Names,
     lets: &mut Clauses,
 ) -> Result<Clause, ScopeFault>
-    ensures clause { Walks (λ c. (clause_tree c, scope.new.own))
-        (walk.clause (site_within at.now scope.old) (grouped (collect_part collect.now))
+    ensures clause { Visits (λ c. (clause_tree c, scope.new.own))
+        (visit.clause (site_within at.now scope.old) (collect_clause (collect_part collect.now))
         (state said.old lets.old)) result (state said.new lets.new) }
     ensures outer { scope.new.outer ≡ scope.old.outer }
 {
@@ -585,8 +592,9 @@ fn criteria(
     said: &mut Names,
     lets: &mut Clauses,
 ) -> Result<Lets, ScopeFault>
-    ensures { Walks (λ ls. (map (λ l. l.0) (map let_part ls), map (λ l. l.1) (map let_part ls), behind.new))
-        (walk.criteria (site_of at.now) behind.old [] [] (map (λ l. l.0) (map let_part all.now))
+    ensures { Visits
+        (λ ls. (map (λ l. l.0) (map let_part ls), map (λ l. l.1) (map let_part ls), behind.new))
+        (visit.criteria (site_of at.now) behind.old [] [] (map (λ l. l.0) (map let_part all.now))
         (trees (map (λ l. l.1) (map let_part all.now))) (state said.old lets.old))
         result (state said.new lets.new) }
 {
@@ -610,8 +618,9 @@ fn aggregates(
     said: &mut Names,
     lets: &mut Clauses,
 ) -> Result<Aggregates, ScopeFault>
-    ensures { Walks (λ gs. (map aggregate_part gs, behind.new))
-        (walk.aggregates (site_of at.now) behind.old [] (aggregate_trees (map aggregate_part all.now))
+    ensures { Visits (λ gs. (map aggregate_part gs, behind.new))
+        (visit.aggregates (site_of at.now) behind.old []
+        (aggregate_trees (map aggregate_part all.now))
         (state said.old lets.old)) result (state said.new lets.new) }
 {
     let mut found = Seq::new(at.alloc);
@@ -633,8 +642,8 @@ fn into_part_of(
     said: &mut Names,
     lets: &mut Clauses,
 ) -> Result<Option<Into>, ScopeFault>
-    ensures { Walks (λ i. (option_map into_part i, behind.new))
-        (walk.into_walk (site_of at.now) behind.old (into_tree (option_map into_part into.now))
+    ensures { Visits (λ i. (option_map into_part i, behind.new))
+        (visit.visit_into (site_of at.now) behind.old (into_tree (option_map into_part into.now))
         (state said.old lets.old)) result (state said.new lets.new) }
 {
     match into {
@@ -652,8 +661,8 @@ fn into_some(
     said: &mut Names,
     lets: &mut Clauses,
 ) -> Result<Into, ScopeFault>
-    ensures { Walks (λ i. (Some (into_part i), behind.new))
-        (walk.into_walk (site_of at.now) behind.old (into_tree (Some (into_part into.now)))
+    ensures { Visits (λ i. (Some (into_part i), behind.new))
+        (visit.visit_into (site_of at.now) behind.old (into_tree (Some (into_part into.now)))
         (state said.old lets.old)) result (state said.new lets.new) }
 {
     match &into.what {
@@ -680,8 +689,9 @@ fn into_expr(
     said: &mut Names,
     lets: &mut Clauses,
 ) -> Result<Into, ScopeFault>
-    ensures { Walks (λ i. (Some (into_part i), behind.new))
-        (walk.into_walk (site_of at.now) behind.old (spec.into var.now (spec.one_expr (tree what.now)) keep.now)
+    ensures { Visits (λ i. (Some (into_part i), behind.new))
+        (visit.visit_into (site_of at.now) behind.old
+        (spec.into var.now (spec.one_expr (tree what.now)) keep.now)
         (state said.old lets.old)) result (state said.new lets.new) }
 {
     let number = enter_new(at, var, behind, said)?;

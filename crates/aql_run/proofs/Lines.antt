@@ -2,7 +2,7 @@
 use Rattle.std.proofs.Common.{arith, rules, ◌≡◌, ◌∙◌, ℕ, zero, suc, ◌<◌, List, [], ◌∷◌, ◌++◌, Bool, true, false, cond, length, get_or, map, refl, sym, ap, ap₂, append-nil, append_assoc}
 use Rattle.std.specs.Prelude.{◌&&◌}
 use Rattle.std.specs.List.{list_all}
-use Rattle.aql_value.specs.Tree.{Tree, null}
+use Rattle.aql_value.specs.Datum.{Datum, null}
 use Rattle.aql_value.specs.Json.{json_text}
 use Rattle.aql_tree.specs.declared.syntax.Clause.{Clause}
 use Rattle.aql_tree.specs.declared.syntax.Ident.TheVariants.{Num}
@@ -12,8 +12,8 @@ use Rattle.aql_tree.specs.View.{clause_tree, clauses, query_tree, tree}
 use Rattle.aql_meaning.specs.Row.{Row}
 use Rattle.aql_meaning.specs.Value.{value}
 use Rattle.aql_meaning.specs.Lifted.{ClauseLifted, ClausesLifted}
-use Rattle.aql_run.specs.Forms.{is_filter, only_filters, behind_for, printed}
-use Rattle.aql_run.specs.Given.{all_hold, given}
+use Rattle.aql_run.specs.Forms.{is_filter, only_filters, after_for, answer_text}
+use Rattle.aql_run.specs.RowValues.{all_hold, row_values}
 
 pub all_are_filters : (cs : List Clause)
     → list_all (λ c. is_filter (clause_tree c)) cs ≡ only_filters (clauses (map clause_tree cs))
@@ -25,7 +25,7 @@ pub query-tree : (q : Query)
     → query_tree q ≡ query q.with (clauses (map clause_tree q.clauses)) q.distinct (tree q.result.value)
 query-tree q = search (rules, the_lemmas)
 
-pub behind_is_lifted : (cs : ClauseTrees) → ClausesLifted cs → ClausesLifted (behind_for cs)
+pub behind_is_lifted : (cs : ClauseTrees) → ClausesLifted cs → ClausesLifted (after_for cs)
 behind_is_lifted (clause_then (for_documents (Num n) name) cs) h = h.1
 behind_is_lifted cs h = h
 
@@ -36,16 +36,16 @@ lifted_at (c ∷ cs) h zero d l = h.0
 lifted_at (c ∷ cs) h (suc k) d l = lifted_at cs h.1 k d (omega arith)
 
 -- a row's line, added to those before
-pub line_added : (filters : ClauseTrees) (e : ExprTree) (row : Row) (b : Bool) (v : Tree) (old : List ℕ)
+pub line_added : (filters : ClauseTrees) (e : ExprTree) (row : Row) (b : Bool) (v : Datum) (old : List ℕ)
     → b ≡ all_hold row filters → b ≡ true → v ≡ value e null row
-    → (old ++ json_text v) ++ 10 ∷ [] ≡ old ++ printed (given filters e row)
+    → (old ++ json_text v) ++ 10 ∷ [] ≡ old ++ answer_text (row_values filters e row)
 line_added filters e row b v old h k l =
     append_assoc old (json_text v) (10 ∷ [])
     ∙ ap (λ ns. old ++ ns)
     (sym (append-nil (json_text v ++ 10 ∷ []))
-    ∙ ap₂ (λ w t. printed (cond t (w ∷ []) [])) l (sym k ∙ h))
+    ∙ ap₂ (λ w t. answer_text (cond t (w ∷ []) [])) l (sym k ∙ h))
 
 pub no_line : (filters : ClauseTrees) (e : ExprTree) (row : Row) (b : Bool) (old : List ℕ)
-    → b ≡ all_hold row filters → b ≡ false → old ≡ old ++ printed (given filters e row)
+    → b ≡ all_hold row filters → b ≡ false → old ≡ old ++ answer_text (row_values filters e row)
 no_line filters e row b old h k =
-    sym (append-nil old) ∙ ap (λ t. old ++ printed (cond t (value e null row ∷ []) [])) (sym k ∙ h)
+    sym (append-nil old) ∙ ap (λ t. old ++ answer_text (cond t (value e null row ∷ []) [])) (sym k ∙ h)

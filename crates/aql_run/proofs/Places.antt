@@ -1,15 +1,15 @@
 -- The documents of a collection by its name, and by its number where it is declared.
 use Rattle.std.proofs.Common.{◌≡◌, ℕ, List, [], ◌∷◌, Bool, true, false, Option, Some, None, refl, ap}
 use Rattle.std.specs.Prelude.{zero, suc, bytes_eq, cond, if◌then◌else◌, slice_get, option_map}
-use Rattle.aql_value.specs.Tree.{Tree}
+use Rattle.aql_value.specs.Datum.{Datum}
 use Rattle.aql_value.specs.Database.{documents_named}
 use Rattle.aql_doc.specs.Held.{Held, database}
 use Rattle.aql_doc.specs.Declarations.{place_of}
 
-abbrev documents_held : List Held → ℕ → Option (List Tree)
+abbrev documents_held : List Held → ℕ → Option (List Datum)
 documents_held held at = option_map (λ (h : Held). h.documents) (slice_get held at)
 
-at_first : (b : Bool) (h : Held) (held : List Held) (others : List Tree) (at : ℕ) (found : Option ℕ)
+at_first : (b : Bool) (h : Held) (held : List Held) (others : List Datum) (at : ℕ) (found : Option ℕ)
     → ((i : ℕ) → found ≡ Some i → documents_held held i ≡ Some others)
     → (if b then Some 0 else option_map suc found) ≡ Some at
     → documents_held (h ∷ held) at ≡ Some (cond b h.documents others)
@@ -26,7 +26,7 @@ documents_at_place (h ∷ held) name at e =
     at_first (bytes_eq h.info.name name) h held (documents_named (database held) name) at (place_of held name)
     (documents_at_place held name) e
 
-none_at_first : (b : Bool) (documents others : List Tree) (found : Option ℕ)
+none_at_first : (b : Bool) (documents others : List Datum) (found : Option ℕ)
     → (found ≡ None → [] ≡ others) → (if b then Some 0 else option_map suc found) ≡ None
     → [] ≡ cond b documents others
 none_at_first true documents others found f e = absurd (cc)

@@ -1,14 +1,14 @@
 // The lines of rows, each filtered by itself.
 ghost use Rattle.std.specs.Prelude.{All, [], ◌∷◌, ◌++◌, ◌≡◌, IfOk, map, OnOk};
 ghost use Rattle.std.specs.List.{flat_map};
-ghost use Rattle.aql_value.specs.View.{trees_in};
+ghost use Rattle.aql_value.specs.View.{datums_in};
 ghost use Rattle.aql_tree.specs.declared.syntax.Ident.TheVariants.{Num};
 ghost use Rattle.aql_tree.specs.View.{clause_tree, clauses, tree};
 ghost use Rattle.aql_meaning.specs.Plain.{IsPlain};
 ghost use Rattle.aql_meaning.specs.Row.{bind, empty_row};
 ghost use Rattle.aql_meaning.specs.Lifted.{ClauseLifted};
-ghost use Rattle.aql_run.specs.Forms.{printed};
-ghost use Rattle.aql_run.specs.Given as spec;
+ghost use Rattle.aql_run.specs.Forms.{answer_text};
+ghost use Rattle.aql_run.specs.RowValues as spec;
 
 use crate::rows::{DocumentRow, NoVariables};
 use aql_expr::{RowView, eval};
@@ -26,9 +26,9 @@ pub(crate) fn document_lines(
 ) -> Result<Vec<u8>, OutOfMemory>
     requires filters { All (λ c. ClauseLifted (clause_tree c)) filters.now }
     requires gives { IsPlain (tree gives.now) }
-    ensures { IfOk result (λ text. text.items ≡ printed (flat_map
-        (spec.given (clauses (map clause_tree filters.now)) (tree gives.now))
-        (map (bind (Num var) empty_row) (trees_in documents.now)))) }
+    ensures { IfOk result (λ text. text.items ≡ answer_text (flat_map
+        (spec.row_values (clauses (map clause_tree filters.now)) (tree gives.now))
+        (map (bind (Num var) empty_row) (datums_in documents.now)))) }
 {
     let mut text = Vec::new(alloc);
     for document in documents {
@@ -46,8 +46,9 @@ pub(crate) fn one_line(
 ) -> Result<Vec<u8>, OutOfMemory>
     requires filters { All (λ c. ClauseLifted (clause_tree c)) filters.now }
     requires gives { IsPlain (tree gives.now) }
-    ensures { IfOk result (λ text. text.items ≡ printed (flat_map
-        (spec.given (clauses (map clause_tree filters.now)) (tree gives.now)) (empty_row ∷ []))) }
+    ensures { IfOk result (λ text. text.items ≡ answer_text (flat_map
+        (spec.row_values (clauses (map clause_tree filters.now)) (tree gives.now))
+        (empty_row ∷ []))) }
 {
     let mut text = Vec::new(alloc);
     add_line(alloc, &NoVariables, filters, gives, &mut text)?;
@@ -65,7 +66,7 @@ fn add_line<R: RowView>(
     requires filters { All (λ c. ClauseLifted (clause_tree c)) filters.now }
     requires gives { IsPlain (tree gives.now) }
     ensures { OnOk result (text.new.items ≡ text.old.items
-        ++ printed (spec.given (clauses (map clause_tree filters.now)) (tree gives.now)
+        ++ answer_text (spec.row_values (clauses (map clause_tree filters.now)) (tree gives.now)
         (R.vars row.now))) }
 {
     if all_hold(alloc, row, filters)? {
@@ -76,7 +77,7 @@ fn add_line<R: RowView>(
     Ok(())
 }
 
-// Whether all conditions are true-like; behind the first that is not, none is looked at.
+// Whether all conditions are true-like; after the first that is not, none is looked at.
 fn all_hold<R: RowView>(alloc: Global, row: &R, filters: &[Clause]) -> Result<bool, OutOfMemory>
     requires { All (λ c. ClauseLifted (clause_tree c)) filters.now }
     ensures { IfOk result (λ b. b

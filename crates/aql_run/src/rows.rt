@@ -1,6 +1,6 @@
 // The rows that filters see.
 ghost use Rattle.std.specs.Prelude.{refl};
-ghost use Rattle.aql_value.specs.View.{tree_of};
+ghost use Rattle.aql_value.specs.View.{datum_of};
 ghost use Rattle.aql_tree.specs.declared.syntax.Ident.TheVariants.{Num};
 ghost use Rattle.aql_meaning.specs.Row.{bind, empty_row};
 
@@ -29,7 +29,7 @@ pub(crate) struct DocumentRow<'a> {
 }
 
 impl RowView for DocumentRow<'_> {
-    ghost vars = { λ r. bind (Num r.var) empty_row (tree_of r.document.now) };
+    ghost vars = { λ r. bind (Num r.var) empty_row (datum_of r.document.now) };
 
     fn value(&self, var: u32) -> Option<&Value> {
         if self.var == var {

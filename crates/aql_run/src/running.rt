@@ -1,15 +1,15 @@
 ghost use Rattle.std.specs.Prelude.{◌≡◌, IfOk, IfSome, is_some, map, option_map};
 ghost use Rattle.std.specs.List.{list_all};
 ghost use Rattle.aql_value.specs.Database.{documents_named};
-ghost use Rattle.aql_value.specs.View.{trees_in};
+ghost use Rattle.aql_value.specs.View.{datums_in};
 ghost use Rattle.aql_tree.specs.View.{clause_tree, query_tree, tree};
 ghost use Rattle.aql_tree.specs.View.{clauses as clause_trees};
 ghost use Rattle.aql_meaning.specs.Plain.{IsPlain};
 ghost use Rattle.aql_doc.specs.Held.{database};
 ghost use Rattle.aql_meaning.specs.Lifted.{ClausesLifted, IsLifted};
-ghost use Rattle.aql_run.specs.Forms.{Shows, printed, runs};
+ghost use Rattle.aql_run.specs.Forms.{Shows, answer_text, runs};
 ghost use Rattle.aql_run.specs.Forms as forms;
-ghost use Rattle.aql_run.specs.Given.{answered};
+ghost use Rattle.aql_run.specs.RowValues.{answer_values};
 
 use crate::filtering::{document_lines, one_line};
 use aql_doc::Catalog;
@@ -59,10 +59,10 @@ fn for_first(clauses: &[Clause]) -> Option<(u32, &Text)>
     }
 }
 
-// The clauses behind it.
+// The clauses after it.
 fn behind_for(clauses: &[Clause]) -> &[Clause]
     ensures { clause_trees (map clause_tree result.now)
-        ≡ forms.behind_for (clause_trees (map clause_tree clauses.now)) }
+        ≡ forms.after_for (clause_trees (map clause_tree clauses.now)) }
 {
     match clauses {
         [
@@ -97,7 +97,7 @@ fn lines(
 ) -> Result<Vec<u8>, OutOfMemory>
     requires clauses { ClausesLifted (clause_trees (map clause_tree clauses.now)) }
     requires gives { IsPlain (tree gives.now) }
-    ensures { IfOk result (λ text. text.items ≡ printed (answered (database catalog.now)
+    ensures { IfOk result (λ text. text.items ≡ answer_text (answer_values (database catalog.now)
         (clause_trees (map clause_tree clauses.now)) (tree gives.now))) }
 {
     let filters = behind_for(clauses);
@@ -112,7 +112,7 @@ fn lines(
 
 // The documents of the collection with a name; none where it is not declared.
 fn documents_of<'a>(catalog: &'a Catalog, name: &str) -> &'a [Value]
-    ensures { trees_in result.now ≡ documents_named (database catalog.now) name.now }
+    ensures { datums_in result.now ≡ documents_named (database catalog.now) name.now }
 {
     match catalog.find(name) {
         Some(number) => match catalog.documents(number) {

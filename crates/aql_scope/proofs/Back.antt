@@ -1,10 +1,10 @@
 -- The lists of the walk and the trees that they stand for: each back from the other.
 use Rattle.std.proofs.Common.{◌≡◌, ◌∙◌, List, [], ◌∷◌, ◌++◌, map, refl, ap, ap₂}
 use Rattle.std.specs.Prelude.{Option, Some, None}
-use Rattle.aql_tree.specs.Tree.{ExprTree, ExprTrees, no_exprs, expr_then, MaybeExpr, no_expr, one_expr, MemberTrees, no_members, named_then, computed_then, StepTrees, no_steps, name_then, at_then, each_then, LinkTrees, no_links, link_then, ClauseTree, AggregateTrees, no_aggregates, aggregate_then, IntoTree, no_into, into, ClauseTrees, no_clauses, clause_then}
+use Rattle.aql_tree.specs.Tree.{ExprTree, ExprTrees, no_exprs, expr_then, MaybeExpr, no_expr, one_expr, MemberTrees, no_members, named_then, computed_then, StepTrees, no_steps, name_then, at_then, inline_then, LinkTrees, no_links, link_then, ClauseTree, AggregateTrees, no_aggregates, aggregate_then, IntoTree, no_into, into, ClauseTrees, no_clauses, clause_then}
 use Rattle.aql_tree.specs.View as view
 use Rattle.aql_tree.specs.View.{MemberPart, named, computed, StepPart, LinkPart, AggregatePart, IntoPart}
-use Rattle.aql_lift.specs.Lifting.{Taken, with_lets, followed}
+use Rattle.aql_lift.specs.Lifting.{NumberedSubquery, with_lets, append_clauses}
 use Rattle.aql_scope.proofs.Outcomes.{let_of}
 
 abbrev pub list_of : ExprTrees → List ExprTree
@@ -37,15 +37,15 @@ abbrev pub steps_of : StepTrees → List StepPart
 steps_of no_steps = []
 steps_of (name_then name ss) = view.name name ∷ steps_of ss
 steps_of (at_then e ss) = view.at e ∷ steps_of ss
-steps_of (each_then filter gives ss) = view.each (option_of filter) (option_of gives) ∷ steps_of ss
+steps_of (inline_then filter gives ss) = view.inline (option_of filter) (option_of gives) ∷ steps_of ss
 
 pub steps_back : (ss : StepTrees) → view.steps (steps_of ss) ≡ ss
 steps_back no_steps = refl
 steps_back (name_then name ss) = ap (name_then name) (steps_back ss)
 steps_back (at_then e ss) = ap (at_then e) (steps_back ss)
-steps_back (each_then filter gives ss) =
-    ap₂ (λ f g. each_then f g (view.steps (steps_of ss))) (maybe_back filter) (maybe_back gives)
-    ∙ ap (each_then filter gives) (steps_back ss)
+steps_back (inline_then filter gives ss) =
+    ap₂ (λ f g. inline_then f g (view.steps (steps_of ss))) (maybe_back filter) (maybe_back gives)
+    ∙ ap (inline_then filter gives) (steps_back ss)
 
 abbrev pub links_of : LinkTrees → List LinkPart
 links_of no_links = []
@@ -83,14 +83,14 @@ pub clauses_back : (cs : ClauseTrees) → view.clauses (clauses_of cs) ≡ cs
 clauses_back no_clauses = refl
 clauses_back (clause_then c cs) = ap (clause_then c) (clauses_back cs)
 
-pub clauses_of_lets : (ts : List Taken) (cs : ClauseTrees)
+pub clauses_of_lets : (ts : List NumberedSubquery) (cs : ClauseTrees)
     → clauses_of (with_lets ts cs) ≡ map let_of ts ++ clauses_of cs
 clauses_of_lets [] cs = refl
 clauses_of_lets (t ∷ ts) cs = ap (λ ls. let_of t ∷ ls) (clauses_of_lets ts cs)
 
 -- clauses with the LETs of what was taken out behind them
-pub clauses_followed : (cs : ClauseTrees) (ts : List Taken)
-    → view.clauses (clauses_of cs ++ map let_of ts) ≡ followed cs (with_lets ts no_clauses)
+pub clauses_followed : (cs : ClauseTrees) (ts : List NumberedSubquery)
+    → view.clauses (clauses_of cs ++ map let_of ts) ≡ append_clauses cs (with_lets ts no_clauses)
 clauses_followed no_clauses [] = refl
 clauses_followed no_clauses (t ∷ ts) = ap (clause_then (let_of t)) (clauses_followed no_clauses ts)
 clauses_followed (clause_then c cs) ts = ap (clause_then c) (clauses_followed cs ts)

@@ -3,18 +3,18 @@ use Rattle.std.proofs.Common.{◌≡◌, ◌∙◌, ℕ, List, [], ◌∷◌, �
 use Rattle.std.specs.Prelude.{Option, Some, None, Ok}
 use Rattle.aql_func.specs.declared.operators.BinOp.{BinOp}
 use Rattle.aql_func.specs.declared.operators.UnaryOp.{UnaryOp}
-use Rattle.aql_func.specs.Names.{looked_up}
-use Rattle.aql_tree.specs.Tree.{ExprTree, literal, current, listed, made, access, called, unary_of, chain, choice, ExprTrees, no_exprs, expr_then, MaybeExpr, no_expr, one_expr, MemberTrees, no_members, named_then, computed_then, StepTrees, no_steps, name_then, at_then, each_then, LinkTrees, no_links, link_then}
+use Rattle.aql_func.specs.Names.{function_named}
+use Rattle.aql_tree.specs.Tree.{ExprTree, literal, current, array_literal, object_literal, access, function_call, unary_of, chain, ternary, ExprTrees, no_exprs, expr_then, MaybeExpr, no_expr, one_expr, MemberTrees, no_members, named_then, computed_then, StepTrees, no_steps, name_then, at_then, inline_then, LinkTrees, no_links, link_then}
 use Rattle.aql_tree.specs.View as view
 use Rattle.aql_tree.specs.View.{MemberPart, named, computed, StepPart, LinkPart}
-use Rattle.aql_value.specs.Tree.{Tree}
+use Rattle.aql_value.specs.Datum.{Datum}
 use Rattle.aql_lift.specs.Lifting as L
-use Rattle.aql_lift.specs.Lifting.{Scoped, whole, over, both}
+use Rattle.aql_lift.specs.Lifting.{Scoped, as_it_is, over, both}
 use Rattle.aql_lift.proofs.Places.{placed, placed_maybe}
 use Rattle.aql_names.specs.declared.faults.ScopeFault.{ScopeFault}
-use Rattle.aql_names.specs.Faults.{first, count, call_fault, in_expr, in_exprs, in_maybe, in_members, in_steps, in_links}
-use Rattle.aql_names.specs.Walk as W
-use Rattle.aql_names.specs.Walk.{Site, State, Outcome, place, visible, next, on, inline_site}
+use Rattle.aql_names.specs.Faults.{first, expr_count, call_fault, in_expr, in_exprs, in_maybe, in_members, in_steps, in_links}
+use Rattle.aql_names.specs.Visit as W
+use Rattle.aql_names.specs.Visit.{Site, State, Outcome, place, visible, next, on, inline_site}
 use Rattle.aql_scope.proofs.Outcomes.{after, outcome, outcome_whole, used, same_over, judged_first, then_is}
 use Rattle.aql_scope.proofs.Back.{list_of, trees_back, option_of, maybe_back, members_of, members_back, steps_of, steps_back, links_of, links_back}
 use Rattle.aql_scope.proofs.Claims.{ExprIs, MaybeIs, ExprsAre, MembersAre, StepsAre, LinksAre}
@@ -36,25 +36,26 @@ found_more found r of f s st = same_over _ _ f s st (λ t. append_assoc found (r
 
 -- nothing is left
 found_all : {R : Type 0} (found : List R) (n : ℕ) (st : State)
-    → Ok (found, st) ≡ outcome None (whole (found ++ []) n) st
+    → Ok (found, st) ≡ outcome None (as_it_is (found ++ []) n) st
 found_all found n st =
-    outcome_whole found n st ∙ ap (λ l. outcome None (whole l n) st) (sym (append-nil found))
+    outcome_whole found n st ∙ ap (λ l. outcome None (as_it_is l n) st) (sym (append-nil found))
 
 -- ---- forms of expressions
 
-pub literal_is : (v : Tree) → ExprIs (literal v)
+pub literal_is : (v : Datum) → ExprIs (literal v)
 literal_is v s st = outcome_whole (literal v) (next st.said) st
 
 pub current_is : ExprIs current
 current_is s st = outcome_whole current (next st.said) st
 
-pub listed_is : (es : ExprTrees) → ExprsAre es → ExprIs (listed es)
+pub listed_is : (es : ExprTrees) → ExprsAre es → ExprIs (array_literal es)
 listed_is es are s st =
-    tree_made list_of view.trees listed (in_exprs (place s) es) _ st _ trees_back (are s [] st)
+    tree_made list_of view.trees array_literal (in_exprs (place s) es) _ st _ trees_back (are s [] st)
 
-pub made_is : (ms : MemberTrees) → MembersAre ms → ExprIs (made ms)
+pub made_is : (ms : MemberTrees) → MembersAre ms → ExprIs (object_literal ms)
 made_is ms are s st =
-    tree_made members_of view.members made (in_members (place s) ms) _ st _ members_back (are s [] st)
+    tree_made members_of view.members object_literal (in_members (place s) ms) _ st _ members_back
+    (are s [] st)
 
 pub access_is : (e : ExprTree) (ss : StepTrees) → ExprIs e → StepsAre ss → ExprIs (access e ss)
 access_is e ss is are s st =
@@ -65,10 +66,11 @@ access_is e ss is are s st =
     (in_steps (place s) ss) _ _ _
     steps_back (are s [] _))
 
-pub called_is : (name : List ℕ) (es : ExprTrees) → ExprsAre es → ExprIs (called name es)
+pub called_is : (name : List ℕ) (es : ExprTrees) → ExprsAre es → ExprIs (function_call name es)
 called_is name es are s st =
-    judged_first (call_fault (looked_up name) name (count es)) (in_exprs (place s) es) _ st _
-    (tree_made list_of view.trees (called name) (in_exprs (place s) es) _ st _ trees_back (are s [] st))
+    judged_first (call_fault (function_named name) name (expr_count es)) (in_exprs (place s) es) _ st _
+    (tree_made list_of view.trees (function_call name) (in_exprs (place s) es) _ st _ trees_back
+    (are s [] st))
 
 pub unary_is : (op : UnaryOp) (e : ExprTree) → ExprIs e → ExprIs (unary_of op e)
 unary_is op e is s st = used (unary_of op) (in_expr (place s) e) _ st _ (is s st)
@@ -93,7 +95,7 @@ two_are make e f is other s st =
     (used (make (L.expr (visible s) (next st.said) e).tree) (in_expr (place s) f) _ _ _ (other s _))
 
 pub choice_is : (test : ExprTree) (chosen : MaybeExpr) (other : ExprTree) → ExprIs test → MaybeIs chosen
-    → ExprIs other → ExprIs (choice test chosen other)
+    → ExprIs other → ExprIs (ternary test chosen other)
 choice_is test chosen other test_is chosen_is other_is s st =
     let p = place s in
     let names = visible s in
@@ -101,15 +103,15 @@ choice_is test chosen other test_is chosen_is other_is s st =
     let here = after a st in
     let b = L.maybe names (next here.said) chosen in
     let pair : MaybeExpr → ExprTree → MaybeExpr × ExprTree = λ x y. (x, y) in
-    then_is (λ x. x) (λ x (y : MaybeExpr × ExprTree). choice x y.0 y.1) (in_expr p test)
+    then_is (λ x. x) (λ x (y : MaybeExpr × ExprTree). ternary x y.0 y.1) (in_expr p test)
     (first (in_maybe p chosen) (in_expr p other)) a
     (λ n. let t = L.maybe names n chosen in both pair t (L.expr names t.next other)) st _ _ (test_is s st)
     (placed test names (next st.said))
-    (then_is option_of (λ x y. choice a.tree x y) (in_maybe p chosen) (in_expr p other) b
+    (then_is option_of (λ x y. ternary a.tree x y) (in_maybe p chosen) (in_expr p other) b
     (λ n. L.expr names n other) here _ _ (chosen_is s here) (placed_maybe chosen names (next here.said))
-    (used (choice a.tree (view.maybe (option_of b.tree))) (in_expr p other) _ _ _ (other_is s _)
-    ∙ same_over (choice a.tree (view.maybe (option_of b.tree))) (choice a.tree b.tree) (in_expr p other) _ _
-    (λ y. ap (λ m. choice a.tree m y) (maybe_back b.tree))))
+    (used (ternary a.tree (view.maybe (option_of b.tree))) (in_expr p other) _ _ _ (other_is s _)
+    ∙ same_over (ternary a.tree (view.maybe (option_of b.tree))) (ternary a.tree b.tree) (in_expr p other) _ _
+    (λ y. ap (λ m. ternary a.tree m y) (maybe_back b.tree))))
 
 -- ---- lists
 
@@ -188,7 +190,7 @@ at_steps_are e ss is are s found st =
 
 pub each_steps_are : (filter gives : MaybeExpr) (ss : StepTrees) → MaybeIs filter → MaybeIs gives
     → StepsAre ss
-    → StepsAre (each_then filter gives ss)
+    → StepsAre (inline_then filter gives ss)
 each_steps_are filter gives ss filter_is gives_is are s found st =
     let narrow = inline_site s in
     let p = place narrow in
@@ -197,16 +199,17 @@ each_steps_are filter gives ss filter_is gives_is are s found st =
     let here = after t st in
     let u = L.maybe names (next here.said) gives in
     let pair : MaybeExpr → StepTrees → MaybeExpr × StepTrees = λ x y. (x, y) in
-    let each : MaybeExpr → MaybeExpr → StepPart = λ f g. view.each (option_of f) (option_of g) in
+    let each : MaybeExpr → MaybeExpr → StepPart = λ f g. view.inline (option_of f) (option_of g) in
     then_is option_of (λ a (b : MaybeExpr × StepTrees). found ++ (each a b.0 ∷ steps_of b.1))
     (in_maybe p filter)
     (first (in_maybe p gives) (in_steps (place s) ss)) t
     (λ n. let v = L.maybe names n gives in both pair v (L.steps names v.next ss)) st _
-    (λ f st. on (W.maybe narrow gives st) (λ g st. W.steps s (found ++ view.each f g ∷ []) ss st))
+    (λ f st. on (W.maybe narrow gives st) (λ g st. W.steps s (found ++ view.inline f g ∷ []) ss st))
     (filter_is narrow st) (placed_maybe filter names (next st.said))
     (then_is option_of (λ a b. found ++ (each t.tree a ∷ steps_of b)) (in_maybe p gives)
     (in_steps (place s) ss) u
-    (λ n. L.steps names n ss) here _ (λ g st. W.steps s (found ++ view.each (option_of t.tree) g ∷ []) ss st)
+    (λ n. L.steps names n ss) here _
+    (λ g st. W.steps s (found ++ view.inline (option_of t.tree) g ∷ []) ss st)
     (gives_is narrow here) (placed_maybe gives names (next here.said))
     (are s (found ++ each t.tree u.tree ∷ []) (after u here)
     ∙ found_more found (each t.tree u.tree) steps_of (in_steps (place s) ss) _ (after u here)))

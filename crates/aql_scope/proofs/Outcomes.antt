@@ -4,21 +4,21 @@ use Rattle.std.proofs.lemmas.List.{map-append}
 use Rattle.std.specs.Prelude.{Option, Some, None, Ok, Err}
 use Rattle.aql_tree.specs.declared.syntax.Ident.{Ident}
 use Rattle.aql_tree.specs.declared.syntax.Ident.TheVariants.{Num}
-use Rattle.aql_tree.specs.Tree.{subquery, ClauseTree, define}
-use Rattle.aql_lift.specs.Names.{text_of}
-use Rattle.aql_lift.specs.Lifting.{Taken, Scoped, whole, over, both, declares}
+use Rattle.aql_tree.specs.Tree.{subquery, ClauseTree, let_be}
+use Rattle.aql_lift.specs.Numbering.{text_of}
+use Rattle.aql_lift.specs.Lifting.{NumberedSubquery, Scoped, as_it_is, over, both, declares}
 use Rattle.aql_lift.proofs.Places.{Placed}
 use Rattle.aql_lift.specs.laws.PlainTakesNothing.{TakesNothing}
 use Rattle.aql_names.specs.declared.faults.ScopeFault.{ScopeFault}
 use Rattle.aql_names.specs.Faults.{first}
-use Rattle.aql_names.specs.Walk.{State, Outcome, next, say_all, on, judged}
+use Rattle.aql_names.specs.Visit.{State, Outcome, next, say_all, on, judge}
 
-abbrev pub let_of : Taken → ClauseTree
-let_of t = define (Num t.0) (subquery t.1)
+abbrev pub let_of : NumberedSubquery → ClauseTree
+let_of t = let_be (Num t.0) (subquery t.1)
 
 -- the state behind a part
 abbrev pub after : {T : Type 0} → Scoped T → State → State
-after s st = record { said = st.said ++ s.said; lets = st.lets ++ map let_of s.taken }
+after s st = record { said = st.said ++ s.said; lets = st.lets ++ map let_of s.subqueries }
 
 abbrev pub outcome : {T : Type 0} → Option ScopeFault → Scoped T → State → Outcome T State
 outcome None s st = Ok (s.tree, after s st)
@@ -53,10 +53,10 @@ after_both : {A B C : Type 0} (h : A → B → C) (s : Scoped A) (t : Scoped B) 
     → after t (after s st) ≡ after (both h s t) st
 after_both h s t st =
     state_is _ _ _ _ (append_assoc st.said s.said t.said)
-    (append_assoc st.lets (map let_of s.taken) (map let_of t.taken)
-    ∙ ap (λ ls. st.lets ++ ls) (sym (map-append let_of s.taken t.taken)))
+    (append_assoc st.lets (map let_of s.subqueries) (map let_of t.subqueries)
+    ∙ ap (λ ls. st.lets ++ ls) (sym (map-append let_of s.subqueries t.subqueries)))
 
-after_whole : {A : Type 0} (a : A) (n : ℕ) (st : State) → st ≡ after (whole a n) st
+after_whole : {A : Type 0} (a : A) (n : ℕ) (st : State) → st ≡ after (as_it_is a n) st
 after_whole a n st = state_is _ _ _ _ (sym (append-nil st.said)) (sym (append-nil st.lets))
 
 -- nothing is declared in the part and nothing taken from it
@@ -75,7 +75,7 @@ next_append said more m h = let k = length-append said more in omega arith
 
 -- ---- outcomes
 
-pub outcome_whole : {A : Type 0} (a : A) (n : ℕ) (st : State) → Ok (a, st) ≡ outcome None (whole a n) st
+pub outcome_whole : {A : Type 0} (a : A) (n : ℕ) (st : State) → Ok (a, st) ≡ outcome None (as_it_is a n) st
 outcome_whole a n st = ap (λ new. Ok (a, new)) (after_whole a n st)
 
 -- a part whose tree is used
@@ -92,7 +92,7 @@ same_over g h None s st e = ap (λ b. Ok (b, after s st)) (e s.tree)
 same_over g h (Some fault) s st e = refl
 
 pub judged_first : {A : Type 0} (f g : Option ScopeFault) (s : Scoped A) (st : State) (o : Outcome A State)
-    → o ≡ outcome g s st → judged f o ≡ outcome (first f g) s st
+    → o ≡ outcome g s st → judge f o ≡ outcome (first f g) s st
 judged_first None g s st o e = e
 judged_first (Some fault) g s st o e = refl
 
@@ -122,24 +122,24 @@ declared r (Some fault) xs s m st o p e = e
 -- from a part nothing is taken where it has no fault
 pub quiet : {A R : Type 0} (r : A → R) (f : Option ScopeFault) (s : Scoped A) (n : ℕ) (st : State)
     (o : Outcome R State) → o ≡ outcome f (over r s) st → (f ≡ None → TakesNothing s n)
-    → o ≡ outcome f (over r (whole s.tree n)) st
+    → o ≡ outcome f (over r (as_it_is s.tree n)) st
 quiet r None s n st o e h =
     e ∙ ap (λ new. Ok (r s.tree, new)) (after_nothing s n st (h refl) ∙ after_whole (r s.tree) n st)
 quiet r (Some fault) s n st o e h = e
 
 -- nothing is taken from what stands behind a part
 pub alone : {A B C : Type 0} (h : A → B → C) (f : Option ScopeFault) (s : Scoped A) (b : B) (st : State)
-    → outcome f (both h s (whole b s.next)) st ≡ outcome f (over (λ a. h a b) s) st
+    → outcome f (both h s (as_it_is b s.next)) st ≡ outcome f (over (λ a. h a b) s) st
 alone h None s b st =
     ap (λ new. Ok (h s.tree b, new))
     (state_is _ _ _ _ (ap (λ more. st.said ++ more) (append-nil s.said))
-    (ap (λ ts. st.lets ++ map let_of ts) (append-nil s.taken)))
+    (ap (λ ts. st.lets ++ map let_of ts) (append-nil s.subqueries)))
 alone h (Some fault) s b st = refl
 
 -- the trees are the same where there is no fault
 pub same_where : {A : Type 0} (f : Option ScopeFault) (a b : A) (n : ℕ) (st : State) → (f ≡ None → a ≡ b)
-    → outcome f (whole a n) st ≡ outcome f (whole b n) st
-same_where None a b n st h = ap (λ c. outcome None (whole c n) st) (h refl)
+    → outcome f (as_it_is a n) st ≡ outcome f (as_it_is b n) st
+same_where None a b n st h = ap (λ c. outcome None (as_it_is c n) st) (h refl)
 same_where (Some fault) a b n st h = refl
 
 pub placed_nothing : (n : ℕ) → Placed n [] n
@@ -151,8 +151,8 @@ placed_one n x = omega arith
 -- a part whose tree is used where what is judged behind it has no fault
 pub used_judged : {A B : Type 0} (make : A → B) (f g : Option ScopeFault) (s : Scoped A) (st : State)
     (o : Outcome A State) → o ≡ outcome f s st
-    → on o (λ a new. judged g (Ok (make a, new))) ≡ outcome (first f g) (over make s) st
+    → on o (λ a new. judge g (Ok (make a, new))) ≡ outcome (first f g) (over make s) st
 used_judged make None None s st o e = ap (λ p. on p (λ a new. Ok (make a, new))) e
 used_judged make None (Some fault) s st o e =
-    ap (λ p. on p (λ a new. judged (Some fault) (Ok (make a, new)))) e
-used_judged make (Some fault) g s st o e = ap (λ p. on p (λ a new. judged g (Ok (make a, new)))) e
+    ap (λ p. on p (λ a new. judge (Some fault) (Ok (make a, new)))) e
+used_judged make (Some fault) g s st o e = ap (λ p. on p (λ a new. judge g (Ok (make a, new)))) e

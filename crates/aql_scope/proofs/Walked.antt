@@ -1,7 +1,7 @@
 -- The walk finds the first fault of each part, and where there is none it gives the part's lifting.
 use Rattle.aql_tree.specs.declared.syntax.Ident.TheVariants.{Name, Num}
-use Rattle.aql_tree.specs.Tree.{ExprTree, literal, variable, current, listed, made, access, called, unary_of, chain, quantified, choice, range_of, subquery, ExprTrees, no_exprs, expr_then, MaybeExpr, no_expr, one_expr, MemberTrees, no_members, named_then, computed_then, StepTrees, no_steps, name_then, at_then, each_then, LinkTrees, no_links, link_then, ClauseTree, for_each, for_documents, for_paths, keep_if, define, sort_by, limit, collect, AggregateTrees, no_aggregates, aggregate_then, IntoTree, no_into, into, ClauseTrees, no_clauses, clause_then, QueryTree, query}
-use Rattle.aql_names.specs.Walk.{next}
+use Rattle.aql_tree.specs.Tree.{ExprTree, literal, variable, current, array_literal, object_literal, access, function_call, unary_of, chain, array_comparison, ternary, range_of, subquery, ExprTrees, no_exprs, expr_then, MaybeExpr, no_expr, one_expr, MemberTrees, no_members, named_then, computed_then, StepTrees, no_steps, name_then, at_then, inline_then, LinkTrees, no_links, link_then, ClauseTree, for_each, for_documents, traversal, filter_by, let_be, sort_by, limit, collect, AggregateTrees, no_aggregates, aggregate_then, IntoTree, no_into, into, ClauseTrees, no_clauses, clause_then, QueryTree, query}
+use Rattle.aql_names.specs.Visit.{next}
 use Rattle.aql_scope.proofs.Claims.{ExprIs, MaybeIs, ExprsAre, MembersAre, StepsAre, LinksAre, SettingsAre, CriteriaAre, AggregatesAre, IntoIs, open_site, ClauseIs, ClausesAre, QueryIs}
 use Rattle.aql_scope.proofs.Cases as by
 use Rattle.aql_scope.proofs.Expressions as by_expr
@@ -13,15 +13,16 @@ mutual
   expr_is (literal v) = by_expr.literal_is v
   expr_is (variable x) = by.variable_is x
   expr_is current = by_expr.current_is
-  expr_is (listed es) = by_expr.listed_is es (exprs_are es)
-  expr_is (made ms) = by_expr.made_is ms (members_are ms)
+  expr_is (array_literal es) = by_expr.listed_is es (exprs_are es)
+  expr_is (object_literal ms) = by_expr.made_is ms (members_are ms)
   expr_is (access e ss) = by_expr.access_is e ss (expr_is e) (steps_are ss)
-  expr_is (called name es) = by_expr.called_is name es (exprs_are es)
+  expr_is (function_call name es) = by_expr.called_is name es (exprs_are es)
   expr_is (unary_of op e) = by_expr.unary_is op e (expr_is e)
   expr_is (chain e ls) = by_expr.chain_is e ls (expr_is e) (links_are ls)
-  expr_is (quantified e kind op f) = by_expr.two_are (λ a b. quantified a kind op b) e f (expr_is e)
+  expr_is (array_comparison e kind op f) =
+      by_expr.two_are (λ a b. array_comparison a kind op b) e f (expr_is e)
       (expr_is f)
-  expr_is (choice test chosen other) =
+  expr_is (ternary test chosen other) =
       by_expr.choice_is test chosen other (expr_is test) (maybe_is chosen) (expr_is other)
   expr_is (range_of e f) = by_expr.two_are range_of e f (expr_is e) (expr_is f)
   expr_is (subquery q) = by.subquery_is q (query_is q)
@@ -43,7 +44,7 @@ mutual
   steps_are no_steps = by_expr.no_steps_are
   steps_are (name_then name ss) = by_expr.name_steps_are name ss (steps_are ss)
   steps_are (at_then e ss) = by_expr.at_steps_are e ss (expr_is e) (steps_are ss)
-  steps_are (each_then filter gives ss) =
+  steps_are (inline_then filter gives ss) =
       by_expr.each_steps_are filter gives ss (maybe_is filter) (maybe_is gives) (steps_are ss)
 
   pub links_are : (ls : LinkTrees) → LinksAre ls
@@ -75,12 +76,12 @@ mutual
   clause_is (for_each x e) = λ held outer own st.
       by.declares_one (for_each (Num (next st.said))) x e (expr_is e) (open_site held outer own) st
   clause_is (for_documents x c) = by_clause.for_documents_is x c
-  clause_is (for_paths w e cs prune ms) =
+  clause_is (traversal w e cs prune ms) =
       by.paths_are w e cs prune ms (expr_is e) (maybe_is prune) (settings_are ms)
-  clause_is (keep_if e) = by_clause.keep_if_is e (expr_is e)
-  clause_is (define x (subquery q)) = by.let_subquery x q (query_is q)
-  clause_is (define x e) = λ held outer own st.
-      by.declares_one (define (Num (next st.said))) x e (expr_is e) (open_site held outer own) st
+  clause_is (filter_by e) = by_clause.keep_if_is e (expr_is e)
+  clause_is (let_be x (subquery q)) = by.let_subquery x q (query_is q)
+  clause_is (let_be x e) = λ held outer own st.
+      by.declares_one (let_be (Num (next st.said))) x e (expr_is e) (open_site held outer own) st
   clause_is (sort_by directions es) = by_clause.sort_by_is directions es (exprs_are es)
   clause_is (limit offset n) = by_clause.limit_is offset n
   clause_is (collect xs es gs i) =

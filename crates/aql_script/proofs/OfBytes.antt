@@ -2,13 +2,13 @@
 use Rattle.std.proofs.Common.{◌≡◌, ℕ, ◌+◌, ◌-◌, List, [], ◌∷◌, Bool, true, false, Option, Some, None, Ok, Err, if◌then◌else◌, nat_lt, nat_le, nat_eq, length, subst}
 use Rattle.std.specs.Prelude.{Result, is_some, IfErr}
 use Rattle.std.specs.Str.{is_utf8}
-use Rattle.aql_value.specs.Tree.{Tree}
+use Rattle.aql_value.specs.Datum.{Datum}
 use Rattle.aql_value.specs.JsonLine.{json_line}
 use Rattle.aql_value.specs.declared.reading.JsonFault.{JsonFault}
 use Rattle.aql_value.specs.declared.reading.JsonFault.TheVariants.{NotJson, TooDeep, NotWhole, Memory as JsonMemory}
 use Rattle.aql_doc.specs.Held.{Held}
-use Rattle.aql_doc.specs.Declarations.{place_of, declared, indexed}
-use Rattle.aql_doc.specs.Documents.{added}
+use Rattle.aql_doc.specs.Declarations.{place_of, declare, add_index}
+use Rattle.aql_doc.specs.Documents.{add}
 use Rattle.aql_doc.specs.declared.faults.CatalogFault.{CatalogFault}
 use Rattle.aql_doc.specs.declared.faults.CatalogFault.TheVariants.{Twice, TooMany, Memory as CatalogMemory}
 use Rattle.aql_doc.specs.declared.faults.DocFault.{DocFault}
@@ -68,28 +68,28 @@ of_adding : (n : ℕ) (r : Result (List Held) DocFault) → FaultIs OfDocument r
 of_adding n (Ok held) h = tt
 of_adding n (Err e) h = of_doc n e h
 
-of_value : (n : ℕ) (held : List Held) (r : Result Tree JsonFault) → FaultIs OfJson r
+of_value : (n : ℕ) (held : List Held) (r : Result Datum JsonFault) → FaultIs OfJson r
     → StepOf (with_value n held r)
 of_value n held (Ok value) h =
-    of_adding n (added held (length held - 1) value) (added_is held (length held - 1) value)
+    of_adding n (add held (length held - 1) value) (added_is held (length held - 1) value)
 of_value n held (Err e) h = of_json n e h
 
 of_declaration : (n : ℕ) (held : List Held) (edge : Bool) (name : List ℕ) (options : Options)
     → StepOf (declaration n held edge name options)
 unfolding declaration
 of_declaration n held edge name options =
-    let does = declare_step n (declared held name edge (shards_of options) (keys_of options)) in
+    let does = declare_step n (declare held name edge (shards_of options) (keys_of options)) in
     either (is_some (place_of held name)) (fault (Line n DeclaredTwice))
     (if nat_lt 32 (shards_of options) then fault (Limit (Shards n)) else does) tt
     (either (nat_lt 32 (shards_of options)) (fault (Limit (Shards n))) does tt
-    (of_declaring n (declared held name edge (shards_of options) (keys_of options))
+    (of_declaring n (declare held name edge (shards_of options) (keys_of options))
     (declared_is held name edge (shards_of options) (keys_of options))))
 
 of_place : (n : ℕ) (held : List Held) (attributes : List (List ℕ)) (place : Option ℕ)
     → StepOf (index_at n held attributes place)
 of_place n held attributes None = tt
 of_place n held attributes (Some number) =
-    of_indexing n (indexed held number attributes) (indexed_is held number attributes)
+    of_indexing n (add_index held number attributes) (indexed_is held number attributes)
 
 of_index : (n : ℕ) (held : List Held) (name : List ℕ) (attributes : List (List ℕ))
     → StepOf (index n held name attributes)

@@ -1,13 +1,13 @@
 -- What a call on the catalog gives is what the line does.
 use Rattle.std.proofs.Common.{◌≡◌, ◌<◌, ◌≤◌, ℕ, ◌-◌, List, Bool, true, false, Option, Some, None, Ok, Err, refl, sym, ap, ap₂, ◌∙◌, inl, inr, arith, length, option_map, nat_eq, nat_lt, if◌then◌else◌}
 use Rattle.std.specs.Prelude.{Result, ◌⊎◌, is_some}
-use Rattle.aql_value.specs.Tree.{Tree}
+use Rattle.aql_value.specs.Datum.{Datum}
 use Rattle.aql_value.specs.JsonLine.{json_line}
 use Rattle.aql_value.specs.declared.reading.JsonFault.{JsonFault}
 use Rattle.aql_value.specs.declared.reading.JsonFault.TheVariants.{Memory as JsonMemory}
 use Rattle.aql_doc.specs.Held.{Held}
-use Rattle.aql_doc.specs.Declarations.{place_of, declared, indexed}
-use Rattle.aql_doc.specs.Documents.{added}
+use Rattle.aql_doc.specs.Declarations.{place_of, declare, add_index}
+use Rattle.aql_doc.specs.Documents.{add}
 use Rattle.aql_doc.specs.declared.faults.CatalogFault.{CatalogFault}
 use Rattle.aql_doc.specs.declared.faults.CatalogFault.TheVariants.{Memory as CatalogMemory}
 use Rattle.aql_doc.specs.declared.faults.DocFault.{DocFault}
@@ -51,24 +51,24 @@ module _ (n : ℕ) (held : List Held) (edge : Bool) (name : List ℕ) (options :
   declared_as : (shards : ℕ) (keys : List (List ℕ)) (r : Result (List Held) CatalogFault)
       → is_some (place_of held name) ≡ false → shards ≤ 32 → shards ≡ shards_of options
       → keys ≡ keys_of options
-      → declared held name edge shards keys ≡ r → declaration n held edge name options ≡ declare_step n r
+      → declare held name edge shards keys ≡ r → declaration n held edge name options ≡ declare_step n r
   unfolding declaration
   declared_as shards keys r e h s k d =
       let few : nat_lt 32 (shards_of options) ≡ false = grind (arith, h, s) in
-      picked _ _ _ _ _ e few ∙ ap (declare_step n) (sym (ap₂ (λ x y. declared held name edge x y) s k) ∙ d)
+      picked _ _ _ _ _ e few ∙ ap (declare_step n) (sym (ap₂ (λ x y. declare held name edge x y) s k) ∙ d)
 
   pub declares : (shards : ℕ) (keys : List (List ℕ)) (more : List Held) → is_some (place_of held name) ≡ false
       → shards ≤ 32 → shards ≡ shards_of options → keys ≡ keys_of options
-      → declared held name edge shards keys ≡ Ok more → declaration n held edge name options ≡ next more
+      → declare held name edge shards keys ≡ Ok more → declaration n held edge name options ≡ next more
   declares shards keys more = declared_as shards keys (Ok more)
 
   pub not_declared : (shards : ℕ) (keys : List (List ℕ)) (e : CatalogFault)
       → is_some (place_of held name) ≡ false
       → shards ≤ 32 → shards ≡ shards_of options → keys ≡ keys_of options
-      → (e ≡ CatalogMemory) ⊎ (declared held name edge shards keys ≡ Err e)
+      → (e ≡ CatalogMemory) ⊎ (declare held name edge shards keys ≡ Err e)
       → Refuses (declare_fault n e) (declaration n held edge name options)
   not_declared shards keys e p h s k =
-      passed CatalogMemory e (declare_fault n) (declared held name edge shards keys ≡ Err e)
+      passed CatalogMemory e (declare_fault n) (declare held name edge shards keys ≡ Err e)
       (declaration n held edge name options) refl (declared_as shards keys (Err e) p h s k)
 
 module _ (n : ℕ) (held : List Held) (name : List ℕ) (attributes : List (List ℕ)) where
@@ -77,19 +77,19 @@ module _ (n : ℕ) (held : List Held) (name : List ℕ) (attributes : List (List
   unknown e = ap (index_at n held attributes) (sym e)
 
   indexed_as : (number : ℕ) (r : Result (List Held) CatalogFault) → Some number ≡ place_of held name
-      → indexed held number attributes ≡ r → index n held name attributes ≡ index_step n r
+      → add_index held number attributes ≡ r → index n held name attributes ≡ index_step n r
   unfolding index
   indexed_as number r e d = ap (index_at n held attributes) (sym e) ∙ ap (index_step n) d
 
   pub indexes : (number : ℕ) (more : List Held) → Some number ≡ place_of held name
-      → indexed held number attributes ≡ Ok more → index n held name attributes ≡ next more
+      → add_index held number attributes ≡ Ok more → index n held name attributes ≡ next more
   indexes number more = indexed_as number (Ok more)
 
   pub not_indexed : (number : ℕ) (e : CatalogFault) → Some number ≡ place_of held name
-      → (e ≡ CatalogMemory) ⊎ (indexed held number attributes ≡ Err e)
+      → (e ≡ CatalogMemory) ⊎ (add_index held number attributes ≡ Err e)
       → Refuses (index_fault n e) (index n held name attributes)
   not_indexed number e p =
-      passed CatalogMemory e (index_fault n) (indexed held number attributes ≡ Err e)
+      passed CatalogMemory e (index_fault n) (add_index held number attributes ≡ Err e)
       (index n held name attributes) refl (indexed_as number (Err e) p)
 
 module _ (n : ℕ) (held : List Held) (line : List ℕ) where
@@ -97,7 +97,7 @@ module _ (n : ℕ) (held : List Held) (line : List ℕ) where
   unfolding document
   no_collection e = rw e refl
 
-  document_as : (r : Result Tree JsonFault) → 0 < length held → json_line line ≡ r
+  document_as : (r : Result Datum JsonFault) → 0 < length held → json_line line ≡ r
       → document n held line ≡ with_value n held r
   unfolding document
   document_as r h j =
@@ -110,14 +110,14 @@ module _ (n : ℕ) (held : List Held) (line : List ℕ) where
       passed JsonMemory e (json_fault n) (json_line line ≡ Err e) (document n held line) refl
       (document_as (Err e) h)
 
-  pub adds : (value : Tree) (number : ℕ) (more : List Held) → 0 < length held → json_line line ≡ Ok value
-      → number ≡ length held - 1 → added held number value ≡ Ok more → document n held line ≡ next more
+  pub adds : (value : Datum) (number : ℕ) (more : List Held) → 0 < length held → json_line line ≡ Ok value
+      → number ≡ length held - 1 → add held number value ≡ Ok more → document n held line ≡ next more
   adds value number more h j p a =
-      document_as (Ok value) h j ∙ ap (add_step n) (ap (λ i. added held i value) (sym p) ∙ a)
+      document_as (Ok value) h j ∙ ap (add_step n) (ap (λ i. add held i value) (sym p) ∙ a)
 
-  pub not_added : (value : Tree) (number : ℕ) (e : DocFault) → 0 < length held → json_line line ≡ Ok value
-      → number ≡ length held - 1 → (e ≡ DocMemory) ⊎ (added held number value ≡ Err e)
+  pub not_added : (value : Datum) (number : ℕ) (e : DocFault) → 0 < length held → json_line line ≡ Ok value
+      → number ≡ length held - 1 → (e ≡ DocMemory) ⊎ (add held number value ≡ Err e)
       → Refuses (doc_fault n e) (document n held line)
   not_added value number e h j p =
-      passed DocMemory e (doc_fault n) (added held number value ≡ Err e) (document n held line) refl
-      (λ a. document_as (Ok value) h j ∙ ap (add_step n) (ap (λ i. added held i value) (sym p) ∙ a))
+      passed DocMemory e (doc_fault n) (add held number value ≡ Err e) (document n held line) refl
+      (λ a. document_as (Ok value) h j ∙ ap (add_step n) (ap (λ i. add held i value) (sym p) ∙ a))

@@ -1,13 +1,13 @@
 -- What one line of a script does, or its first fault. A line of blanks is skipped; one whose first other byte
 -- is `%` is a directive; every other line is a document of the collection declared last.
 use Rattle.std.specs.Prelude.{ℕ, List, [], ◌∷◌, ◌-◌, Bool, Option, Some, None, Result, Ok, Err, is_some, codes, length, nat_eq, nat_lt, unwrap_or, if◌then◌else◌}
-use Rattle.aql_value.specs.Tree.{Tree}
+use Rattle.aql_value.specs.Datum.{Datum}
 use Rattle.aql_value.specs.JsonLine.{json_line}
 use Rattle.aql_value.specs.declared.reading.JsonFault.{JsonFault}
 use Rattle.aql_value.specs.declared.reading.JsonFault.TheVariants.{NotJson as LineNotJson, TooDeep, NotWhole as LineNotWhole, Memory as JsonMemory}
 use Rattle.aql_doc.specs.Held.{Held}
-use Rattle.aql_doc.specs.Declarations.{place_of, declared, indexed}
-use Rattle.aql_doc.specs.Documents.{added}
+use Rattle.aql_doc.specs.Declarations.{place_of, declare, add_index}
+use Rattle.aql_doc.specs.Documents.{add}
 use Rattle.aql_doc.specs.declared.faults.CatalogFault.{CatalogFault}
 use Rattle.aql_doc.specs.declared.faults.CatalogFault.TheVariants.{Twice, TooMany, Memory as CatalogMemory}
 use Rattle.aql_doc.specs.declared.faults.DocFault.{DocFault}
@@ -43,7 +43,7 @@ unfoldable pub declaration : ℕ → List Held → Bool → List ℕ → Options
 declaration n held edge name options =
     if is_some (place_of held name) then fault (Line n DeclaredTwice)
     else (if nat_lt 32 (shards_of options) then fault (Limit (Shards n))
-    else declare_step n (declared held name edge (shards_of options) (keys_of options)))
+    else declare_step n (declare held name edge (shards_of options) (keys_of options)))
 
 -- an index is never declared twice
 abbrev pub index_fault : ℕ → CatalogFault → LoadFault
@@ -56,7 +56,7 @@ index_step n (Ok held) = next held
 index_step n (Err e) = fault (index_fault n e)
 
 abbrev pub index_at : ℕ → List Held → List (List ℕ) → Option ℕ → Step
-index_at n held attributes (Some number) = index_step n (indexed held number attributes)
+index_at n held attributes (Some number) = index_step n (add_index held number attributes)
 index_at n held attributes None = fault (Line n UnknownCollection)
 
 unfoldable pub index : ℕ → List Held → List ℕ → List (List ℕ) → Step
@@ -90,8 +90,8 @@ abbrev pub add_step : ℕ → Result (List Held) DocFault → Step
 add_step n (Ok held) = next held
 add_step n (Err e) = fault (doc_fault n e)
 
-abbrev pub with_value : ℕ → List Held → Result Tree JsonFault → Step
-with_value n held (Ok value) = add_step n (added held (length held - 1) value)
+abbrev pub with_value : ℕ → List Held → Result Datum JsonFault → Step
+with_value n held (Ok value) = add_step n (add held (length held - 1) value)
 with_value n held (Err e) = fault (json_fault n e)
 
 unfoldable pub document : ℕ → List Held → List ℕ → Step

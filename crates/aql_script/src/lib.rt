@@ -2,7 +2,7 @@
 //!
 //! A script is a list of lines. `%document` and `%edge` declare collections, `%index` declares a
 //! sorted index, and a line that begins with no `%` is a document of the collection declared last.
-//! Behind the line `%query` stands the text of the query.
+//! After the line `%query` stands the text of the query.
 #![tactic(auto)]
 
 mod directives;

@@ -1,10 +1,10 @@
 -- The query of a loaded script: whether it is of the form that runs, and what its lines show.
 use Rattle.std.proofs.Common.{◌≡◌, ◌⊎◌, inl, inr, ℕ, List, [], Bool, sym, ap, ◌∙◌, subst}
-use Rattle.aql_value.specs.Tree as value
+use Rattle.aql_value.specs.Datum as value
 use Rattle.aql_value.specs.Database.{Database}
 use Rattle.aql_tree.specs.Tree.{QueryTree}
 use Rattle.aql_meaning.specs.Row.{empty_row}
-use Rattle.aql_meaning.specs.Meaning.{Answer}
+use Rattle.aql_meaning.specs.Meaning.{IsAnswer}
 use Rattle.aql_doc.specs.Held.{Held, database}
 use Rattle.aql_script.specs.declared.loading.Loaded.{Loaded}
 use Rattle.aql_meaning.specs.Lifted.{IsLifted}
@@ -31,8 +31,8 @@ reads_as loaded tree names s form e = record {
 
 pub answers_written : (loaded : Loaded) (text : List ℕ) (tree : QueryTree) (names : List (List ℕ))
     → text ≡ loaded.query → IsScoped loaded.catalog text tree names → (lines : List ℕ)
-    → ((q : QueryTree) → IsWritten text q → (db : Database) (out : List value.Tree)
-    → Answer db tree empty_row out → Answer db q empty_row out)
+    → ((q : QueryTree) → IsWritten text q → (db : Database) (out : List value.Datum)
+    → IsAnswer db tree empty_row out → IsAnswer db q empty_row out)
     → Shows loaded.catalog tree lines → Answers loaded lines
 answers_written loaded text tree names same s lines keeps shown = record {
   query = s.spelled;

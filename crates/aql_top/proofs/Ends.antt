@@ -5,7 +5,7 @@ use Rattle.aql_script.specs.Script.{IsScript, HasFault, IsOfBytes}
 use Rattle.aql_script.specs.declared.loading.Loaded.{Loaded}
 use Rattle.aql_script.specs.declared.faults.LoadFault.{LoadFault}
 use Rattle.aql_tree.specs.Tree.{QueryTree}
-use Rattle.aql_lift.specs.Lifting.{scoped}
+use Rattle.aql_lift.specs.Lifting.{scope_query}
 use Rattle.aql_front.specs.declared.faults.QueryFault.{QueryFault}
 use Rattle.aql_front.specs.declared.faults.QueryFault.TheVariants as query
 use Rattle.aql_front.specs.Reading.{Refuses}
@@ -54,7 +54,7 @@ one_refusal l e f p q =
 
 one_form : (l : Loaded) (b c : Bool) → ReadsAs l b → ReadsAs l c → b ≡ c
 one_form l b c p q =
-    let e = ap (λ t. runs (scoped [] 1 t).tree)
+    let e = ap (λ t. runs (scope_query [] 1 t).tree)
     (written_once l.query p.query q.query p.is_written q.is_written) in
     sym p.form_is ∙ e ∙ q.form_is
 

@@ -3,7 +3,7 @@ use Rattle.std.specs.Prelude.{◌≡◌, ℕ, List, [], ◌∷◌, Bool, true, f
 use Rattle.aql_tree.specs.Tree.{QueryTree}
 use Rattle.aql_script.specs.Script.{IsScript}
 use Rattle.aql_script.specs.declared.loading.Loaded.{Loaded}
-use Rattle.aql_lift.specs.Lifting.{scoped}
+use Rattle.aql_lift.specs.Lifting.{scope_query}
 use Rattle.aql_names.specs.Faults.{first_fault}
 use Rattle.aql_front.specs.Reading.{IsWritten, Refuses}
 use Rattle.aql_front.specs.declared.faults.QueryFault.{QueryFault}
@@ -20,7 +20,7 @@ pub record ReadsAs (loaded : Loaded) (form : Bool) : Type 0 where
   pub query : QueryTree
   pub is_written : IsWritten loaded.query query
   pub no_fault : first_fault loaded.catalog query ≡ None
-  pub form_is : runs (scoped [] 1 query).tree ≡ form
+  pub form_is : runs (scope_query [] 1 query).tree ≡ form
 
 -- the text of the script's query spells a query without fault, and these bytes are exactly the lines of one
 -- answer that the meaning allows for that query as it is written

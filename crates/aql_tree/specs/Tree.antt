@@ -2,7 +2,7 @@
 -- how the program stores it. The forms are those of the AQL manual's chapters on fundamentals,
 -- operators, high-level operations and graph traversals.
 use Rattle.std.specs.Prelude.{ℕ, Bool, List, Option}
-use Rattle.aql_value.specs.Tree.{Tree}
+use Rattle.aql_value.specs.Datum.{Datum}
 use Rattle.aql_func.specs.declared.operators.BinOp.{BinOp}
 use Rattle.aql_func.specs.declared.operators.UnaryOp.{UnaryOp}
 use Rattle.aql_tree.specs.declared.syntax.Ident.{Ident}
@@ -12,41 +12,41 @@ use Rattle.aql_tree.specs.declared.syntax.UniqueEdges.{UniqueEdges}
 use Rattle.aql_tree.specs.declared.syntax.UniqueVertices.{UniqueVertices}
 
 -- the options of a traversal
-pub record WalkOptions : Type 0 where
+pub record TraversalOptions : Type 0 where
   pub edges : UniqueEdges
   pub vertices : UniqueVertices
   pub bfs : Bool
 
 -- what a traversal says beside its expressions and its edge collections
-pub record WalkShape : Type 0 where
+pub record TraversalShape : Type 0 where
   pub vertex : Ident
   pub edge : Option Ident
   pub path : Option Ident
   pub min : ℕ
   pub max : ℕ
   pub direction : Direction
-  pub options : WalkOptions
+  pub options : TraversalOptions
 
 mutual
   pub data ExprTree : Type 0 where
-    literal : Tree → ExprTree
+    literal : Datum → ExprTree
     variable : Ident → ExprTree
     current : ExprTree
     -- `[e, ..]`
-    listed : ExprTrees → ExprTree
+    array_literal : ExprTrees → ExprTree
     -- `{name: e, [e]: e, ..}`
-    made : MemberTrees → ExprTree
-    -- an expression and the steps behind it
+    object_literal : MemberTrees → ExprTree
+    -- an expression and the steps after it
     access : ExprTree → StepTrees → ExprTree
     -- a function's name and its arguments
-    called : List ℕ → ExprTrees → ExprTree
+    function_call : List ℕ → ExprTrees → ExprTree
     unary_of : UnaryOp → ExprTree → ExprTree
     -- what stands first, and the operators with their right sides
     chain : ExprTree → LinkTrees → ExprTree
     -- `e ALL == e`
-    quantified : ExprTree → QuantKind → BinOp → ExprTree → ExprTree
+    array_comparison : ExprTree → QuantKind → BinOp → ExprTree → ExprTree
     -- `e ? e : e`, where the middle may be missing
-    choice : ExprTree → MaybeExpr → ExprTree → ExprTree
+    ternary : ExprTree → MaybeExpr → ExprTree → ExprTree
     -- `e..e`
     range_of : ExprTree → ExprTree → ExprTree
     subquery : QueryTree → ExprTree
@@ -66,12 +66,12 @@ mutual
     named_then : List ℕ → ExprTree → MemberTrees → MemberTrees
     computed_then : ExprTree → ExprTree → MemberTrees → MemberTrees
 
-  -- the steps of an access: `.name`, `[e]` and `[* FILTER e RETURN e]`
+  -- the steps of an access: `.name`, `[e]` and the inline expression `[* FILTER e RETURN e]`
   pub data StepTrees : Type 0 where
     no_steps : StepTrees
     name_then : List ℕ → StepTrees → StepTrees
     at_then : ExprTree → StepTrees → StepTrees
-    each_then : MaybeExpr → MaybeExpr → StepTrees → StepTrees
+    inline_then : MaybeExpr → MaybeExpr → StepTrees → StepTrees
 
   -- the operators of a chain with their right sides
   pub data LinkTrees : Type 0 where
@@ -84,11 +84,11 @@ mutual
     -- `FOR x IN collection`, once it is known to be one
     for_documents : Ident → List ℕ → ClauseTree
     -- a traversal: its start, its edge collections, PRUNE and OPTIONS
-    for_paths : WalkShape → ExprTree → List (List ℕ) → MaybeExpr → MemberTrees → ClauseTree
+    traversal : TraversalShape → ExprTree → List (List ℕ) → MaybeExpr → MemberTrees → ClauseTree
     -- `FILTER e`
-    keep_if : ExprTree → ClauseTree
+    filter_by : ExprTree → ClauseTree
     -- `LET x = e`
-    define : Ident → ExprTree → ClauseTree
+    let_be : Ident → ExprTree → ClauseTree
     -- SORT: which keys are descending, and the keys
     sort_by : List Bool → ExprTrees → ClauseTree
     -- LIMIT: how many rows are left out, and how many are kept at most

@@ -2,14 +2,14 @@
 -- form goes to the form of the same meaning, and the lists to lists in the same order. The functions
 -- are folds that the toolchain generates; the steps below say what each form becomes.
 use Rattle.std.specs.Prelude.{ℕ, Bool, List, [], ◌∷◌, Option, Some, None, option_map, map}
-use Rattle.aql_value.specs.View.{tree_of}
+use Rattle.aql_value.specs.View.{datum_of}
 use Rattle.aql_func.specs.declared.operators.BinOp.{BinOp}
-use Rattle.aql_tree.specs.Tree.{WalkShape, WalkOptions, ExprTree, literal, variable, current, listed, made}
-use Rattle.aql_tree.specs.Tree.{access, called, unary_of, chain, quantified, choice, range_of, subquery}
+use Rattle.aql_tree.specs.Tree.{TraversalShape, TraversalOptions, ExprTree, literal, variable, current, array_literal, object_literal}
+use Rattle.aql_tree.specs.Tree.{access, function_call, unary_of, chain, array_comparison, ternary, range_of, subquery}
 use Rattle.aql_tree.specs.Tree.{ExprTrees, no_exprs, expr_then, MaybeExpr, no_expr, one_expr, MemberTrees}
 use Rattle.aql_tree.specs.Tree.{no_members, named_then, computed_then, StepTrees, no_steps, name_then}
-use Rattle.aql_tree.specs.Tree.{at_then, each_then, LinkTrees, no_links, link_then, ClauseTree, for_each}
-use Rattle.aql_tree.specs.Tree.{for_documents, for_paths, keep_if, define, sort_by, limit, collect}
+use Rattle.aql_tree.specs.Tree.{at_then, inline_then, LinkTrees, no_links, link_then, ClauseTree, for_each}
+use Rattle.aql_tree.specs.Tree.{for_documents, traversal, filter_by, let_be, sort_by, limit, collect}
 use Rattle.aql_tree.specs.Tree.{AggregateTrees, no_aggregates, aggregate_then, IntoTree, no_into, into}
 use Rattle.aql_tree.specs.Tree.{ClauseTrees, no_clauses, clause_then, QueryTree, query}
 use Rattle.aql_tree.specs.declared.syntax.Ident.{Ident}
@@ -54,13 +54,13 @@ members (computed n e ∷ ms) = computed_then n e (members ms)
 pub data StepPart : Type 0 where
   name : List ℕ → StepPart
   at : ExprTree → StepPart
-  each : Option ExprTree → Option ExprTree → StepPart
+  inline : Option ExprTree → Option ExprTree → StepPart
 
 abbrev pub steps : List StepPart → StepTrees
 steps [] = no_steps
 steps (name n ∷ ss) = name_then n (steps ss)
 steps (at e ∷ ss) = at_then e (steps ss)
-steps (each f p ∷ ss) = each_then (maybe f) (maybe p) (steps ss)
+steps (inline f p ∷ ss) = inline_then (maybe f) (maybe p) (steps ss)
 
 -- an operator with its right side
 abbrev pub LinkPart : Type 0
@@ -101,22 +101,22 @@ into_tree (Some i) = into i.0 (maybe i.1) i.2
 abbrev pub CollectPart : Type 0
 CollectPart = List LetPart × List AggregatePart × Option IntoPart
 
-abbrev pub grouped : CollectPart → ClauseTree
-grouped c = collect (map (λ l. l.0) c.0) (trees (map (λ l. l.1) c.0)) (aggregates c.1) (into_tree c.2)
+abbrev pub collect_clause : CollectPart → ClauseTree
+collect_clause c = collect (map (λ l. l.0) c.0) (trees (map (λ l. l.1) c.0)) (aggregates c.1) (into_tree c.2)
 
 abbrev pub clauses : List ClauseTree → ClauseTrees
 clauses [] = no_clauses
 clauses (c ∷ cs) = clause_then c (clauses cs)
 
 abbrev pub OptionsPart : Type 0
-OptionsPart = List MemberPart × WalkOptions
+OptionsPart = List MemberPart × TraversalOptions
 
 -- what a traversal says, its start, its edge collections, PRUNE and OPTIONS
 abbrev pub TraversalPart : Type 0
-TraversalPart = WalkShape × ExprTree × List (List ℕ) × Option ExprTree × List MemberPart
+TraversalPart = TraversalShape × ExprTree × List (List ℕ) × Option ExprTree × List MemberPart
 
-abbrev pub walked : TraversalPart → ClauseTree
-walked t = for_paths t.0 t.1 t.2 (maybe t.3) (members t.4)
+abbrev pub traversal_clause : TraversalPart → ClauseTree
+traversal_clause t = traversal t.0 t.1 t.2 (maybe t.3) (members t.4)
 
 -- ---- what each form becomes, from what its parts became
 
@@ -126,24 +126,24 @@ Layer F = F ClauseTree ExprTree MemberPart StepPart AggregatePart CollectPart In
     LinkPart OptionsPart QueryTree TraversalPart
 
 abbrev pub expr_step : Layer Expr-F → ExprTree
-expr_step (Expr-F.Lit v) = literal (tree_of v)
+expr_step (Expr-F.Lit v) = literal (datum_of v)
 expr_step (Expr-F.Var x) = variable x
 expr_step Expr-F.Current = current
-expr_step (Expr-F.List es) = listed (trees es)
-expr_step (Expr-F.Object fs) = made (members fs)
+expr_step (Expr-F.List es) = array_literal (trees es)
+expr_step (Expr-F.Object fs) = object_literal (members fs)
 expr_step (Expr-F.Access e ss) = access e.value (steps ss)
-expr_step (Expr-F.Call n es) = called n (trees es)
+expr_step (Expr-F.Call n es) = function_call n (trees es)
 expr_step (Expr-F.Unary op e) = unary_of op e.value
 expr_step (Expr-F.Chain e ls) = chain e.value (links ls)
-expr_step (Expr-F.Quant a k op b) = quantified a.value k op b.value
-expr_step (Expr-F.Cond t y n) = choice t.value (maybe (option_map (λ b. b.value) y)) n.value
+expr_step (Expr-F.Quant a k op b) = array_comparison a.value k op b.value
+expr_step (Expr-F.Cond t y n) = ternary t.value (maybe (option_map (λ b. b.value) y)) n.value
 expr_step (Expr-F.Range a b) = range_of a.value b.value
 expr_step (Expr-F.Sub q) = subquery q.value
 
 abbrev pub step_step : Layer Step-F → StepPart
 step_step (Step-F.Name n) = name n
 step_step (Step-F.At e) = at e
-step_step (Step-F.Each f p) = each f p
+step_step (Step-F.Each f p) = inline f p
 
 abbrev pub field_step : Layer Field-F → MemberPart
 field_step (Field-F.Named n e) = named n e
@@ -155,12 +155,12 @@ link_step l = (l.op, l.right)
 abbrev pub clause_step : Layer Clause-F → ClauseTree
 clause_step (Clause-F.For x e) = for_each x e
 clause_step (Clause-F.ForDocs x c) = for_documents x c
-clause_step (Clause-F.Walk t) = walked t
-clause_step (Clause-F.Filter e) = keep_if e
-clause_step (Clause-F.Let x e) = define x e
+clause_step (Clause-F.Walk t) = traversal_clause t
+clause_step (Clause-F.Filter e) = filter_by e
+clause_step (Clause-F.Let x e) = let_be x e
 clause_step (Clause-F.Sort ks) = sort ks
 clause_step (Clause-F.Limit o n) = limit o n
-clause_step (Clause-F.Collect c) = grouped c
+clause_step (Clause-F.Collect c) = collect_clause c
 
 abbrev pub key_step : Layer Key-F → KeyPart
 key_step k = (k.expr, k.descending)

@@ -2,7 +2,7 @@
 
 ghost use Rattle.std.specs.Prelude.{◌≡◌, IfOk, map, option_map};
 ghost use Rattle.aql_tree.specs.Tree as spec;
-ghost use Rattle.aql_tree.specs.View.{tree, query_tree, step_part, link_part, clause_tree, key_part, let_part, aggregate_part, into_part, links, maybe, each, grouped};
+ghost use Rattle.aql_tree.specs.View.{tree, query_tree, step_part, link_part, clause_tree, key_part, let_part, aggregate_part, into_part, links, maybe, inline, collect_clause};
 ghost use Rattle.aql_tree.specs.View.{steps as spec_steps, clauses as spec_clauses};
 
 use crate::{
@@ -25,7 +25,8 @@ fn conditional_node(
     yes: Option<Box<Expr>>,
     no: Expr,
 ) -> Result<Expr, OutOfMemory>
-    ensures { IfOk result (λ e. tree e ≡ spec.choice (tree test) (maybe (option_map (λ b. tree b.value) yes)) (tree no)) }
+    ensures { IfOk result (λ e. tree e
+        ≡ spec.ternary (tree test) (maybe (option_map (λ b. tree b.value) yes)) (tree no)) }
 {
     Ok(Expr::Cond {
         test: boxed(alloc, test)?,
@@ -45,9 +46,10 @@ impl Expr {
         })
     }
 
-    /// An expression with the steps behind it.
+    /// An expression with the steps after it.
     pub fn access(alloc: Global, of: Expr, steps: Seq<Step>) -> Result<Expr, OutOfMemory>
-        ensures { IfOk result (λ e. tree e ≡ spec.access (tree of) (spec_steps (map step_part steps))) }
+        ensures { IfOk result
+            (λ e. tree e ≡ spec.access (tree of) (spec_steps (map step_part steps))) }
     {
         Ok(Expr::Access {
             of: boxed(alloc, of)?,
@@ -55,7 +57,7 @@ impl Expr {
         })
     }
 
-    /// An expression with the links behind it.
+    /// An expression with the links after it.
     pub fn chain(alloc: Global, first: Expr, rest: Seq<Link>) -> Result<Expr, OutOfMemory>
         ensures { IfOk result (λ e. tree e ≡ spec.chain (tree first) (links (map link_part rest))) }
     {
@@ -73,7 +75,8 @@ impl Expr {
         op: BinOp,
         right: Expr,
     ) -> Result<Expr, OutOfMemory>
-        ensures { IfOk result (λ e. tree e ≡ spec.quantified (tree left) kind op (tree right)) }
+        ensures { IfOk result
+            (λ e. tree e ≡ spec.array_comparison (tree left) kind op (tree right)) }
     {
         Ok(Expr::Quant {
             left: boxed(alloc, left)?,
@@ -100,7 +103,8 @@ impl Expr {
         yes: Option<Expr>,
         no: Expr,
     ) -> Result<Expr, OutOfMemory>
-        ensures { IfOk result (λ e. tree e ≡ spec.choice (tree test) (maybe (option_map tree yes)) (tree no)) }
+        ensures { IfOk result
+            (λ e. tree e ≡ spec.ternary (tree test) (maybe (option_map tree yes)) (tree no)) }
     {
         match yes {
             Some(expr) => {
@@ -128,7 +132,8 @@ impl Query {
         distinct: bool,
         gives: Expr,
     ) -> Result<Query, OutOfMemory>
-        ensures { IfOk result (λ q. query_tree q ≡ spec.query with (spec_clauses (map clause_tree clauses)) distinct (tree gives)) }
+        ensures { IfOk result (λ q. query_tree q
+            ≡ spec.query with (spec_clauses (map clause_tree clauses)) distinct (tree gives)) }
     {
         Ok(Query {
             with,
@@ -142,7 +147,7 @@ impl Query {
 impl Step {
     /// `[* FILTER filter RETURN project]`.
     pub fn each(filter: Option<Expr>, project: Option<Expr>) -> Step
-        ensures { step_part result ≡ each (option_map tree filter) (option_map tree project) }
+        ensures { step_part result ≡ inline (option_map tree filter) (option_map tree project) }
     {
         Step::Each { filter, project }
     }
@@ -196,7 +201,8 @@ impl Into {
 impl Clause {
     /// `COLLECT groups AGGREGATE aggregates INTO into`.
     pub fn collect(groups: Lets, aggregates: Aggregates, into: Option<Into>) -> Clause
-        ensures { clause_tree result ≡ grouped (map let_part groups, map aggregate_part aggregates, option_map into_part into) }
+        ensures { clause_tree result ≡ collect_clause
+            (map let_part groups, map aggregate_part aggregates, option_map into_part into) }
     {
         Clause::Collect(Collect {
             groups,

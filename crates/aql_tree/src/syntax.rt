@@ -70,7 +70,7 @@ pub enum Expr {
     Lit(Value),
     /// A variable, or the name of a collection after IN.
     Var(Ident),
-    /// `CURRENT`: the element at hand of an inline operator.
+    /// `CURRENT`: the element at hand of an inline expression.
     Current,
     /// `[e, ..]`.
     List(Seq<Expr>),
@@ -126,7 +126,7 @@ pub enum Step {
     Name(Text),
     /// `[e]`.
     At(Expr),
-    /// `[* FILTER e RETURN e]`, an inline operator over each element.
+    /// `[* FILTER e RETURN e]`, an inline expression over each element.
     Each {
         filter: Option<Expr>,
         project: Option<Expr>,
@@ -249,8 +249,8 @@ pub struct Into {
     pub keep: Seq<Text>,
 }
 
-// A drop that is written, and not derived, is one function here: a derived one is written out in each crate
-// that lets a tree go, at each place.
+// A drop that is written, and not derived, is one function here: a derived one is written out in
+// each crate that lets a tree go, at each place.
 
 impl Drop for Ident {
     fn drop(self) {

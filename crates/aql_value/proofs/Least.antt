@@ -3,7 +3,7 @@ use Rattle.std.proofs.Common.{◌≡◌, ℕ, List, Option, Some, None, Ordering
 use Rattle.std.specs.Ordering.{nat_cmp, match_ordering, MatchOrdering, ordering_reverse}
 use Rattle.std.specs.Cmp.Lexicographic.{slice_cmp}
 use Rattle.std.proofs.lemmas.Cmp.{nat_list_cmp_total, tied_itself}
-use Rattle.aql_value.specs.Tree.{Tree, Fields, no_fields, field}
+use Rattle.aql_value.specs.Datum.{Datum, Fields, no_fields, field}
 use Rattle.aql_value.specs.Order.{FieldsBelow, BytesBelow}
 use Rattle.aql_value.specs.WellFormed.{FieldsWellFormed, IsBelowNames}
 use Rattle.aql_value.specs.laws.Ranks.{fields_rank, same_bytes, above_bytes}
@@ -28,26 +28,26 @@ none_at l no_fields h = refl
 none_at l (field m t fs) h = rw h.0 (none_at l fs h.1)
 
 -- none before the first name
-none_before : (m k : List ℕ) (t : Tree) (fs : Fields) → BytesBelow m k → IsBelowNames k fs
+none_before : (m k : List ℕ) (t : Datum) (fs : Fields) → BytesBelow m k → IsBelowNames k fs
     → field_at m (field k t fs) ≡ None
 none_before m k t fs b h = none_at m (field k t fs) (b, below_later m k fs b h)
 
-not_missing_itself : (o : Option Tree) → MissingBelow o o → ⊥
+not_missing_itself : (o : Option Datum) → MissingBelow o o → ⊥
 not_missing_itself None h = h
 not_missing_itself (Some t) h = not_itself t h
 
-not_both : (o p : Option Tree) → MissingBelow o p → MissingBelow p o → ⊥
+not_both : (o p : Option Datum) → MissingBelow o p → MissingBelow p o → ⊥
 not_both None None h k = h
 not_both None (Some u) h k = k
 not_both (Some t) None h k = h
 not_both (Some t) (Some u) h k = not_itself t (chain t u t h k)
 
-some_there : (o p : Option Tree) → MissingBelow o p → p ≡ None → ⊥
+some_there : (o p : Option Datum) → MissingBelow o p → p ≡ None → ⊥
 some_there None None h e = h
 some_there (Some t) None h e = h
 some_there o (Some u) h e = absurd cc
 
-above_at : (o : Ordering) (l n m : List ℕ) (u : Tree) (gs : Fields) → slice_cmp nat_cmp n m ≡ o
+above_at : (o : Ordering) (l n m : List ℕ) (u : Datum) (gs : Fields) → slice_cmp nat_cmp n m ≡ o
     → BytesBelow l m → (match_ordering o (field_at n gs) (Some u) (field_at n gs) ≡ None → ⊥)
     → ((field_at n gs ≡ None → ⊥) → BytesBelow l n) → BytesBelow l n
 above_at Less l n m u gs e b h r = r h

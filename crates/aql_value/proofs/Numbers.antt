@@ -5,13 +5,13 @@ use Rattle.std.specs.Prelude.{FitsSigned, ◌&&◌, ◌==◌, slice_index}
 use Rattle.std.specs.Int.{w64}
 use Rattle.std.specs.Str.Parse.{IsNumeral, without_leading_sign, signed_digits_value}
 use Rattle.std.proofs.lemmas.Str.Parse.{numerals_by_value, tells_all_ascii_digits}
-use Rattle.aql_value.specs.Tree.{array_of}
-use Rattle.aql_value.specs.View.{trees_in}
+use Rattle.aql_value.specs.Datum.{array_of}
+use Rattle.aql_value.specs.View.{datums_in}
 use Rattle.aql_value.specs.Convert.{sole_number, text_number, is_numeral, without_minus, in_range}
 use Rattle.aql_value.specs.laws.Ranges.{fits_from_in_range, in_range_from_fits}
 use Rattle.aql_value.specs.declared.values.Value.{Value}
 
-pub no_sole_number : (vs : List Value) → length vs ≢ 1 → pos 0 ≡ sole_number (array_of (trees_in vs))
+pub no_sole_number : (vs : List Value) → length vs ≢ 1 → pos 0 ≡ sole_number (array_of (datums_in vs))
 no_sole_number [] h = refl
 no_sole_number (v ∷ []) h = absurd (h refl)
 no_sole_number (v ∷ w ∷ vs) h = refl

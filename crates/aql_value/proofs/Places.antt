@@ -10,7 +10,7 @@ use Rattle.aql_value.specs.laws.Ranks.{same_bytes, above_bytes}
 use Rattle.aql_value.specs.Order.{BytesBelow}
 use Rattle.aql_value.specs.Place.{EachBelow, StartsAbove, IsPlace}
 use Rattle.aql_value.specs.Fields.{fields_in}
-use Rattle.aql_value.specs.Tree.{object_of}
+use Rattle.aql_value.specs.Datum.{object_of}
 use Rattle.aql_value.specs.WellFormed.{FieldsWellFormed, IsBelowNames}
 use Rattle.aql_value.specs.declared.values.Member.{Member}
 use Rattle.aql_value.proofs.Kept.{above, starts_at, length-fields_in}

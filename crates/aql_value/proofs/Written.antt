@@ -1,8 +1,8 @@
 -- What was written, call after call.
 use Rattle.std.proofs.Common.{◌≡◌, ◌≤◌, ℕ, Bool, List, [], ◌∷◌, ◌++◌, length, drop, Result, Ok, Err, sym, ap, ◌∙◌, append_assoc}
 use Rattle.std.proofs.lemmas.List.{drop_all}
-use Rattle.aql_value.specs.Tree.{array_of, object_of}
-use Rattle.aql_value.specs.View.{trees_in}
+use Rattle.aql_value.specs.Datum.{array_of, object_of}
+use Rattle.aql_value.specs.View.{datums_in}
 use Rattle.aql_value.specs.Fields.{fields_in}
 use Rattle.aql_value.specs.Json.{items_text, fields_text}
 use Rattle.aql_value.specs.declared.values.Value.{Value}
@@ -19,9 +19,9 @@ finish (Ok x) old mid new bytes text w e h = (w.0 ∙ e, tt)
 finish (Err y) old mid new bytes text w e h = (tt, longer old mid new h w.1)
 
 pub items_end : (vs : List Value) (i : ℕ) (out all : List ℕ) (later : Bool) → length vs ≤ i
-    → out ++ items_text later (array_of (trees_in (drop i vs))) ≡ all → out ++ 93 ∷ [] ≡ all
+    → out ++ items_text later (array_of (datums_in (drop i vs))) ≡ all → out ++ 93 ∷ [] ≡ all
 items_end vs i out all later h e =
-    ap (λ ws. out ++ items_text later (array_of (trees_in ws))) (sym (drop_all i vs h)) ∙ e
+    ap (λ ws. out ++ items_text later (array_of (datums_in ws))) (sym (drop_all i vs h)) ∙ e
 
 pub members_end : (ms : List Member) (i : ℕ) (out all : List ℕ) (later : Bool) → length ms ≤ i
     → out ++ fields_text later (object_of (fields_in (drop i ms))) ≡ all → out ++ 125 ∷ [] ≡ all

@@ -5,24 +5,24 @@ use Rattle.std.specs.Prelude.{ℕ, List, Option, Some, None, Result, Ok, Err, na
 use Rattle.std.specs.Str.{is_utf8}
 use Rattle.serde_json.specs.Data.{Data, depth}
 use Rattle.serde_json.specs.Read.{read}
-use Rattle.aql_value.specs.Tree.{Tree}
-use Rattle.aql_value.specs.Whole.{whole}
+use Rattle.aql_value.specs.Datum.{Datum}
+use Rattle.aql_value.specs.FromJson.{from_json}
 use Rattle.aql_value.specs.declared.reading.JsonFault.{JsonFault}
 use Rattle.aql_value.specs.declared.reading.JsonFault.TheVariants.{NotJson, TooDeep, NotWhole, Memory}
 
-abbrev pub deepest : ℕ
-deepest = 64
+abbrev pub greatest_depth : ℕ
+greatest_depth = 64
 
-abbrev pub of_whole : Option Tree → Result Tree JsonFault
-of_whole None = Err NotWhole
-of_whole (Some t) = Ok t
+abbrev pub or_not_whole : Option Datum → Result Datum JsonFault
+or_not_whole None = Err NotWhole
+or_not_whole (Some t) = Ok t
 
-abbrev pub of_data : Option Data → Result Tree JsonFault
+abbrev pub of_data : Option Data → Result Datum JsonFault
 of_data None = Err NotJson
-of_data (Some d) = if nat_le (depth d) deepest then of_whole (whole d) else Err TooDeep
+of_data (Some d) = if nat_le (depth d) greatest_depth then or_not_whole (from_json d) else Err TooDeep
 
 -- only a line in UTF-8 is read
-unfoldable pub json_line : List ℕ → Result Tree JsonFault
+unfoldable pub json_line : List ℕ → Result Datum JsonFault
 json_line line = if is_utf8 line then of_data (read line) else Err NotJson
 
 -- what a private call says of its fault: there is no value since a number is not whole, or memory ran out

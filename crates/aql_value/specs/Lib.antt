@@ -1,4 +1,4 @@
-pub mod Tree
+pub mod Datum
 pub mod View
 pub mod Sizes
 pub mod Fields
@@ -11,9 +11,9 @@ pub mod Attributes
 pub mod Place
 pub mod Json
 pub mod Writes
-pub mod Whole
+pub mod FromJson
 pub mod JsonLine
-pub mod Hashed
+pub mod HashInput
 pub mod RoundTrip
 pub mod Parts
 pub mod Convert

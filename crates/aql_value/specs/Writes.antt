@@ -2,7 +2,7 @@
 use Rattle.std.specs.Prelude.{◌≡◌, List, ℕ, ◌++◌, ◌∷◌, Result, OnOk, OnErr}
 use Rattle.json.specs.Print.{quoted}
 use Rattle.aql_value.specs.Json.{comma_if, json_text}
-use Rattle.aql_value.specs.View.{tree_of}
+use Rattle.aql_value.specs.View.{datum_of}
 use Rattle.aql_value.specs.declared.values.Member.{Member}
 use Rattle.std.specs.Prelude.{Bool}
 
@@ -14,4 +14,4 @@ abbrev pub Writes : {T E : Type 0} → Result T E → List ℕ → List ℕ → 
 Writes r old new text = OnOk r (new ≡ old ++ text) × OnErr r (Extends old new)
 
 abbrev pub member_text : Bool → Member → List ℕ
-member_text later m = comma_if later ++ (quoted m.name ++ 58 ∷ json_text (tree_of m.value))
+member_text later m = comma_if later ++ (quoted m.name ++ 58 ∷ json_text (datum_of m.value))

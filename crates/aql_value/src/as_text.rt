@@ -1,5 +1,5 @@
 ghost use Rattle.std.specs.Prelude.{◌≡◌, IfOk};
-ghost use Rattle.aql_value.specs.View.{tree_of};
+ghost use Rattle.aql_value.specs.View.{datum_of};
 ghost use Rattle.aql_value.specs.Convert as convert;
 ghost use Rattle.aql_value.specs.Json.{json_text};
 
@@ -9,7 +9,7 @@ use std::alloc::Global;
 /// The text that a value stands for (AQL fundamentals, Type casts): null gives "", a text itself, a
 /// bool `true` or `false`, a number its decimal digits, an array or object its canonical JSON.
 pub fn to_text(alloc: Global, value: &Value) -> Result<Text, OutOfMemory>
-    ensures { IfOk result (λ t. t ≡ convert.to_text (tree_of value.now)) }
+    ensures { IfOk result (λ t. t ≡ convert.to_text (datum_of value.now)) }
 {
     match value {
         Value::Null => Text::new(alloc, ""),
@@ -19,7 +19,7 @@ pub fn to_text(alloc: Global, value: &Value) -> Result<Text, OutOfMemory>
 }
 
 fn json_of(alloc: Global, value: &Value) -> Result<Text, OutOfMemory>
-    ensures { IfOk result (λ t. t ≡ json_text (tree_of value.now)) }
+    ensures { IfOk result (λ t. t ≡ json_text (datum_of value.now)) }
 {
     let mut bytes = Vec::new(alloc);
     write_json(value, &mut bytes)?;

@@ -1,8 +1,8 @@
 ghost use Rattle.std.specs.Prelude.{◌≡◌, [], OnOk, OnErr};
 ghost use Rattle.std.specs.Ordering.{nat_cmp};
 ghost use Rattle.std.specs.Cmp.Lexicographic.{slice_cmp};
-ghost use Rattle.aql_value.specs.Tree.{object_of};
-ghost use Rattle.aql_value.specs.View.{tree_of};
+ghost use Rattle.aql_value.specs.Datum.{object_of};
+ghost use Rattle.aql_value.specs.View.{datum_of};
 ghost use Rattle.aql_value.specs.Attributes.{with_attribute, attribute};
 ghost use Rattle.aql_value.specs.Fields.{fields_in};
 ghost use Rattle.aql_value.specs.Place.{IsPlace};
@@ -45,7 +45,7 @@ impl Members {
     /// The value at a place in the order of the names, counted from 0; `None` exactly where there
     /// is no such place.
     pub fn value_at(&self, at: usize) -> Option<&Value>
-        ensures { option_map (λ v. tree_of v.now) result
+        ensures { option_map (λ v. datum_of v.now) result
             ≡ option_map (λ f. f.1) (slice_get self.now at) }
     {
         let entry = self.entries.get(at)?;
@@ -61,7 +61,7 @@ impl Members {
 
     /// The value of a name; `None` exactly where there is no attribute of this name.
     pub fn value(&self, name: &str) -> Option<&Value>
-        ensures { option_map (λ v. tree_of v.now) result ≡ attribute name.now self.now }
+        ensures { option_map (λ v. datum_of v.now) result ≡ attribute name.now self.now }
     {
         match place_of(&self.entries, name) {
             Ok(at) => Some(&self.entries[at].value),
@@ -72,7 +72,7 @@ impl Members {
     /// Sets an attribute, in place of the one of this name if there is one. Where memory runs out
     /// all stays as it was.
     pub fn set(&mut self, name: Text, value: Value) -> Result<(), OutOfMemory>
-        ensures ok { OnOk result (self.new ≡ with_attribute name (tree_of value) self.old) }
+        ensures ok { OnOk result (self.new ≡ with_attribute name (datum_of value) self.old) }
         ensures err { OnErr result (self.new ≡ self.old) }
     {
         recall_well_formed(&value);
@@ -97,7 +97,7 @@ fn set_in(entries: &mut Vec<Member>, name: Text, value: Value) -> Result<(), Out
     requires { FieldsWellFormed (object_of (fields_in entries.old.items)) }
     ensures ok { OnOk result
         (fields_in entries.new.items
-        ≡ with_attribute name (tree_of value) (fields_in entries.old.items)) }
+        ≡ with_attribute name (datum_of value) (fields_in entries.old.items)) }
     ensures err { OnErr result (entries.new.items ≡ entries.old.items) }
 {
     match place_of(entries, name.as_str()) {

@@ -1,5 +1,5 @@
 ghost use Rattle.std.specs.Prelude.{◌≡◌};
-ghost use Rattle.aql_value.specs.View.{tree_of};
+ghost use Rattle.aql_value.specs.View.{datum_of};
 ghost use Rattle.aql_value.specs.Convert.{text_number};
 ghost use Rattle.aql_value.specs.Convert as convert;
 ghost use Rattle.aql_value.specs.Truth.{truth};
@@ -9,7 +9,7 @@ use crate::Value;
 /// Whether a condition holds where it has this value (AQL fundamentals, Type casts): null, false, 0
 /// and "" are false-like, and every other value is true-like, also `[]` and `{}`.
 pub fn truthy(value: &Value) -> bool
-    ensures { result ≡ truth (tree_of value.now) }
+    ensures { result ≡ truth (datum_of value.now) }
 {
     match value {
         Value::Null => false,
@@ -25,7 +25,7 @@ pub fn truthy(value: &Value) -> bool
 /// where it writes none of 64 bits; an array of one element gives that element's number; longer
 /// arrays, `[]` and objects give 0.
 pub fn to_number(value: &Value) -> i64
-    ensures { result ≡ convert.to_number (tree_of value.now) }
+    ensures { result ≡ convert.to_number (datum_of value.now) }
 {
     match value {
         Value::Null | Value::Object(_) => 0,

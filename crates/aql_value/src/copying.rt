@@ -1,5 +1,5 @@
 ghost use Rattle.std.specs.Prelude.{◌≡◌, IfOk};
-ghost use Rattle.aql_value.specs.View.{tree_of};
+ghost use Rattle.aql_value.specs.View.{datum_of};
 
 use crate::values::Member;
 use crate::{Items, Members, OutOfMemory, Value};
@@ -8,7 +8,7 @@ use std::alloc::Global;
 /// A value that is identical to `value`.
 #[cycle(copying)]
 pub fn copy(alloc: Global, value: &Value) -> Result<Value, OutOfMemory>
-    ensures { IfOk result (λ w. tree_of w ≡ tree_of value.now) }
+    ensures { IfOk result (λ w. datum_of w ≡ datum_of value.now) }
 {
     match value {
         Value::Null => Ok(Value::Null),

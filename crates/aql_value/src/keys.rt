@@ -1,8 +1,8 @@
 // Values as keys of maps.
 ghost use Rattle.std.specs.Prelude.{◌≡◌, fold};
-ghost use Rattle.aql_value.specs.View.{tree_of};
-ghost use Rattle.aql_value.specs.Tree.{array_of, object_of};
-ghost use Rattle.aql_value.specs.Hashed.{fed_tree, fed_items, fed_fields};
+ghost use Rattle.aql_value.specs.View.{datum_of};
+ghost use Rattle.aql_value.specs.Datum.{array_of, object_of};
+ghost use Rattle.aql_value.specs.HashInput.{datum_input, items_input, fields_input};
 
 use crate::order::order;
 use crate::{Items, Members, Value};
@@ -13,13 +13,13 @@ impl PartialEq for Value {
     ghost use Rattle.std.specs.Ordering.{on, eq_by_cmp};
     ghost use Rattle.std.specs.Cmp.{partial_equiv_from_equiv, eq_by_cmp_equiv};
     ghost use Rattle.std.proofs.lemmas.Cmp.{on_equiv};
-    ghost use Rattle.aql_value.specs.View.{tree_of};
+    ghost use Rattle.aql_value.specs.View.{datum_of};
     ghost use Rattle.aql_value.specs.Compare.{compare};
     ghost use Rattle.aql_value.specs.laws.Strict.{compare_total};
 
-    ghost eq = { on tree_of (eq_by_cmp compare) };
+    ghost eq = { on datum_of (eq_by_cmp compare) };
 
-    ghost laws = { partial_equiv_from_equiv (on_equiv tree_of (eq_by_cmp_equiv compare_total)) };
+    ghost laws = { partial_equiv_from_equiv (on_equiv datum_of (eq_by_cmp_equiv compare_total)) };
 
     fn eq(&self, other: &Value) -> bool {
         order(self, other).is_eq()
@@ -29,20 +29,20 @@ impl PartialEq for Value {
 impl Eq for Value {
     ghost use Rattle.std.specs.Cmp.{eq_by_cmp_equiv};
     ghost use Rattle.std.proofs.lemmas.Cmp.{on_equiv};
-    ghost use Rattle.aql_value.specs.View.{tree_of};
+    ghost use Rattle.aql_value.specs.View.{datum_of};
     ghost use Rattle.aql_value.specs.laws.Strict.{compare_total};
 
-    ghost laws = { on_equiv tree_of (eq_by_cmp_equiv compare_total) };
+    ghost laws = { on_equiv datum_of (eq_by_cmp_equiv compare_total) };
 }
 
 impl Hash for Value {
-    ghost use Rattle.aql_value.specs.View.{tree_of};
-    ghost use Rattle.aql_value.specs.Hashed.{fed_tree};
-    ghost use Rattle.aql_value.specs.laws.Keyed.{fed_alike};
+    ghost use Rattle.aql_value.specs.View.{datum_of};
+    ghost use Rattle.aql_value.specs.HashInput.{datum_input};
+    ghost use Rattle.aql_value.specs.laws.Keyed.{same_input};
 
-    ghost hash_input = { λ v. fed_tree (tree_of v) };
+    ghost hash_input = { λ v. datum_input (datum_of v) };
 
-    ghost respects_eq = { λ x y e. fed_alike (tree_of x) (tree_of y) e };
+    ghost respects_eq = { λ x y e. same_input (datum_of x) (datum_of y) e };
 
     fn hash<H: Hasher>(&self, state: &mut H) {
         feed(self, state)
@@ -51,7 +51,7 @@ impl Hash for Value {
 
 #[cycle(feeding)]
 fn feed<H: Hasher>(v: &Value, state: &mut H)
-    ensures { state.new ≡ fold H.write state.old (fed_tree (tree_of v.now)) }
+    ensures { state.new ≡ fold H.write state.old (datum_input (datum_of v.now)) }
 {
     match v {
         Value::Null => state.write_u8(0),
@@ -80,7 +80,7 @@ fn feed<H: Hasher>(v: &Value, state: &mut H)
 
 #[cycle(feeding)]
 fn feed_items<H: Hasher>(list: &Items, state: &mut H)
-    ensures { state.new ≡ fold H.write state.old (fed_items (array_of list.now)) }
+    ensures { state.new ≡ fold H.write state.old (items_input (array_of list.now)) }
 {
     for item in &list.items {
         feed(item, state);
@@ -90,7 +90,7 @@ fn feed_items<H: Hasher>(list: &Items, state: &mut H)
 
 #[cycle(feeding)]
 fn feed_members<H: Hasher>(members: &Members, state: &mut H)
-    ensures { state.new ≡ fold H.write state.old (fed_fields (object_of members.now)) }
+    ensures { state.new ≡ fold H.write state.old (fields_input (object_of members.now)) }
 {
     for member in &members.entries {
         member.name.as_str().hash(state);
@@ -104,13 +104,13 @@ impl PartialOrd for Value {
     ghost use Rattle.std.specs.Cmp.{po};
     ghost use Rattle.std.proofs.lemmas.Cmp.{on_total};
     ghost use Rattle.std.specs.Prelude.{refl};
-    ghost use Rattle.aql_value.specs.View.{tree_of};
+    ghost use Rattle.aql_value.specs.View.{datum_of};
     ghost use Rattle.aql_value.specs.Compare.{compare};
     ghost use Rattle.aql_value.specs.laws.Strict.{compare_total};
 
-    ghost partial_cmp = { as_partial_cmp (on tree_of compare) };
+    ghost partial_cmp = { as_partial_cmp (on datum_of compare) };
 
-    ghost laws = { po (on_total tree_of compare_total) (λ x y. refl) };
+    ghost laws = { po (on_total datum_of compare_total) (λ x y. refl) };
 
     fn partial_cmp(&self, other: &Value) -> Option<Ordering> {
         Some(order(self, other))
@@ -121,13 +121,13 @@ impl Ord for Value {
     ghost use Rattle.std.specs.Ordering.{on};
     ghost use Rattle.std.proofs.lemmas.Cmp.{on_total};
     ghost use Rattle.std.specs.Prelude.{refl};
-    ghost use Rattle.aql_value.specs.View.{tree_of};
+    ghost use Rattle.aql_value.specs.View.{datum_of};
     ghost use Rattle.aql_value.specs.Compare.{compare};
     ghost use Rattle.aql_value.specs.laws.Strict.{compare_total};
 
-    ghost cmp = { on tree_of compare };
+    ghost cmp = { on datum_of compare };
 
-    ghost total = { on_total tree_of compare_total };
+    ghost total = { on_total datum_of compare_total };
 
     ghost matches_partial_cmp = { λ x y. refl };
 

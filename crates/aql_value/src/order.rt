@@ -1,6 +1,6 @@
 ghost use Rattle.std.specs.Prelude.{◌≡◌};
-ghost use Rattle.aql_value.specs.Tree.{array_of, object_of};
-ghost use Rattle.aql_value.specs.View.{tree_of};
+ghost use Rattle.aql_value.specs.Datum.{array_of, object_of};
+ghost use Rattle.aql_value.specs.View.{datum_of};
 ghost use Rattle.aql_value.specs.Fields.{compare_entry};
 ghost use Rattle.aql_value.specs.Order.{Compares, kind};
 ghost use Rattle.aql_value.specs.Compare.{compare, compare_items, compare_fields};
@@ -14,8 +14,8 @@ use std::cmp::Ordering;
 /// null < bools < numbers < texts < arrays < objects, and within a kind by that kind's own rule.
 /// `Equal` means identical.
 pub fn cmp(a: &Value, b: &Value) -> Ordering
-    ensures order { Compares result (tree_of a.now) (tree_of b.now) }
-    ensures value { result ≡ compare (tree_of a.now) (tree_of b.now) }
+    ensures order { Compares result (datum_of a.now) (datum_of b.now) }
+    ensures value { result ≡ compare (datum_of a.now) (datum_of b.now) }
 {
     order(a, b)
 }
@@ -33,7 +33,7 @@ pub fn order_is_total()
 
 #[cycle(ordering)]
 pub(crate) fn order(a: &Value, b: &Value) -> Ordering
-    ensures { result ≡ compare (tree_of a.now) (tree_of b.now) }
+    ensures { result ≡ compare (datum_of a.now) (datum_of b.now) }
 {
     match (a, b) {
         (Value::Bool(x), Value::Bool(y)) => x.cmp(y),
@@ -46,7 +46,7 @@ pub(crate) fn order(a: &Value, b: &Value) -> Ordering
 }
 
 fn kind_of(value: &Value) -> u8
-    ensures { result ≡ kind (tree_of value.now) }
+    ensures { result ≡ kind (datum_of value.now) }
 {
     match value {
         Value::Null => 0,

@@ -1,9 +1,9 @@
 ghost use Rattle.std.specs.Prelude.{◌≡◌, ◌≤◌, ◌↔◌, ◌⊎◌, Some, None, Ok, Err, MatchResult, IfOk, IfErr, IsTrue};
 ghost use Rattle.serde_json.specs.Data.{depth, items_depth, members_depth};
 ghost use Rattle.serde_json.specs.View.{view, items_view, members_view};
-ghost use Rattle.aql_value.specs.Tree.{array_of, object_of};
-ghost use Rattle.aql_value.specs.View.{tree_of};
-ghost use Rattle.aql_value.specs.Whole.{whole, whole_items, whole_members};
+ghost use Rattle.aql_value.specs.Datum.{array_of, object_of};
+ghost use Rattle.aql_value.specs.View.{datum_of};
+ghost use Rattle.aql_value.specs.FromJson.{from_json, items_from_json, members_from_json};
 ghost use Rattle.aql_value.specs.RoundTrip.{TextIsCompact, TextReadsBack};
 ghost use Rattle.aql_value.specs.JsonLine.{json_line, Refuses};
 ghost use Rattle.aql_value.specs.declared.reading.JsonFault.TheVariants.{Memory};
@@ -39,7 +39,7 @@ pub enum JsonFault {
 /// The value that a line of JSON writes. Blanks around it are skipped, and of a name that an object
 /// repeats the last value counts.
 pub fn from_json_line(alloc: Global, line: &[u8]) -> Result<Value, JsonFault>
-    ensures value { IfOk result (λ v. json_line line.now ≡ Ok (tree_of v)) }
+    ensures value { IfOk result (λ v. json_line line.now ≡ Ok (datum_of v)) }
     ensures fault { IfErr result (λ e. (e ≡ Memory) ⊎ (json_line line.now ≡ Err e)) }
 {
     match serde_json::Value::from_slice(alloc, line) {
@@ -134,8 +134,8 @@ impl From<AllocError> for JsonFault {
 #[cycle(values)]
 fn value_of(alloc: Global, json: serde_json::Value) -> Result<Value, JsonFault>
     ensures { MatchResult result
-        (λ v. whole (view json) ≡ Some (tree_of v))
-        (λ e. Refuses e (whole (view json) ≡ None)) }
+        (λ v. from_json (view json) ≡ Some (datum_of v))
+        (λ e. Refuses e (from_json (view json) ≡ None)) }
 {
     match json {
         serde_json::Value::Null => Ok(Value::Null),
@@ -153,8 +153,8 @@ fn value_of(alloc: Global, json: serde_json::Value) -> Result<Value, JsonFault>
 #[cycle(values)]
 fn items_of(alloc: Global, items: Vec<serde_json::Value>) -> Result<Items, JsonFault>
     ensures { MatchResult result
-        (λ v. whole_items (items_view items.items) ≡ Some (array_of v))
-        (λ e. Refuses e (whole_items (items_view items.items) ≡ None)) }
+        (λ v. items_from_json (items_view items.items) ≡ Some (array_of v))
+        (λ e. Refuses e (items_from_json (items_view items.items) ≡ None)) }
 {
     let mut out = Items::new(alloc);
     for item in items {
@@ -166,8 +166,8 @@ fn items_of(alloc: Global, items: Vec<serde_json::Value>) -> Result<Items, JsonF
 #[cycle(values)]
 fn members_of(alloc: Global, members: Map<String, serde_json::Value>) -> Result<Members, JsonFault>
     ensures { MatchResult result
-        (λ v. whole_members (members_view members.entries) ≡ Some (object_of v))
-        (λ e. Refuses e (whole_members (members_view members.entries) ≡ None)) }
+        (λ v. members_from_json (members_view members.entries) ≡ Some (object_of v))
+        (λ e. Refuses e (members_from_json (members_view members.entries) ≡ None)) }
 {
     let mut entries = Vec::with_capacity(alloc, members.len())?;
     for (key, member) in members {

@@ -1,5 +1,5 @@
 ghost use Rattle.std.specs.Prelude.{◌≡◌, []};
-ghost use Rattle.aql_value.specs.View.{tree_of, trees_in};
+ghost use Rattle.aql_value.specs.View.{datum_of, datums_in};
 ghost use Rattle.aql_value.specs.WellFormed.{WellFormed};
 
 use crate::texts::recall_utf8;
@@ -8,7 +8,7 @@ use std::alloc::Global;
 use std::marker::Model;
 
 /// A value of AQL (AQL fundamentals, Data types): null, a bool, a whole number of 64 bits with its
-/// sign, a text, an array or an object. Contracts see it as a tree, by `tree_of`.
+/// sign, a text, an array or an object. Contracts see it as a datum, by `datum_of`.
 #[cycle(value)]
 pub enum Value {
     Null,
@@ -19,7 +19,7 @@ pub enum Value {
     Object(Members),
 }
 
-/// The elements of an array, in order. Contracts see the list of their trees.
+/// The elements of an array, in order. Contracts see the list of their datums.
 #[cycle(value)]
 pub struct Items {
     pub(crate) items: Vec<Value>,
@@ -27,23 +27,23 @@ pub struct Items {
 
 impl Model for Items {
     ghost use Rattle.std.specs.Prelude.{List};
-    ghost use Rattle.aql_value.specs.Tree.{Tree, coded_trees};
+    ghost use Rattle.aql_value.specs.Datum.{Datum, coded_datums};
 
-    ghost Value = { List Tree };
+    ghost Value = { List Datum };
 
-    ghost coded = { coded_trees };
+    ghost coded = { coded_datums };
 
-    ghost use Rattle.aql_value.specs.View.{trees_in};
+    ghost use Rattle.aql_value.specs.View.{datums_in};
 
-    ghost view = { λ a. trees_in a.items.items };
+    ghost view = { λ a. datums_in a.items.items };
 
-    ghost use Rattle.aql_value.specs.Sizes.{trees_size};
-    ghost use Rattle.aql_value.specs.Tree.{array_of};
+    ghost use Rattle.aql_value.specs.Sizes.{datums_size};
+    ghost use Rattle.aql_value.specs.Datum.{array_of};
     ghost use Rattle.aql_value.specs.WellFormed.{ItemsWellFormed};
 
-    ghost invariant = { λ a. ItemsWellFormed (array_of (trees_in a.items.items)) };
+    ghost invariant = { λ a. ItemsWellFormed (array_of (datums_in a.items.items)) };
 
-    ghost size = { trees_size };
+    ghost size = { datums_size };
 
     ghost use Rattle.aql_value.specs.laws.Falls.{items_fall};
 
@@ -58,7 +58,7 @@ pub struct Member {
 }
 
 /// The attributes of an object, in ascending order of the bytes of their names, each name once.
-/// Contracts see the list of the names with the trees of their values.
+/// Contracts see the list of the names with the datums of their values.
 #[cycle(value)]
 pub struct Members {
     pub(crate) entries: Vec<Member>,
@@ -66,9 +66,9 @@ pub struct Members {
 
 impl Model for Members {
     ghost use Rattle.std.specs.Prelude.{List, ℕ};
-    ghost use Rattle.aql_value.specs.Tree.{Tree, coded_fields};
+    ghost use Rattle.aql_value.specs.Datum.{Datum, coded_fields};
 
-    ghost Value = { List (List ℕ × Tree) };
+    ghost Value = { List (List ℕ × Datum) };
 
     ghost coded = { coded_fields };
 
@@ -77,7 +77,7 @@ impl Model for Members {
     ghost view = { λ a. fields_in a.entries.items };
 
     ghost use Rattle.aql_value.specs.Sizes.{fields_size};
-    ghost use Rattle.aql_value.specs.Tree.{object_of};
+    ghost use Rattle.aql_value.specs.Datum.{object_of};
     ghost use Rattle.aql_value.specs.WellFormed.{FieldsWellFormed};
 
     ghost invariant = { λ a. FieldsWellFormed (object_of (fields_in a.entries.items)) };
@@ -95,7 +95,7 @@ impl Value {
     /// The elements of an array; `None` exactly where the value is no array.
     #[tactic(auto, using(crate::proofs::Listed::items_listed))]
     pub fn into_items(self) -> Option<Items>
-        ensures { result ≡ items_of (tree_of self) }
+        ensures { result ≡ items_of (datum_of self) }
     {
         match self {
             Value::List(items) => Some(items),
@@ -107,7 +107,7 @@ impl Value {
     /// The attributes of an object; `None` exactly where the value is no object.
     #[tactic(auto, using(crate::proofs::Listed::members_listed))]
     pub fn into_members(self) -> Option<Members>
-        ensures { result ≡ members_of (tree_of self) }
+        ensures { result ≡ members_of (datum_of self) }
     {
         match self {
             Value::Object(members) => Some(members),
@@ -137,21 +137,21 @@ impl Items {
 
     /// The element at a place, counted from 0; `None` exactly where the array has no such place.
     pub fn get(&self, at: usize) -> Option<&Value>
-        ensures { option_map (λ v. tree_of v.now) result ≡ slice_get self.now at }
+        ensures { option_map (λ v. datum_of v.now) result ≡ slice_get self.now at }
     {
         self.items.get(at)
     }
 
     /// The elements, borrowed.
     pub fn as_slice(&self) -> &[Value]
-        ensures { trees_in result.now ≡ self.now }
+        ensures { datums_in result.now ≡ self.now }
     {
         self.items.as_slice()
     }
 
     /// Appends an element; where memory runs out the array stays as it was.
     pub fn push(&mut self, item: Value) -> Result<(), OutOfMemory>
-        ensures ok { OnOk result (self.new ≡ self.old ++ tree_of item ∷ []) }
+        ensures ok { OnOk result (self.new ≡ self.old ++ datum_of item ∷ []) }
         ensures err { OnErr result (self.new ≡ self.old) }
     {
         recall_well_formed(&item);
@@ -163,7 +163,7 @@ impl Items {
 /// Recalls, for a proof, what holds of every value at every depth: its numbers have 64 bits, its
 /// texts and names are in UTF-8, and the names of each object ascend.
 pub fn recall_well_formed(value: &Value)
-    ensures { WellFormed (tree_of value.now) }
+    ensures { WellFormed (datum_of value.now) }
 {
     match value {
         Value::Num(number) => {

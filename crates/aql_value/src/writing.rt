@@ -2,8 +2,8 @@ ghost use Rattle.std.specs.Prelude.{◌≡◌, ◌++◌, ◌<◌, OnOk, OnErr};
 ghost use Rattle.std.specs.Char.{digit_char};
 ghost use Rattle.std.specs.Fmt.{signed_decimal};
 ghost use Rattle.json.specs.Print.{quoted, escape_byte};
-ghost use Rattle.aql_value.specs.Tree.{array, object, array_of, object_of};
-ghost use Rattle.aql_value.specs.View.{tree_of};
+ghost use Rattle.aql_value.specs.Datum.{array, object, array_of, object_of};
+ghost use Rattle.aql_value.specs.View.{datum_of};
 ghost use Rattle.aql_value.specs.Json.{json_text, comma_if};
 ghost use Rattle.aql_value.specs.Writes.{Writes, member_text};
 
@@ -13,7 +13,7 @@ use crate::{Items, Members, OutOfMemory, Text, Value};
 /// Appends the canonical JSON of a value: no blanks, attributes in the order of their names,
 /// numbers in decimal. Where memory runs out, `out` is left as it was.
 pub fn write_json(value: &Value, out: &mut Vec<u8>) -> Result<(), OutOfMemory>
-    ensures ok { OnOk result (out.new.items ≡ out.old.items ++ json_text (tree_of value.now)) }
+    ensures ok { OnOk result (out.new.items ≡ out.old.items ++ json_text (datum_of value.now)) }
     ensures err { OnErr result (out.new.items ≡ out.old.items) }
 {
     let before = out.len();
@@ -28,7 +28,7 @@ pub fn write_json(value: &Value, out: &mut Vec<u8>) -> Result<(), OutOfMemory>
 
 #[cycle(writing)]
 fn write_value(v: &Value, out: &mut Vec<u8>) -> Result<(), OutOfMemory>
-    ensures { Writes result out.old.items out.new.items (json_text (tree_of v.now)) }
+    ensures { Writes result out.old.items out.new.items (json_text (datum_of v.now)) }
 {
     match v {
         Value::Null => put(b"null", out),
@@ -55,7 +55,7 @@ fn write_items(list: &Items, out: &mut Vec<u8>) -> Result<(), OutOfMemory>
 #[cycle(writing)]
 fn write_item(later: bool, item: &Value, out: &mut Vec<u8>) -> Result<(), OutOfMemory>
     ensures { Writes result out.old.items out.new.items
-        (comma_if later ++ json_text (tree_of item.now)) }
+        (comma_if later ++ json_text (datum_of item.now)) }
 {
     if later {
         put(b",", out)?;

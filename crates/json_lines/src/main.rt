@@ -1,5 +1,5 @@
-//! A yardstick for bench/filter and no part of aql_shell: reads lines of JSON by `serde_json` alone, and prints
-//! how many these were.
+//! A yardstick for bench/filter and no part of aql_shell: reads lines of JSON by `serde_json`
+//! alone, and prints how many these were.
 #![tactic(auto)]
 
 use anyhow::{Context, Result};

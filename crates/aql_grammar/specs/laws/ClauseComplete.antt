@@ -9,20 +9,20 @@ use Rattle.aql_lex.specs.declared.vocabulary.Symbol.{Symbol}
 use Rattle.aql_lex.specs.declared.vocabulary.Symbol.TheVariants as s
 use Rattle.aql_lex.specs.declared.vocabulary.Keyword.{Keyword}
 use Rattle.aql_lex.specs.declared.vocabulary.Keyword.TheVariants as w
-use Rattle.aql_tree.specs.Tree.{ExprTree, ClauseTree, QueryTree, keep_if}
+use Rattle.aql_tree.specs.Tree.{ExprTree, ClauseTree, QueryTree, filter_by}
 use Rattle.aql_tree.specs.Tree as tree
 use Rattle.aql_tree.specs.declared.syntax.Direction.{Direction}
-use Rattle.aql_tree.specs.View.{MemberPart, LetPart, AggregatePart, IntoPart, grouped}
-use Rattle.aql_tree.specs.View.{walked}
-use Rattle.aql_tree.specs.Made as e
+use Rattle.aql_tree.specs.View.{MemberPart, LetPart, AggregatePart, IntoPart, collect_clause}
+use Rattle.aql_tree.specs.View.{traversal_clause}
+use Rattle.aql_tree.specs.Build as e
 use Rattle.aql_grammar.specs.Kinds.{Tokens}
 use Rattle.aql_grammar.specs.Spelling.{IsName, IsOptional, AreSeparated, AreAny, AreItems}
 use Rattle.aql_grammar.specs.Objects.{IsVariable, IsKey, IsMember, IsObject}
-use Rattle.aql_grammar.specs.Clauses.{AreTraversalNames, IsDepth, IsDirection, says, IsAssigned, IsLet}
+use Rattle.aql_grammar.specs.Clauses.{AreTraversalNames, IsDepth, IsDirection, says, IsAssignment, IsLet}
 use Rattle.aql_grammar.specs.Clauses.{IsSortKey, IsAggregate, IsInto, AreAggregates, IsTail, IsPrune}
 use Rattle.aql_grammar.specs.Clauses.{AreOptions, IsClause, AreClauses, IsDistinct, IsQuery}
 use Rattle.aql_grammar.specs.Input.{Parser, head, next, sees, sees_keyword, after_keyword, sees_word}
-use Rattle.aql_grammar.specs.Input.{is_name, is_number, same_symbol, same_keyword, name, natural, separated}
+use Rattle.aql_grammar.specs.Input.{is_name, is_number, same_symbol, same_keyword, name, natural, comma_list}
 use Rattle.aql_grammar.specs.Reader.{word, named_member, text_member, computed_member, member, members}
 use Rattle.aql_grammar.specs.Reader.{traversal_names, traversal_depth, limit, count_name, assignment}
 use Rattle.aql_grammar.specs.Reader.{let_clause}
@@ -57,16 +57,17 @@ unfolding sees
 keyword_no_symbol keyword symbol ts = refl
 
 names_complete : (vs : List (List ℕ)) (a b : Tokens) → AreSeparated IsName vs a b → sees s.Comma b ≡ false
-    → separated name a ≡ Some (vs, b)
+    → comma_list name a ≡ Some (vs, b)
 names_complete vs a b h other =
     separated_complete name IsName Always (length a) (λ v c d short spelt f. name_complete v c d spelt)
     name_shrinks (λ ts. tt) vs a b h (omega arith) tt other
 
 pub names_read : (vs : List (List ℕ)) (a b : Tokens) → AreSeparated IsName vs a b → sees s.Comma b ≡ false
-    → separated name a ≡ Some (vs, b)
+    → comma_list name a ≡ Some (vs, b)
 names_read vs a b h other = names_complete vs a b h other
 
-traversal_names_complete : (n : e.WalkNames) (a b : Tokens) → AreTraversalNames n a b → sees s.Comma b ≡ false
+traversal_names_complete : (n : e.TraversalNames) (a b : Tokens) → AreTraversalNames n a b
+    → sees s.Comma b ≡ false
     → traversal_names a ≡ Some (n, b)
 unfolding traversal_names
 traversal_names_complete n a b (AreTraversalNames.vertex {v = v} h) other = bind_here _ _ (v, b) _
@@ -149,9 +150,9 @@ module _ (R : Bool → Parser ExprTree) (E : Bool → ExprTree → Tokens → To
 
   -- ---- clauses
 
-  assignment_complete : Complete (assignment R inside) (IsAssigned E inside) Ends bound
+  assignment_complete : Complete (assignment R inside) (IsAssignment E inside) Ends bound
   unfolding assignment
-  assignment_complete l a b short (IsAssigned.assigned {v = v} {x = x} {b = c} h g) ends =
+  assignment_complete l a b short (IsAssignment.assignment {v = v} {x = x} {b = c} h g) ends =
       let i = name_shrinks v a (k.Symbol s.Assign ∷ c) h in
       bind_here _ _ (v, k.Symbol s.Assign ∷ c) _ (name_complete v a _ h)
       (expect_then s.Assign c _ _ (bind_here _ _ (x, b) _ (complete inside x c b (omega arith) g ends)
@@ -159,7 +160,7 @@ module _ (R : Bool → Parser ExprTree) (E : Bool → ExprTree → Tokens → To
 
   let_complete : Complete (let_clause R inside) (IsLet E inside) Ends bound
   unfolding let_clause
-  let_complete l a b short (IsLet.define {v = v} {x = x} {b = c} h g) ends =
+  let_complete l a b short (IsLet.let_be {v = v} {x = x} {b = c} h g) ends =
       let i = name_shrinks v a (k.Symbol s.Assign ∷ c) h in
       bind_here _ _ (v, k.Symbol s.Assign ∷ c) _ (name_complete v a _ h)
       (expect_then s.Assign c _ _ (bind_here _ _ (x, b) _ (complete inside x c b (omega arith) g ends)
@@ -339,25 +340,25 @@ module _ (R : Bool → Parser ExprTree) (E : Bool → ExprTree → Tokens → To
   tail_tailed gs i a b (IsTail.parts (AreAggregates.some {a = c} g) h) stop = record
       { ends = aggregate_ends c; no_comma = keyword_no_symbol w.Aggregate s.Comma c; no_name = refl }
 
-  separated_names : (ls : List LetPart) (a b : Tokens) → AreSeparated (IsAssigned E inside) ls a b
+  separated_names : (ls : List LetPart) (a b : Tokens) → AreSeparated (IsAssignment E inside) ls a b
       → is_name (head a) ≡ true
-  separated_names ls a b (AreSeparated.last (IsAssigned.assigned IsName.word g)) = refl
-  separated_names ls a b (AreSeparated.last (IsAssigned.assigned IsName.quoted g)) = refl
-  separated_names ls a b (AreSeparated.before (IsAssigned.assigned IsName.word g) others) = refl
-  separated_names ls a b (AreSeparated.before (IsAssigned.assigned IsName.quoted g) others) = refl
+  separated_names ls a b (AreSeparated.last (IsAssignment.assignment IsName.word g)) = refl
+  separated_names ls a b (AreSeparated.last (IsAssignment.assignment IsName.quoted g)) = refl
+  separated_names ls a b (AreSeparated.before (IsAssignment.assignment IsName.word g) others) = refl
+  separated_names ls a b (AreSeparated.before (IsAssignment.assignment IsName.quoted g) others) = refl
 
-  groups_complete : (ls : List LetPart) (a b : Tokens) → length a ≤ bound → AreAny (IsAssigned E inside) ls
+  groups_complete : (ls : List LetPart) (a b : Tokens) → length a ≤ bound → AreAny (IsAssignment E inside) ls
       a b → Tailed b → groups R inside a ≡ Some (ls, b)
   unfolding groups
   groups_complete ls a b short AreAny.none f = if_false _ _ _ a _ f.no_name refl
   groups_complete ls a b short (AreAny.some h) f =
       if_true _ _ _ a _ (separated_names ls a b h)
-      (separated_complete (assignment R inside) (IsAssigned E inside) Ends bound assignment_complete
+      (separated_complete (assignment R inside) (IsAssignment E inside) Ends bound assignment_complete
       (assignment_shrinks E shrinks inside) comma_ends ls a b h short f.ends f.no_comma)
 
-  any_falls : (ls : List LetPart) (a b : Tokens) → AreAny (IsAssigned E inside) ls a b → length b ≤ length a
+  any_falls : (ls : List LetPart) (a b : Tokens) → AreAny (IsAssignment E inside) ls a b → length b ≤ length a
   any_falls ls a b AreAny.none = omega arith
-  any_falls ls a b (AreAny.some h) = let i = separated_shrinks (IsAssigned E inside)
+  any_falls ls a b (AreAny.some h) = let i = separated_shrinks (IsAssignment E inside)
       (assignment_shrinks E shrinks inside) ls a b h in omega arith
 
   parts_no_with : (gs : List AggregatePart) (i : Option IntoPart) (a b c : Tokens)
@@ -367,9 +368,9 @@ module _ (R : Bool → Parser ExprTree) (E : Bool → ExprTree → Tokens → To
   parts_no_with gs i a b c (AreAggregates.some g) f = aggregate_not_with
 
   collect_complete : (ls : List LetPart) (gs : List AggregatePart) (i : Option IntoPart) (a b c : Tokens)
-      → length a ≤ bound → AreAny (IsAssigned E inside) ls a b → IsTail E inside gs i b c
+      → length a ≤ bound → AreAny (IsAssignment E inside) ls a b → IsTail E inside gs i b c
       → says ls gs i ≡ true → Stop c
-      → collect R inside a ≡ Some (grouped (ls, gs, i), c)
+      → collect R inside a ≡ Some (collect_clause (ls, gs, i), c)
   unfolding collect count_name
   collect_complete ls gs i a b c short h (IsTail.count {v = v} {a = d} {b = f} o n) said stop =
       bind_here _ _ (ls, b) _
@@ -441,13 +442,13 @@ module _ (R : Bool → Parser ExprTree) (E : Bool → ExprTree → Tokens → To
   names_front vs a b (AreSeparated.last {x = v} h) = name_ends v a b h
   names_front vs a b (AreSeparated.before {x = v} {b = c} h others) = name_ends v a (k.Symbol s.Comma ∷ c) h
 
-  traversal_complete : (names : e.WalkNames) (m n : ℕ) (d : Direction) (start : ExprTree)
+  traversal_complete : (names : e.TraversalNames) (m n : ℕ) (d : Direction) (start : ExprTree)
       (edges : List (List ℕ))
       (p : Option ExprTree) (ms : List MemberPart) (a b c f g h i : Tokens) → length a ≤ bound
       → IsDepth m n a b → IsDirection d b c → E inside start c f → AreSeparated IsName edges f g
       → IsPrune E inside p g h → AreOptions E inside ms h i → Stop i
       → (begins_traversal a ≡ true)
-      × (traversal R inside names a ≡ Some (walked (e.traversal names m n d start edges p ms), i))
+      × (traversal R inside names a ≡ Some (traversal_clause (e.traversal names m n d start edges p ms), i))
   unfolding traversal
   traversal_complete names m n d start edges p ms a b c f g h i short hd hw hs he hp ho stop =
       let l1 = traversal_depth_falls m n a b hd in
@@ -492,14 +493,14 @@ module _ (R : Bool → Parser ExprTree) (E : Bool → ExprTree → Tokens → To
       (if_false _ _ _ c _ (no_traversal_first (R inside) (starts inside) c (x, b) read stop)
       (bind_here _ _ (x, b) _ read refl))))
       refl
-  clause_complete found cs a b short (IsClause.for_paths {names = names} {least = m} {greatest = n}
+  clause_complete found cs a b short (IsClause.traversal {names = names} {least = m} {greatest = n}
       {way = d} {start = start} {edges = edges} {prune = p} {ms = ms} {a = a'} {b = b'} {c = c'} {d = d'}
       {f = f'} {g = g'} {h = h'} hn hd hw hs he hp ho) stop =
       let i = traversal_names_shrink names a' (k.Keyword w.In ∷ b') hn in
       let read = traversal_complete names m n d start edges p ms b' c' d' f' g' h' b
       (omega arith) hd hw hs he hp
       ho stop in
-      bind_here _ _ (walked (e.traversal names m n d start edges p ms), b) _
+      bind_here _ _ (traversal_clause (e.traversal names m n d start edges p ms), b) _
       (bind_here _ _ (names, k.Keyword w.In ∷ b') _
       (traversal_names_complete names a' (k.Keyword w.In ∷ b') hn
       (keyword_no_symbol w.In s.Comma b'))
@@ -522,13 +523,14 @@ module _ (R : Bool → Parser ExprTree) (E : Bool → ExprTree → Tokens → To
       (tree.limit m n, b) _ (limit_complete m n b) refl
   clause_complete found cs a b short (IsClause.collect {ls = ls} {gs = gs} {into = i} {a = d} {b = c} h g
       said) stop =
-      bind_here _ _ (grouped (ls, gs, i), b) _ (collect_complete ls gs i d c b (omega arith) h g said stop)
+      bind_here _ _ (collect_clause (ls, gs, i), b) _
+      (collect_complete ls gs i d c b (omega arith) h g said stop)
       refl
 
   clause_begins : (cs : List ClauseTree) (a b : Tokens) → IsClause E inside cs a b
       → begins_clause (head a) ≡ true
   clause_begins cs a b (IsClause.for_in h g) = refl
-  clause_begins cs a b (IsClause.for_paths hn hd hw hs he hp ho) = refl
+  clause_begins cs a b (IsClause.traversal hn hd hw hs he hp ho) = refl
   clause_begins cs a b (IsClause.filter h) = refl
   clause_begins cs a b (IsClause.let_in h) = refl
   clause_begins cs a b (IsClause.sort_by h) = refl

@@ -9,20 +9,20 @@ use Rattle.aql_lex.specs.declared.vocabulary.Symbol.{Symbol}
 use Rattle.aql_lex.specs.declared.vocabulary.Symbol.TheVariants as s
 use Rattle.aql_lex.specs.declared.vocabulary.Keyword.{Keyword}
 use Rattle.aql_lex.specs.declared.vocabulary.Keyword.TheVariants as w
-use Rattle.aql_tree.specs.Tree.{ExprTree, ClauseTree, QueryTree, keep_if}
+use Rattle.aql_tree.specs.Tree.{ExprTree, ClauseTree, QueryTree, filter_by}
 use Rattle.aql_tree.specs.Tree as tree
-use Rattle.aql_tree.specs.View.{MemberPart, KeyPart, sort, LetPart, AggregatePart, IntoPart, grouped}
-use Rattle.aql_tree.specs.View.{walked}
+use Rattle.aql_tree.specs.View.{MemberPart, KeyPart, sort, LetPart, AggregatePart, IntoPart, collect_clause}
+use Rattle.aql_tree.specs.View.{traversal_clause}
 use Rattle.aql_tree.specs.View as part
-use Rattle.aql_tree.specs.Made as e
+use Rattle.aql_tree.specs.Build as e
 use Rattle.aql_grammar.specs.Kinds.{Tokens}
 use Rattle.aql_grammar.specs.Spelling.{IsName, IsWord, IsOptional, AreSeparated, AreAny}
 use Rattle.aql_grammar.specs.Objects.{word_value, IsVariable, IsKey, IsMember, IsObject}
-use Rattle.aql_grammar.specs.Clauses.{AreTraversalNames, depth_number, IsDepth, says, IsAssigned, IsLet}
+use Rattle.aql_grammar.specs.Clauses.{AreTraversalNames, depth_number, IsDepth, says, IsAssignment, IsLet}
 use Rattle.aql_grammar.specs.Clauses.{IsSortKey, IsAggregate, IsInto, AreAggregates, IsTail, IsPrune}
 use Rattle.aql_grammar.specs.Clauses.{AreOptions, IsClause, AreClauses, IsDistinct, IsQuery}
 use Rattle.aql_grammar.specs.Input.{Parser, head, next, sees_keyword, after_keyword, is_name, is_number}
-use Rattle.aql_grammar.specs.Input.{expect, expect_keyword, expect_word, name, natural, separated}
+use Rattle.aql_grammar.specs.Input.{expect, expect_keyword, expect_word, name, natural, comma_list}
 use Rattle.aql_grammar.specs.Reader.{word, named_member, text_member, computed_member, member, members}
 use Rattle.aql_grammar.specs.Reader.{traversal_names, traversal_depth, traversal_direction, limit, count_name}
 use Rattle.aql_grammar.specs.Reader.{assignment, let_clause}
@@ -196,14 +196,14 @@ module _ (R : Bool → Parser ExprTree) (E : Bool → ExprTree → Tokens → To
 
   -- ---- clauses
 
-  assignment_sound : Sound (assignment R inside) (IsAssigned E inside)
+  assignment_sound : Sound (assignment R inside) (IsAssignment E inside)
   unfolding assignment
   assignment_sound ts y h =
       let v = bind_some (name ts) _ y h in
       let a = bind_some (expect s.Assign v.0.1) _ y v.2 in
       let x = bind_some (R inside a.0.1) _ y a.2 in
-      done (IsAssigned E inside) ts (e.assigned v.0.0 x.0.0) x.0.1 y x.2
-      (IsAssigned.assigned (subst (λ r. IsName v.0.0 ts r) (expect_some s.Assign v.0.1 a.0 a.1)
+      done (IsAssignment E inside) ts (e.assignment v.0.0 x.0.0) x.0.1 y x.2
+      (IsAssignment.assignment (subst (λ r. IsName v.0.0 ts r) (expect_some s.Assign v.0.1 a.0 a.1)
       (name_sound ts v.0 v.1)) (sound inside a.0.1 x.0 x.1))
 
   let_sound : Sound (let_clause R inside) (IsLet E inside)
@@ -213,7 +213,7 @@ module _ (R : Bool → Parser ExprTree) (E : Bool → ExprTree → Tokens → To
       let a = bind_some (expect s.Assign v.0.1) _ y v.2 in
       let x = bind_some (R inside a.0.1) _ y a.2 in
       done (IsLet E inside) ts (e.let_in v.0.0 x.0.0) x.0.1 y x.2
-      (IsLet.define (subst (λ r. IsName v.0.0 ts r) (expect_some s.Assign v.0.1 a.0 a.1)
+      (IsLet.let_be (subst (λ r. IsName v.0.0 ts r) (expect_some s.Assign v.0.1 a.0 a.1)
       (name_sound ts v.0 v.1)) (sound inside a.0.1 x.0 x.1))
 
   sort_key_sound : Sound (sort_key R inside) (IsSortKey E inside)
@@ -260,7 +260,7 @@ module _ (R : Bool → Parser ExprTree) (E : Bool → ExprTree → Tokens → To
       let here = expect_some s.Assign v.0.1 a.0 a.1
       ∙ ap (λ q. k.Symbol s.Assign ∷ q) (word_some' a.0.1 f.0 f.1 ∙ ap (λ q. k.Word f.0.0 ∷ q)
       (expect_some s.OpenParen f.0.1 o.0 o.1)) in
-      done (IsAggregate E inside) ts (e.aggregated v.0.0 f.0.0 x.0.0) x.0.1 y x.2
+      done (IsAggregate E inside) ts (e.aggregate_as v.0.0 f.0.0 x.0.0) x.0.1 y x.2
       (IsAggregate.aggregate (subst (λ r. IsName v.0.0 ts r) here (name_sound ts v.0 v.1))
       (argument_sound o.0.1 x.0 x.1))
 
@@ -284,15 +284,15 @@ module _ (R : Bool → Parser ExprTree) (E : Bool → ExprTree → Tokens → To
       ⊎_elim
       (λ m.
       let x = bind_some (R inside (next v.0.1)) _ y m.1 in
-      done (IsInto E inside) (k.Keyword w.Into ∷ ts) (e.into v.0.0 (Some x.0.0) []) x.0.1 y x.2
+      done (IsInto E inside) (k.Keyword w.Into ∷ ts) (e.collect_into v.0.0 (Some x.0.0) []) x.0.1 y x.2
       (IsInto.taking (subst (λ r. IsName v.0.0 ts r) m.0 named) (sound inside (next v.0.1) x.0 x.1)))
       (λ m.
       ⊎_elim
       (λ c.
-      let ns = bind_some (separated name (next v.0.1)) _ y c.1 in
-      done (IsInto E inside) (k.Keyword w.Into ∷ ts) (e.into v.0.0 None ns.0.0) ns.0.1 y ns.2
+      let ns = bind_some (comma_list name (next v.0.1)) _ y c.1 in
+      done (IsInto E inside) (k.Keyword w.Into ∷ ts) (e.collect_into v.0.0 None ns.0.0) ns.0.1 y ns.2
       (IsInto.keeping named c.0 (separated_sound name IsName name_sound (next v.0.1) ns.0 ns.1)))
-      (λ c. done (IsInto E inside) (k.Keyword w.Into ∷ ts) (e.into v.0.0 None []) v.0.1 y c.1
+      (λ c. done (IsInto E inside) (k.Keyword w.Into ∷ ts) (e.collect_into v.0.0 None []) v.0.1 y c.1
       (IsInto.alone named))
       (word_cases (codes "KEEP") _ _ v.0.1 y m.1))
       (eat_cases s.Assign _ _ v.0.1 y v.2)
@@ -309,13 +309,13 @@ module _ (R : Bool → Parser ExprTree) (E : Bool → ExprTree → Tokens → To
       (λ m. done (IsOptional (IsInto E inside)) ts None ts y m.1 IsOptional.none)
       (keyword_cases w.Into _ _ ts y h)
 
-  groups_sound : Sound (groups R inside) (AreAny (IsAssigned E inside))
+  groups_sound : Sound (groups R inside) (AreAny (IsAssignment E inside))
   unfolding groups
   groups_sound ts y h =
       ⊎_elim
       (λ m. AreAny.some
-      (separated_sound (assignment R inside) (IsAssigned E inside) assignment_sound ts y m.1))
-      (λ m. done (AreAny (IsAssigned E inside)) ts [] ts y m.1 AreAny.none)
+      (separated_sound (assignment R inside) (IsAssignment E inside) assignment_sound ts y m.1))
+      (λ m. done (AreAny (IsAssignment E inside)) ts [] ts y m.1 AreAny.none)
       (if_cases (is_name (head ts)) _ _ ts y h)
 
   -- one clause, read after its first word
@@ -337,7 +337,7 @@ module _ (R : Bool → Parser ExprTree) (E : Bool → ExprTree → Tokens → To
       let v = bind_some (count_name (next ls.0.1)) _ y m.1 in
       let n = count_sound (next ls.0.1) v.0 v.1 in
       done (OneClause w.Collect) ts _ v.0.1 y v.2
-      (IsClause.collect (subst (λ r. AreAny (IsAssigned E inside) ls.0.0 ts r) m.0 spelt)
+      (IsClause.collect (subst (λ r. AreAny (IsAssignment E inside) ls.0.0 ts r) m.0 spelt)
       (IsTail.count n.1.0 n.1.1) (count_says ls.0.0 None _)))
       (λ m.
       let gs = bind_some (aggregates R inside ls.0.1) _ y m.1 in
@@ -371,7 +371,7 @@ module _ (R : Bool → Parser ExprTree) (E : Bool → ExprTree → Tokens → To
       (λ m. done (AreOptions E inside) ts [] ts y m.1 AreOptions.none)
       (word_cases (codes "OPTIONS") _ _ ts y h)
 
-  traversal_sound : (names : e.WalkNames) (a ts : Tokens) (y : ClauseTree × Tokens)
+  traversal_sound : (names : e.TraversalNames) (a ts : Tokens) (y : ClauseTree × Tokens)
       → AreTraversalNames names a (k.Keyword w.In ∷ ts) → traversal R inside names ts ≡ Some y
       → OneClause w.For y.0 a y.1
   unfolding traversal
@@ -379,17 +379,17 @@ module _ (R : Bool → Parser ExprTree) (E : Bool → ExprTree → Tokens → To
       let d = bind_some (traversal_depth ts) _ y h in
       let direction = bind_some (traversal_direction d.0.1) _ y d.2 in
       let start = bind_some (R inside direction.0.1) _ y direction.2 in
-      let edges = bind_some (separated name start.0.1) _ y start.2 in
+      let edges = bind_some (comma_list name start.0.1) _ y start.2 in
       let p = bind_some (prune R inside edges.0.1) _ y edges.2 in
       let ms = bind_some (settings R inside p.0.1) _ y p.2 in
       done (OneClause w.For) a _ ms.0.1 y ms.2
-      (IsClause.for_paths n (traversal_depth_sound ts d.0 d.1)
+      (IsClause.traversal n (traversal_depth_sound ts d.0 d.1)
       (traversal_direction_sound d.0.1 direction.0 direction.1)
       (sound inside direction.0.1 start.0 start.1)
       (separated_sound name IsName name_sound start.0.1 edges.0 edges.1) (prune_sound edges.0.1 p.0 p.1)
       (settings_sound p.0.1 ms.0 ms.1))
 
-  single_sound : (names : e.WalkNames) (a ts : Tokens) (y : ClauseTree × Tokens)
+  single_sound : (names : e.TraversalNames) (a ts : Tokens) (y : ClauseTree × Tokens)
       → AreTraversalNames names a (k.Keyword w.In ∷ ts)
       → single_by R inside names.vertex names.edge ts ≡ Some y
       → OneClause w.For y.0 a y.1
@@ -453,11 +453,11 @@ module _ (R : Bool → Parser ExprTree) (E : Bool → ExprTree → Tokens → To
       one_clause_more w.For
       found ts c.0 y (for_sound ts c.0 c.1) c.2
   clause_by_sound w.Filter found ts y h = let x = bind_some (R inside ts) _ y h in one_clause_more w.Filter
-      found ts (keep_if x.0.0, x.0.1) y (IsClause.filter (sound inside ts x.0 x.1)) x.2
+      found ts (filter_by x.0.0, x.0.1) y (IsClause.filter (sound inside ts x.0 x.1)) x.2
   clause_by_sound w.Let found ts y h = let_more found ts y (separated_onto_sound (let_clause R inside)
       (IsLet E inside) let_sound found ts y h)
   clause_by_sound w.Sort found ts y h =
-      let ks = bind_some (separated (sort_key R inside) ts) _ y h in
+      let ks = bind_some (comma_list (sort_key R inside) ts) _ y h in
       one_clause_more w.Sort found ts (sort ks.0.0, ks.0.1) y
       (IsClause.sort_by (separated_sound (sort_key R inside) (IsSortKey E inside) sort_key_sound ts ks.0
       ks.1)) ks.2

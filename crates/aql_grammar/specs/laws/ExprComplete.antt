@@ -11,7 +11,7 @@ use Rattle.aql_lex.specs.declared.vocabulary.Keyword.{Keyword}
 use Rattle.aql_lex.specs.declared.vocabulary.Keyword.TheVariants as w
 use Rattle.aql_tree.specs.Tree.{ExprTree, QueryTree, range_of}
 use Rattle.aql_tree.specs.View.{StepPart, LinkPart}
-use Rattle.aql_tree.specs.Made as e
+use Rattle.aql_tree.specs.Build as e
 use Rattle.aql_grammar.specs.declared.precedence.Precedence.{Precedence}
 use Rattle.aql_grammar.specs.declared.precedence.Precedence.TheVariants as level
 use Rattle.aql_grammar.specs.Kinds.{Tokens}
@@ -121,7 +121,7 @@ module _ (R : Bool → Parser ExprTree) (E : Bool → ExprTree → Tokens → To
   primary_complete x a b short (IsPrimary.object {ms = ms} (IsObject.object {a = c} h)) f =
       bind_here _ _ (ms, b) _ (members_complete R E bound complete shrinks starts inside ms c b h
       (omega arith)) refl
-  primary_complete x a b short (IsPrimary.bracketed {a = c} h) f =
+  primary_complete x a b short (IsPrimary.parentheses {a = c} h) f =
       bind_here _ _ (x, k.Symbol s.CloseParen ∷ b) _ (argument_complete x c _ (omega arith) h
       (paren_ends b)) (expect_then s.CloseParen b _ _ refl)
 
@@ -141,7 +141,7 @@ module _ (R : Bool → Parser ExprTree) (E : Bool → ExprTree → Tokens → To
       eat_keyword_then w.Return _ _ c _ (bind_here _ _ (x, b) _ (complete true x c b (omega arith) h ends)
       refl)
 
-  -- what stands after the filter of an inline operator
+  -- what stands after the filter of an inline expression
   return_front : (p : Option ExprTree) (a b : Tokens) → IsElementReturn E inside p a
       (k.Symbol s.CloseBracket ∷ b) → Ends a × (sees_keyword w.Filter a ≡ false)
   unfolding sees_keyword same_keyword
@@ -160,7 +160,7 @@ module _ (R : Bool → Parser ExprTree) (E : Bool → ExprTree → Tokens → To
       let read = complete inside x c _ (omega arith) h (bracket_ends b) in
       eat_else s.Star _ _ c _ (not_first (R inside) s.Star ((starts inside).no_symbol s.Star refl) c _ read)
       (bind_here _ _ (x, k.Symbol s.CloseBracket ∷ b) _ read (expect_then s.CloseBracket b _ _ refl))
-  step_complete p a b short (IsStep.each {f = f} {p = q} {a = c} {b = d} h g) always =
+  step_complete p a b short (IsStep.inline {f = f} {p = q} {a = c} {b = d} h g) always =
       let fall = filter_falls E shrinks inside f c d h in
       let front = return_front q d b g in
       eat_then s.Star _ _ c _
@@ -172,7 +172,7 @@ module _ (R : Bool → Parser ExprTree) (E : Bool → ExprTree → Tokens → To
   step_begins : (p : StepPart) (a b : Tokens) → IsStep E inside p a b → at_front begins_step a ≡ true
   step_begins p a b (IsStep.name h) = refl
   step_begins p a b (IsStep.at h) = refl
-  step_begins p a b (IsStep.each h g) = refl
+  step_begins p a b (IsStep.inline h g) = refl
 
   steps_complete : (ps : List StepPart) (a b : Tokens) → AreMany (IsStep E inside) ps a b
       → length a ≤ suc bound → 0 < rank b → many (at_front begins_step) (step R inside) a ≡ Some (ps, b)
@@ -185,7 +185,7 @@ module _ (R : Bool → Parser ExprTree) (E : Bool → ExprTree → Tokens → To
   unfolding sees same_symbol
   step_no_call p a b (IsStep.name h) = refl
   step_no_call p a b (IsStep.at h) = refl
-  step_no_call p a b (IsStep.each h g) = refl
+  step_no_call p a b (IsStep.inline h g) = refl
 
   steps_no_call : (p : StepPart) (ps : List StepPart) (a b : Tokens) → AreMany (IsStep E inside) (p ∷ ps) a
       b → sees s.OpenParen a ≡ false
@@ -198,7 +198,7 @@ module _ (R : Bool → Parser ExprTree) (E : Bool → ExprTree → Tokens → To
       (bind_here _ _ ([], b) _
       (steps_complete [] b b AreMany.none (let i = primary_shrinks E shrinks inside x a b h in omega
       arith) f) refl)
-  postfix_complete x a b short (IsPostfix.stepped {x = of} {p = p} {ps = ps} {b = c} h others) f =
+  postfix_complete x a b short (IsPostfix.with_steps {x = of} {p = p} {ps = ps} {b = c} h others) f =
       let i = primary_shrinks E shrinks inside of a c h in
       bind_here _ _ (of, c) _ (primary_complete of a c short h (steps_no_call p ps c b others))
       (bind_here _ _ (p ∷ ps, b) _ (steps_complete (p ∷ ps) c b others (omega arith) f) refl)
@@ -218,11 +218,11 @@ module _ (R : Bool → Parser ExprTree) (E : Bool → ExprTree → Tokens → To
   primary_no_unary x a b (IsPrimary.call h) = refl
   primary_no_unary x a b (IsPrimary.list h) = refl
   primary_no_unary x a b (IsPrimary.object (IsObject.object h)) = refl
-  primary_no_unary x a b (IsPrimary.bracketed h) = refl
+  primary_no_unary x a b (IsPrimary.parentheses h) = refl
 
   postfix_no_unary : (x : ExprTree) (a b : Tokens) → IsPostfix E inside x a b → unary_at (head a) ≡ None
   postfix_no_unary x a b (IsPostfix.alone h) = primary_no_unary x a b h
-  postfix_no_unary x a b (IsPostfix.stepped {x = of} {b = c} h others) = primary_no_unary of a c h
+  postfix_no_unary x a b (IsPostfix.with_steps {x = of} {b = c} h others) = primary_no_unary of a c h
 
   unary_from_complete : (n : ℕ) (x : ExprTree) (a b : Tokens) → length a ≤ n → length a ≤ suc bound
       → IsUnary E inside x a b → Follow 0 b → unary_from R inside n a ≡ Some (x, b)
@@ -270,7 +270,7 @@ module _ (R : Parser ExprTree) (P : ExprTree → Tokens → Tokens → Type 0) (
       (Follow below) bound link_complete
       (link_shrinks P shrinks precedence) link_begins level_follows [] b b AreMany.none (omega arith) g
       (no_operator precedence b f)) refl)
-  chain_complete x a b short (IsChain.linked {x = first} {l = l} {ls = ls} {b = c} h others) f =
+  chain_complete x a b short (IsChain.with_links {x = first} {l = l} {ls = ls} {b = c} h others) f =
       let i = shrinks first a c h in
       let g : Follow below b = omega arith in
       bind_here _ _ (first, c) _
@@ -311,7 +311,8 @@ module _ (R : Parser ExprTree) (P : ExprTree → Tokens → Tokens → Type 0) (
     quantified_complete complete x a b short (IsQuantified.alone h) f =
         let g : Follow 6 b = omega arith in
         bind_here _ _ (x, b) _ (complete x a b short h g) (if_false _ _ _ b _ (no_quantifier b f) refl)
-    quantified_complete complete x a b short (IsQuantified.quantified {x = left} {y = right} {kind = kind}
+    quantified_complete complete x a b short
+        (IsQuantified.array_comparison {x = left} {y = right} {kind = kind}
         {op = op} {b = c} {c = d} {d = r} h q o g) f =
         let there = quantifier_read kind c d q in
         let rank_here = quantifier_rank kind c d q in

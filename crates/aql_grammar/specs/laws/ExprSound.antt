@@ -12,7 +12,7 @@ use Rattle.aql_tree.specs.Tree.{ExprTree, QueryTree, unary_of, range_of, subquer
 use Rattle.aql_tree.specs.Tree as tree
 use Rattle.aql_tree.specs.View.{MemberPart, StepPart, LinkPart}
 use Rattle.aql_tree.specs.View as part
-use Rattle.aql_tree.specs.Made as e
+use Rattle.aql_tree.specs.Build as e
 use Rattle.aql_grammar.specs.declared.precedence.Precedence.{Precedence}
 use Rattle.aql_grammar.specs.declared.precedence.Precedence.TheVariants as level
 use Rattle.aql_grammar.specs.Kinds.{Tokens}
@@ -23,7 +23,7 @@ use Rattle.aql_grammar.specs.Expressions.{IsPostfix, IsUnary, IsLink, IsChain, I
 use Rattle.aql_grammar.specs.Expressions.{IsProduct, IsSum, IsSpan, IsRelation, IsMembership, IsEquality}
 use Rattle.aql_grammar.specs.Expressions.{IsArrayComparison, IsConjunction, IsDisjunction, IsConditional}
 use Rattle.aql_grammar.specs.Tree.{IsExpr, IsTop}
-use Rattle.aql_grammar.specs.Input.{Parser, head, next, at_front, expect, name, separated, items, many}
+use Rattle.aql_grammar.specs.Input.{Parser, head, next, at_front, expect, name, comma_list, items, many}
 use Rattle.aql_grammar.specs.Reader.{operator, comparison, quantifier, unary_at, begins_step}
 use Rattle.aql_grammar.specs.Reader.{begins_query, access_of, chain_of, argument, arguments, call_or_name}
 use Rattle.aql_grammar.specs.Reader.{parentheses}
@@ -64,7 +64,7 @@ module _ (R : Bool → Parser ExprTree) (E : Bool → ExprTree → Tokens → To
       (λ m. done (Closed s.CloseParen (AreAny (IsArgument E inside))) ts [] (next ts) y m.1
       (subst (λ r. AreAny (IsArgument E inside) [] ts r) m.0 AreAny.none))
       (λ m.
-      let xs = bind_some (separated (argument R inside) ts) _ y m.1 in
+      let xs = bind_some (comma_list (argument R inside) ts) _ y m.1 in
       let c = bind_some (expect s.CloseParen xs.0.1) _ y xs.2 in
       done (Closed s.CloseParen (AreAny (IsArgument E inside))) ts xs.0.0 c.0.1 y c.2
       (subst (λ r. AreAny (IsArgument E inside) xs.0.0 ts r) (expect_some s.CloseParen xs.0.1 c.0 c.1)
@@ -94,7 +94,7 @@ module _ (R : Bool → Parser ExprTree) (E : Bool → ExprTree → Tokens → To
       let x = bind_some (argument R inside ts) _ y h in
       let c = bind_some (expect s.CloseParen x.0.1) _ y x.2 in
       done (IsPrimary E inside) (k.Symbol s.OpenParen ∷ ts) x.0.0 c.0.1 y c.2
-      (IsPrimary.bracketed (subst (λ r. IsArgument E inside x.0.0 ts r)
+      (IsPrimary.parentheses (subst (λ r. IsArgument E inside x.0.0 ts r)
       (expect_some s.CloseParen x.0.1 c.0 c.1) (argument_sound ts x.0 x.1)))
 
   primary_symbol : (symbol : Symbol) (ts : Tokens) (y : ExprTree × Tokens)
@@ -168,11 +168,11 @@ module _ (R : Bool → Parser ExprTree) (E : Bool → ExprTree → Tokens → To
       let f = bind_some (element R inside w.Filter (next ts)) _ y m.1 in
       let p = bind_some (element R inside w.Return f.0.1) _ y f.2 in
       let c = bind_some (expect s.CloseBracket p.0.1) _ y p.2 in
-      let spelt = IsStep.each (filter_sound (next ts) f.0 f.1)
+      let spelt = IsStep.inline (filter_sound (next ts) f.0 f.1)
       (subst (λ r. IsElementReturn E inside p.0.0 f.0.1 r) (expect_some s.CloseBracket p.0.1 c.0 c.1)
       (return_sound f.0.1 p.0 p.1)) in
-      done (IsStep E inside) (k.Symbol s.OpenBracket ∷ ts) (part.each f.0.0 p.0.0) c.0.1 y c.2
-      (subst (λ q. IsStep E inside (part.each f.0.0 p.0.0) (k.Symbol s.OpenBracket ∷ q) c.0.1) (sym m.0)
+      done (IsStep E inside) (k.Symbol s.OpenBracket ∷ ts) (part.inline f.0.0 p.0.0) c.0.1 y c.2
+      (subst (λ q. IsStep E inside (part.inline f.0.0 p.0.0) (k.Symbol s.OpenBracket ∷ q) c.0.1) (sym m.0)
       spelt))
       (λ m.
       let x = bind_some (R inside ts) _ y m.1 in
@@ -206,7 +206,7 @@ module _ (R : Bool → Parser ExprTree) (E : Bool → ExprTree → Tokens → To
       → AreMany (IsStep E inside) ps b c → IsPostfix E inside (access_of of ps) a c
   unfolding access_of
   access_spelt of [] a b c h AreMany.none = IsPostfix.alone h
-  access_spelt of (p ∷ ps) a b c h more = IsPostfix.stepped h more
+  access_spelt of (p ∷ ps) a b c h more = IsPostfix.with_steps h more
 
   postfix_sound : Sound (postfix R inside) (IsPostfix E inside)
   unfolding postfix
@@ -241,7 +241,7 @@ chain_spelt : (precedence : Precedence) (P : ExprTree → Tokens → Tokens → 
     → IsChain precedence P (chain_of first ls) a c
 unfolding chain_of
 chain_spelt precedence P first [] a b c h AreMany.none = IsChain.alone h
-chain_spelt precedence P first (l ∷ ls) a b c h more = IsChain.linked h more
+chain_spelt precedence P first (l ∷ ls) a b c h more = IsChain.with_links h more
 
 module _ (R : Parser ExprTree) (P : ExprTree → Tokens → Tokens → Type 0) (sound : Sound R P) where
   link_sound : (precedence : Precedence) (ts : Tokens) (y : LinkPart × Tokens)
@@ -285,8 +285,8 @@ module _ (R : Parser ExprTree) (P : ExprTree → Tokens → Tokens → Type 0) (
       let q = bind_some (quantifier x.0.1) _ y m.1 in
       let o = bind_some (comparison q.0.1) _ y q.2 in
       let z = bind_some (R o.0.1) _ y o.2 in
-      done (IsQuantified P) ts (tree.quantified x.0.0 q.0.0 o.0.0 z.0.0) z.0.1 y z.2
-      (IsQuantified.quantified (sound ts x.0 x.1) (quantifier_sound x.0.1 q.0 q.1)
+      done (IsQuantified P) ts (tree.array_comparison x.0.0 q.0.0 o.0.0 z.0.0) z.0.1 y z.2
+      (IsQuantified.array_comparison (sound ts x.0 x.1) (quantifier_sound x.0.1 q.0 q.1)
       (comparison_sound q.0.1 o.0 o.1) (sound o.0.1 z.0 z.1)))
       (λ m. done (IsQuantified P) ts x.0.0 x.0.1 y m.1 (IsQuantified.alone (sound ts x.0 x.1)))
       (if_cases (begins_quantifier (head x.0.1)) _ _ x.0.1 y x.2)
@@ -375,7 +375,7 @@ unfolding top
 top_sound fuel ts y h =
     ⊎_elim
     (λ m.
-    let ns = bind_some (separated name (next ts)) _ y m.1 in
+    let ns = bind_some (comma_list name (next ts)) _ y m.1 in
     subst (λ q. IsTop (IsExpr fuel) y.0 q y.1) (sym m.0)
     (IsTop.with_list (separated_sound name IsName name_sound (next ts) ns.0 ns.1)
     (query_sound (expr fuel) (IsExpr fuel) (expr_sound fuel) false ns.0.0 ns.0.1 y ns.2)))

@@ -8,8 +8,8 @@ use Rattle.aql_lex.specs.declared.vocabulary.Symbol.{Symbol}
 use Rattle.aql_lex.specs.declared.vocabulary.Symbol.TheVariants as s
 use Rattle.aql_grammar.specs.Kinds.{Tokens}
 use Rattle.aql_grammar.specs.Spelling.{AreMany, AreSeparated, AreItems}
-use Rattle.aql_grammar.specs.Input.{Parser, next, sees, expect, many, many_from, separated, separated_onto}
-use Rattle.aql_grammar.specs.Input.{separated_from, items, items_from}
+use Rattle.aql_grammar.specs.Input.{Parser, next, sees, expect, many, many_from, comma_list, comma_list_onto}
+use Rattle.aql_grammar.specs.Input.{comma_list_from, items, items_from}
 use Rattle.aql_grammar.specs.laws.Steps.{Sound, Complete, Shrinks, bind_some, some_same, eat_cases}
 use Rattle.aql_grammar.specs.laws.Steps.{if_cases, expect_some, bind_here, if_true, if_false, eat_then}
 use Rattle.aql_grammar.specs.laws.Steps.{eat_else, expect_then, Refuses, not_first}
@@ -52,8 +52,8 @@ items_fall P shrinks xs a b (AreItems.trailing h) = let one = separated_shrinks 
 
 pub separated_from_sound : {A : Type 0} (R : Parser A) (P : A → Tokens → Tokens → Type 0) → Sound R P
     → (n : ℕ) (found : List A) (ts : Tokens) (y : List A × Tokens)
-    → separated_from R n found ts ≡ Some y → More found (AreSeparated P) ts y
-unfolding separated_from
+    → comma_list_from R n found ts ≡ Some y → More found (AreSeparated P) ts y
+unfolding comma_list_from
 separated_from_sound R P sound zero found ts y h = absurd (cc)
 separated_from_sound {A} R P sound (suc n) found ts y h =
     let b = bind_some (R ts) _ y h in
@@ -77,12 +77,12 @@ separated_from_sound {A} R P sound (suc n) found ts y h =
 
 pub separated_onto_sound : {A : Type 0} (R : Parser A) (P : A → Tokens → Tokens → Type 0) → Sound R P
     → (found : List A) (ts : Tokens) (y : List A × Tokens)
-    → separated_onto R found ts ≡ Some y → More found (AreSeparated P) ts y
-unfolding separated_onto
+    → comma_list_onto R found ts ≡ Some y → More found (AreSeparated P) ts y
+unfolding comma_list_onto
 separated_onto_sound R P sound found ts y h = separated_from_sound R P sound (length ts) found ts y h
 
 pub separated_sound : {A : Type 0} (R : Parser A) (P : A → Tokens → Tokens → Type 0) → Sound R P
-    → Sound (separated R) (AreSeparated P)
+    → Sound (comma_list R) (AreSeparated P)
 separated_sound R P sound ts y h = from_nothing (AreSeparated P) ts y
     (separated_onto_sound R P sound [] ts y h)
 
@@ -191,8 +191,8 @@ module _ {A : Type 0} (R : Parser A) (P : A → Tokens → Tokens → Type 0) (F
     (comma : (ts : Tokens) → F (k.Symbol s.Comma ∷ ts)) where
   separated_from_complete : (n : ℕ) (found xs : List A) (a b : Tokens) → AreSeparated P xs a b
       → length a ≤ n → length a ≤ bound → F b → sees s.Comma b ≡ false
-      → separated_from R n found a ≡ Some (found ++ xs, b)
-  unfolding separated_from
+      → comma_list_from R n found a ≡ Some (found ++ xs, b)
+  unfolding comma_list_from
   separated_from_complete zero found xs a b h few short f other = let some = separated_shrinks P shrinks xs
       a b h in absurd (omega arith)
   separated_from_complete (suc n) found xs a b (AreSeparated.last {x = x} h) few short f other =
@@ -207,13 +207,13 @@ module _ {A : Type 0} (R : Parser A) (P : A → Tokens → Tokens → Type 0) (F
 
   pub separated_onto_complete : (found xs : List A) (a b : Tokens) → AreSeparated P xs a b
       → length a ≤ bound → F b → sees s.Comma b ≡ false
-      → separated_onto R found a ≡ Some (found ++ xs, b)
-  unfolding separated_onto
+      → comma_list_onto R found a ≡ Some (found ++ xs, b)
+  unfolding comma_list_onto
   separated_onto_complete found xs a b h short f other = separated_from_complete (length a) found xs a b h
       (omega arith) short f other
 
   pub separated_complete : (xs : List A) (a b : Tokens) → AreSeparated P xs a b → length a ≤ bound → F b
-      → sees s.Comma b ≡ false → separated R a ≡ Some (xs, b)
+      → sees s.Comma b ≡ false → comma_list R a ≡ Some (xs, b)
   separated_complete xs a b h short f other = separated_onto_complete [] xs a b h short f other
 
   -- what is separated doesn't begin with a symbol that R refuses

@@ -59,8 +59,9 @@ operator_spelt (k.Symbol s.GreaterOrEqual ∷ ts) y h = done (IsOperator level.R
 operator_spelt (k.Symbol s.Equal ∷ ts) y h = done (IsOperator level.Equality) _ _ ts y h IsOperator.equal
 operator_spelt (k.Symbol s.NotEqual ∷ ts) y h = done
     (IsOperator level.Equality) _ _ ts y h IsOperator.not_equal
-operator_spelt (k.Symbol s.And ∷ ts) y h = done (IsOperator level.Conjunction) _ _ ts y h IsOperator.and_sign
-operator_spelt (k.Symbol s.Or ∷ ts) y h = done (IsOperator level.Disjunction) _ _ ts y h IsOperator.or_sign
+operator_spelt (k.Symbol s.And ∷ ts) y h =
+    done (IsOperator level.Conjunction) _ _ ts y h IsOperator.and_symbol
+operator_spelt (k.Symbol s.Or ∷ ts) y h = done (IsOperator level.Disjunction) _ _ ts y h IsOperator.or_symbol
 operator_spelt (k.Symbol _ ∷ ts) y h = absurd (cc)
 operator_spelt (k.Keyword w.In ∷ ts) y h = done (IsOperator level.Membership) _ _ ts y h IsOperator.is_in
 operator_spelt (k.Keyword w.Like ∷ ts) y h = done (IsOperator level.Equality) _ _ ts y h IsOperator.like
@@ -152,7 +153,7 @@ unary_sound (k.Symbol s.Plus ∷ ts) o h = subst (λ q. IsUnaryOperator q (k.Sym
 unary_sound (k.Symbol s.Minus ∷ ts) o h = subst (λ q. IsUnaryOperator q (k.Symbol s.Minus ∷ ts) ts)
     (let e : _ ≡ o = cc in e) IsUnaryOperator.minus
 unary_sound (k.Symbol s.Not ∷ ts) o h = subst (λ q. IsUnaryOperator q (k.Symbol s.Not ∷ ts) ts)
-    (let e : _ ≡ o = cc in e) IsUnaryOperator.not_sign
+    (let e : _ ≡ o = cc in e) IsUnaryOperator.not_symbol
 unary_sound (k.Keyword w.Not ∷ ts) o h = subst (λ q. IsUnaryOperator q (k.Keyword w.Not ∷ ts) ts)
     (let e : _ ≡ o = cc in e) IsUnaryOperator.not_word
 unary_sound (k.Symbol _ ∷ ts) o h = absurd (cc)
@@ -182,9 +183,9 @@ operator_read precedence o a b IsOperator.equal = (refl, refl)
 operator_read precedence o a b IsOperator.not_equal = (refl, refl)
 operator_read precedence o a b IsOperator.like = (refl, refl)
 operator_read precedence o a b IsOperator.not_like = (refl, refl)
-operator_read precedence o a b IsOperator.and_sign = (refl, refl)
+operator_read precedence o a b IsOperator.and_symbol = (refl, refl)
 operator_read precedence o a b IsOperator.and_word = (refl, refl)
-operator_read precedence o a b IsOperator.or_sign = (refl, refl)
+operator_read precedence o a b IsOperator.or_symbol = (refl, refl)
 operator_read precedence o a b IsOperator.or_word = (refl, refl)
 
 pub operator_shrinks : (precedence : Precedence) → Shrinks (IsOperator precedence)
@@ -203,9 +204,9 @@ operator_shrinks precedence o a b IsOperator.equal = omega arith
 operator_shrinks precedence o a b IsOperator.not_equal = omega arith
 operator_shrinks precedence o a b IsOperator.like = omega arith
 operator_shrinks precedence o a b IsOperator.not_like = omega arith
-operator_shrinks precedence o a b IsOperator.and_sign = omega arith
+operator_shrinks precedence o a b IsOperator.and_symbol = omega arith
 operator_shrinks precedence o a b IsOperator.and_word = omega arith
-operator_shrinks precedence o a b IsOperator.or_sign = omega arith
+operator_shrinks precedence o a b IsOperator.or_symbol = omega arith
 operator_shrinks precedence o a b IsOperator.or_word = omega arith
 
 pub comparison_read : (o : BinOp) (a b : Tokens) → IsComparison o a b → (begins_comparison a ≡ true)
@@ -258,13 +259,13 @@ pub unary_read : (o : UnaryOp) (a b : Tokens) → IsUnaryOperator o a b → (una
     × (next a ≡ b)
 unary_read o a b IsUnaryOperator.plus = (refl, refl)
 unary_read o a b IsUnaryOperator.minus = (refl, refl)
-unary_read o a b IsUnaryOperator.not_sign = (refl, refl)
+unary_read o a b IsUnaryOperator.not_symbol = (refl, refl)
 unary_read o a b IsUnaryOperator.not_word = (refl, refl)
 
 pub unary_shrinks : Shrinks IsUnaryOperator
 unary_shrinks o a b IsUnaryOperator.plus = omega arith
 unary_shrinks o a b IsUnaryOperator.minus = omega arith
-unary_shrinks o a b IsUnaryOperator.not_sign = omega arith
+unary_shrinks o a b IsUnaryOperator.not_symbol = omega arith
 unary_shrinks o a b IsUnaryOperator.not_word = omega arith
 
 -- ---- what may stand after an operand of a level

@@ -12,7 +12,7 @@ use Rattle.aql_grammar.specs.declared.precedence.Precedence.TheVariants as level
 use Rattle.aql_grammar.specs.Kinds.{Tokens}
 use Rattle.aql_grammar.specs.Spelling.{IsName, IsOptional, AreAny}
 use Rattle.aql_grammar.specs.Objects.{IsVariable, IsKey, IsMember, IsObject}
-use Rattle.aql_grammar.specs.Clauses.{AreTraversalNames, IsDepth, IsAssigned, IsLet, IsSortKey, IsAggregate}
+use Rattle.aql_grammar.specs.Clauses.{AreTraversalNames, IsDepth, IsAssignment, IsLet, IsSortKey, IsAggregate}
 use Rattle.aql_grammar.specs.Clauses.{IsInto, AreAggregates, IsTail, IsPrune, AreOptions, IsClause}
 use Rattle.aql_grammar.specs.Clauses.{AreClauses, IsDistinct, IsQuery}
 use Rattle.aql_grammar.specs.Expressions.{IsArgument, IsPrimary, IsElementFilter, IsElementReturn, IsStep}
@@ -73,12 +73,12 @@ module _ (E : Bool → ExprTree → Tokens → Tokens → Type 0) (shrinks : (in
   object_shrinks ms a b (IsObject.object {a = c} h) = let i = items_fall (IsMember E inside) member_shrinks
       ms c (k.Symbol s.CloseBrace ∷ b) h in omega arith
 
-  pub assignment_shrinks : Shrinks (IsAssigned E inside)
-  assignment_shrinks l a b (IsAssigned.assigned {v = v} {x = x} {b = c} h g) =
+  pub assignment_shrinks : Shrinks (IsAssignment E inside)
+  assignment_shrinks l a b (IsAssignment.assignment {v = v} {x = x} {b = c} h g) =
       let i = name_shrinks v a (k.Symbol s.Assign ∷ c) h in let j = shrinks inside x c b g in omega arith
 
   pub let_shrinks : Shrinks (IsLet E inside)
-  let_shrinks l a b (IsLet.define {v = v} {x = x} {b = c} h g) =
+  let_shrinks l a b (IsLet.let_be {v = v} {x = x} {b = c} h g) =
       let i = name_shrinks v a (k.Symbol s.Assign ∷ c) h in let j = shrinks inside x c b g in omega arith
 
   pub sort_key_shrinks : Shrinks (IsSortKey E inside)
@@ -130,7 +130,7 @@ module _ (E : Bool → ExprTree → Tokens → Tokens → Type 0) (shrinks : (in
   pub clause_shrinks : Shrinks (IsClause E inside)
   clause_shrinks cs a b (IsClause.for_in {v = v} {x = x} {a = d} {b = c} h g) =
       let i = name_shrinks v d (k.Keyword w.In ∷ c) h in let j = shrinks inside x c b g in omega arith
-  clause_shrinks cs a b (IsClause.for_paths {names = names} {least = m} {greatest = n} {way = way}
+  clause_shrinks cs a b (IsClause.traversal {names = names} {least = m} {greatest = n} {way = way}
       {start = start} {edges = edges} {prune = p} {ms = ms} {a = a'} {b = b'} {c = c'} {d = d'} {f = f'}
       {g = g'} {h = h'} hn hd hw hs he hp ho) =
       let i = traversal_names_shrink names a' (k.Keyword w.In ∷ b') hn in let j =
@@ -146,7 +146,8 @@ module _ (E : Bool → ExprTree → Tokens → Tokens → Type 0) (shrinks : (in
   clause_shrinks cs a b IsClause.limit = omega arith
   clause_shrinks cs a b IsClause.limit_from = omega arith
   clause_shrinks cs a b (IsClause.collect {ls = ls} {gs = gs} {into = i} {a = d} {b = c} h g said) =
-      let j = any_falls (IsAssigned E inside) assignment_shrinks ls d c h in let l = tail_falls gs i c b g in
+      let j = any_falls
+      (IsAssignment E inside) assignment_shrinks ls d c h in let l = tail_falls gs i c b g in
       omega arith
 
   pub clauses_fall : Falls (AreClauses E inside)
@@ -176,7 +177,7 @@ module _ (E : Bool → ExprTree → Tokens → Tokens → Type 0) (shrinks : (in
   primary_shrinks x a b (IsPrimary.list {xs = xs} {a = c} h) = let i = items_fall (E inside)
       (shrinks inside) xs c (k.Symbol s.CloseBracket ∷ b) h in omega arith
   primary_shrinks x a b (IsPrimary.object {ms = ms} h) = object_shrinks ms a b h
-  primary_shrinks x a b (IsPrimary.bracketed {a = c} h) = let i = argument_shrinks x c
+  primary_shrinks x a b (IsPrimary.parentheses {a = c} h) = let i = argument_shrinks x c
       (k.Symbol s.CloseParen ∷ b) h in omega arith
 
   pub filter_falls : Falls (IsElementFilter E inside)
@@ -191,13 +192,13 @@ module _ (E : Bool → ExprTree → Tokens → Tokens → Type 0) (shrinks : (in
   step_shrinks p a b (IsStep.name {v = v} {a = c} h) = let i = name_shrinks v c b h in omega arith
   step_shrinks p a b (IsStep.at {x = x} {a = c} h) = let i = shrinks inside x c
       (k.Symbol s.CloseBracket ∷ b) h in omega arith
-  step_shrinks p a b (IsStep.each {f = f} {p = q} {a = c} {b = d} h g) =
+  step_shrinks p a b (IsStep.inline {f = f} {p = q} {a = c} {b = d} h g) =
       let i = filter_falls f c d h in let j = return_falls q d (k.Symbol s.CloseBracket ∷ b) g in omega
       arith
 
   pub postfix_shrinks : Shrinks (IsPostfix E inside)
   postfix_shrinks x a b (IsPostfix.alone h) = primary_shrinks x a b h
-  postfix_shrinks x a b (IsPostfix.stepped {x = of} {p = p} {ps = ps} {b = c} h more) =
+  postfix_shrinks x a b (IsPostfix.with_steps {x = of} {p = p} {ps = ps} {b = c} h more) =
       let i = primary_shrinks of a c h in let j = many_falls (IsStep E inside) step_shrinks (p ∷ ps) c b
       more in omega arith
 
@@ -214,7 +215,7 @@ module _ (P : ExprTree → Tokens → Tokens → Type 0) (shrinks : Shrinks P) w
 
   pub chain_shrinks : (precedence : Precedence) → Shrinks (IsChain precedence P)
   chain_shrinks precedence x a b (IsChain.alone h) = shrinks x a b h
-  chain_shrinks precedence x a b (IsChain.linked {x = first} {l = l} {ls = ls} {b = c} h more) =
+  chain_shrinks precedence x a b (IsChain.with_links {x = first} {l = l} {ls = ls} {b = c} h more) =
       let i = shrinks first a c h in let j = many_falls (IsLink precedence P) (link_shrinks precedence)
       (l ∷ ls) c b
       more in omega arith
@@ -226,7 +227,8 @@ module _ (P : ExprTree → Tokens → Tokens → Type 0) (shrinks : Shrinks P) w
 
   pub quantified_shrinks : Shrinks (IsQuantified P)
   quantified_shrinks x a b (IsQuantified.alone h) = shrinks x a b h
-  quantified_shrinks x a b (IsQuantified.quantified {x = left} {y = right} {kind = kind} {op = op} {b = c}
+  quantified_shrinks x a b
+      (IsQuantified.array_comparison {x = left} {y = right} {kind = kind} {op = op} {b = c}
       {c = d} {d = f} h q o g) =
       let i = shrinks left a c h in let j = quantifier_shrinks kind c d q in let l = comparison_shrinks op d
       f o in let m = shrinks right f b g in omega arith

@@ -4,30 +4,30 @@ use Rattle.std.proofs.Common.{ℕ, ◌≡◌, ◌∙◌, sym, ap, subst, refl, L
 use Rattle.std.specs.Prelude.{Option, Some, None, MatchOption, flat_map, zip, IsPermutation}
 use Rattle.std.specs.List.{AllZip}
 use Rattle.std.proofs.lemmas.List.Sorted.{IsPermutation-refl, IsPermutation-sym, IsPermutation-trans}
-use Rattle.aql_value.specs.Tree.{Tree, null, boolean}
+use Rattle.aql_value.specs.Datum.{Datum, null, boolean}
 use Rattle.aql_value.specs.Parts.{elements}
 use Rattle.aql_value.specs.Truth.{truth}
 use Rattle.aql_value.specs.Database.{Database, documents_named}
 use Rattle.aql_func.specs.Objects.{id_text}
 use Rattle.aql_tree.specs.declared.syntax.Ident.{Ident}
-use Rattle.aql_tree.specs.Tree.{WalkShape, ClauseTree, for_each, for_documents, for_paths, keep_if, define, sort_by, limit, collect}
+use Rattle.aql_tree.specs.Tree.{TraversalShape, ClauseTree, for_each, for_documents, traversal, filter_by, let_be, sort_by, limit, collect}
 use Rattle.aql_meaning.specs.Row.{Row, bind}
-use Rattle.aql_meaning.specs.Clauses.{with_each, with_elements, with_documents, kept, bound}
+use Rattle.aql_meaning.specs.Clauses.{with_each, with_elements, with_documents, filter_true, with_values}
 use Rattle.aql_meaning.specs.Value.{value_or}
-use Rattle.aql_meaning.specs.Paths.{Path, WalkedFrom, Walked, path_row, long_paths, with_paths}
+use Rattle.aql_meaning.specs.Paths.{Path, TraversesFrom, Traverses, path_row, long_paths, with_paths}
 use Rattle.aql_meaning.specs.Options.{with_settings}
 use Rattle.aql_meaning.specs.Visible.{collection_meant, edges_named}
-use Rattle.aql_meaning.specs.Meaning.{Ev, Changes}
+use Rattle.aql_meaning.specs.Meaning.{Evaluates, Changes}
 use Rattle.aql_meaning.specs.Theorems.{takes_rows_alone}
-use Rattle.aql_meaning.specs.laws.Shuffles.{shuffled, through, flat_permuted}
+use Rattle.aql_meaning.specs.laws.Shuffles.{shuffle, through, flat_permuted}
 
-pub elements_flat : (x : Ident) (rows : List Row) (vs : List Tree)
-    → with_elements x rows vs ≡ flat_map (λ (p : Row × Tree). map (bind x p.0) (elements p.1)) (zip rows vs)
+pub elements_flat : (x : Ident) (rows : List Row) (vs : List Datum)
+    → with_elements x rows vs ≡ flat_map (λ (p : Row × Datum). map (bind x p.0) (elements p.1)) (zip rows vs)
 elements_flat x [] vs = refl
 elements_flat x (r ∷ rows) [] = refl
 elements_flat x (r ∷ rows) (v ∷ vs) = ap (λ rs. map (bind x r) (elements v) ++ rs) (elements_flat x rows vs)
 
-pub documents_flat : (x : Ident) (ds : List Tree) (rows : List Row)
+pub documents_flat : (x : Ident) (ds : List Datum) (rows : List Row)
     → with_documents x ds rows ≡ flat_map (λ row. map (bind x row) ds) rows
 documents_flat x ds [] = refl
 documents_flat x ds (r ∷ rows) = ap (λ rs. map (bind x r) ds ++ rs) (documents_flat x ds rows)
@@ -35,8 +35,8 @@ documents_flat x ds (r ∷ rows) = ap (λ rs. map (bind x r) ds ++ rs) (document
 abbrev pub one_if : Bool → Row → List Row
 one_if b row = cond b (row ∷ []) []
 
-pub kept_flat : (rows : List Row) (vs : List Tree)
-    → kept rows vs ≡ flat_map (λ (p : Row × Tree). one_if (truth p.1) p.0) (zip rows vs)
+pub kept_flat : (rows : List Row) (vs : List Datum)
+    → filter_true rows vs ≡ flat_map (λ (p : Row × Datum). one_if (truth p.1) p.0) (zip rows vs)
 kept_flat [] vs = refl
 kept_flat (r ∷ rows) [] = refl
 kept_flat (r ∷ rows) (v ∷ vs) = by (truth v) (kept_flat rows vs)
@@ -45,8 +45,8 @@ kept_flat (r ∷ rows) (v ∷ vs) = by (truth v) (kept_flat rows vs)
     by true e = ap (λ rs. r ∷ rs) e
     by false e = e
 
-pub bound_flat : (x : Ident) (rows : List Row) (vs : List Tree)
-    → bound x rows vs ≡ flat_map (λ (p : Row × Tree). bind x p.0 p.1 ∷ []) (zip rows vs)
+pub bound_flat : (x : Ident) (rows : List Row) (vs : List Datum)
+    → with_values x rows vs ≡ flat_map (λ (p : Row × Datum). bind x p.0 p.1 ∷ []) (zip rows vs)
 bound_flat x [] vs = refl
 bound_flat x (r ∷ rows) [] = refl
 bound_flat x (r ∷ rows) (v ∷ vs) = ap (λ rs. bind x r v ∷ rs) (bound_flat x rows vs)
@@ -90,14 +90,15 @@ module _ {X : Type 0} (R S : Row → Row → Type 0) (f g : Row → X → Row)
 -- ---- permuted rows
 
 -- a word that takes one row with its value after another
-pub by_value : (P : Row → Tree → Type 0) (word : List Row → List Tree → List Row) (f : Row × Tree → List Row)
-    → ((rows : List Row) (vs : List Tree) → word rows vs ≡ flat_map f (zip rows vs))
+pub by_value : (P : Row → Datum → Type 0) (word : List Row → List Datum → List Row)
+    (f : Row × Datum → List Row)
+    → ((rows : List Row) (vs : List Datum) → word rows vs ≡ flat_map f (zip rows vs))
     → (rows others out : List Row) → IsPermutation rows others
-    → ((vs : List Tree) × AllZip P rows vs × (out ≡ word rows vs))
-    → (other : List Row) × ((vs : List Tree) × AllZip P others vs × (other ≡ word others vs))
+    → ((vs : List Datum) × AllZip P rows vs × (out ≡ word rows vs))
+    → (other : List Row) × ((vs : List Datum) × AllZip P others vs × (other ≡ word others vs))
     × IsPermutation out other
 by_value P word f is rows others out p h =
-    let t = through P (shuffled rows others p) h.0 h.1 in (
+    let t = through P (shuffle rows others p) h.0 h.1 in (
       word others t.0,
       (t.0, t.3, refl),
       subst (λ rs. IsPermutation rs (word others t.0)) (sym (h.2 ∙ is rows h.0))
@@ -105,22 +106,23 @@ by_value P word f is rows others out p h =
           (flat_permuted f t.2)),
     )
 
-pub documents_permuted : (x : Ident) (ds : List Tree) (rows others out : List Row) → IsPermutation rows others
+pub documents_permuted : (x : Ident) (ds : List Datum) (rows others out : List Row)
+    → IsPermutation rows others
     → IsPermutation (with_documents x ds rows) out → IsPermutation (with_documents x ds others) out
 documents_permuted x ds rows others out p h =
     IsPermutation-trans _ _ _
     (subst (λ rs. IsPermutation rs (with_documents x ds rows)) (sym (documents_flat x ds others))
     (subst (λ rs. IsPermutation (flat_map (λ row. map (bind x row) ds) others) rs)
     (sym (documents_flat x ds rows))
-    (flat_permuted (λ row. map (bind x row) ds) (shuffled others rows (IsPermutation-sym _ _ p)))))
+    (flat_permuted (λ row. map (bind x row) ds) (shuffle others rows (IsPermutation-sym _ _ p)))))
     h
 
 -- the rows of paths beside the values from which the paths were walked
-paths_flat : (P : Row → Tree → Type 0) (f : Row → Path → Row) (g : List Path → List Path)
-    (rows : List Row) (starts : List Tree) → AllZip P rows starts
+paths_flat : (P : Row → Datum → Type 0) (f : Row → Path → Row) (g : List Path → List Path)
+    (rows : List Row) (starts : List Datum) → AllZip P rows starts
     → (paths : List (List Path))
     → with_each f rows (map g paths)
-    ≡ flat_map (λ (from : (Row × Tree) × List Path). map (f from.0.0) (g from.1))
+    ≡ flat_map (λ (from : (Row × Datum) × List Path). map (f from.0.0) (g from.1))
     (zip (zip rows starts) paths)
 paths_flat P f g [] [] h paths = refl
 paths_flat P f g [] (v ∷ starts) h paths = absurd h
@@ -129,23 +131,23 @@ paths_flat P f g (r ∷ rows) (v ∷ starts) h [] = refl
 paths_flat P f g (r ∷ rows) (v ∷ starts) h (walked ∷ paths) =
     ap (λ rs. map (f r) (g walked) ++ rs) (paths_flat P f g rows starts h.1 paths)
 
-pub walked_permuted : (db : Database) (w : WalkShape) (es : List Tree) (prune : Row → Bool)
-    (P : Row → Tree → Type 0)
+pub walked_permuted : (db : Database) (w : TraversalShape) (es : List Datum) (prune : Row → Bool)
+    (P : Row → Datum → Type 0)
     (rows others out : List Row) → IsPermutation rows others
-    → ((vs : List Tree) × AllZip P rows vs × Walked db w es prune rows vs out)
-    → (vs : List Tree) × AllZip P others vs × Walked db w es prune others vs out
+    → ((vs : List Datum) × AllZip P rows vs × Traverses db w es prune rows vs out)
+    → (vs : List Datum) × AllZip P others vs × Traverses db w es prune others vs out
 walked_permuted db w es prune P rows others out p h =
-    let t = through P (shuffled rows others p) h.0 h.1 in
+    let t = through P (shuffle rows others p) h.0 h.1 in
     let u = through
-    (λ (from : Row × Tree) walked.
-    WalkedFrom w es (λ t. prune (path_row db w from.0 t)) (id_text from.1) walked)
+    (λ (from : Row × Datum) walked.
+    TraversesFrom w es (λ t. prune (path_row db w from.0 t)) (id_text from.1) walked)
     t.2 h.2.0 h.2.1 in
     let same = IsPermutation-sym _ _ (flat_permuted
-    (λ (from : (Row × Tree) × List Path). map (path_row db w from.0.0) (long_paths w from.1)) u.2) in
+    (λ (from : (Row × Datum) × List Path). map (path_row db w from.0.0) (long_paths w from.1)) u.2) in
     let turned = subst (λ rs. IsPermutation rs (with_paths db w rows h.2.0))
     (sym (paths_flat P (path_row db w) (long_paths w) others t.0 t.3 u.0))
     (subst (λ rs. IsPermutation (flat_map
-    (λ (from : (Row × Tree) × List Path). map (path_row db w from.0.0) (long_paths w from.1))
+    (λ (from : (Row × Datum) × List Path). map (path_row db w from.0.0) (long_paths w from.1))
     (zip (zip others t.0) u.0)) rs)
     (sym (paths_flat P (path_row db w) (long_paths w) rows h.0 h.1 h.2.0)) same) in
     (t.0, t.3, (u.0, u.3, IsPermutation-trans _ _ _ turned h.2.2))
@@ -157,29 +159,31 @@ pub permutation_passes : (db : Database) (c : ClauseTree) → takes_rows_alone c
 permutation_passes db (for_each x e) a start vars rows others out p h = by (collection_meant e start vars) h
   where
     by : (m : Option (List ℕ))
-        → MatchOption m ((vs : List Tree) × AllZip (Ev db e null) rows vs × (out ≡ with_elements x rows vs))
+        → MatchOption m
+        ((vs : List Datum) × AllZip (Evaluates db e null) rows vs × (out ≡ with_elements x rows vs))
         (λ name. IsPermutation (with_documents x (documents_named db name) rows) out)
         → (other : List Row)
         × MatchOption m
-        ((vs : List Tree) × AllZip (Ev db e null) others vs × (other ≡ with_elements x others vs))
+        ((vs : List Datum) × AllZip (Evaluates db e null) others vs × (other ≡ with_elements x others vs))
         (λ name. IsPermutation (with_documents x (documents_named db name) others) other)
         × IsPermutation out other
-    by None h = by_value (Ev db e null) (with_elements x)
-        (λ (p : Row × Tree). map (bind x p.0) (elements p.1)) (elements_flat x) rows others out p h
+    by None h = by_value (Evaluates db e null) (with_elements x)
+        (λ (p : Row × Datum). map (bind x p.0) (elements p.1)) (elements_flat x) rows others out p h
     by (Some name) h =
         (out, documents_permuted x (documents_named db name) rows others out p h, IsPermutation-refl out)
 permutation_passes db (for_documents x name) a start vars rows others out p h =
     (out, documents_permuted x (documents_named db name) rows others out p h, IsPermutation-refl out)
-permutation_passes db (for_paths w e names prune settings) a start vars rows others out p h = (
+permutation_passes db (traversal w e names prune settings) a start vars rows others out p h = (
   out,
   walked_permuted db (with_settings settings w) (edges_named db names)
-      (λ row. truth (value_or prune null row (boolean false))) (Ev db e null) rows others out p h,
+      (λ row. truth (value_or prune null row (boolean false))) (Evaluates db e null) rows others out p h,
   IsPermutation-refl out,
 )
-permutation_passes db (keep_if e) a start vars rows others out p h =
-    by_value (Ev db e null) kept (λ (p : Row × Tree). one_if (truth p.1) p.0) kept_flat rows others out p h
-permutation_passes db (define x e) a start vars rows others out p h =
-    by_value (Ev db e null) (bound x) (λ (p : Row × Tree). bind x p.0 p.1 ∷ [])
+permutation_passes db (filter_by e) a start vars rows others out p h =
+    by_value (Evaluates db e null) filter_true
+    (λ (p : Row × Datum). one_if (truth p.1) p.0) kept_flat rows others out p h
+permutation_passes db (let_be x e) a start vars rows others out p h =
+    by_value (Evaluates db e null) (with_values x) (λ (p : Row × Datum). bind x p.0 p.1 ∷ [])
     (bound_flat x) rows others out p h
 permutation_passes db (sort_by directions es) a start vars rows others out p h = absurd (true≢false (sym a))
 permutation_passes db (limit offset count) a start vars rows others out p h = absurd (true≢false (sym a))

@@ -2,12 +2,12 @@
 use Rattle.std.proofs.Common.{◌≡◌, ◌∙◌, sym, ap, Bool, true, false, cond, refl}
 use mathlib.Core.Path.{fun_ext}
 use Rattle.std.specs.Prelude.{Some}
-use Rattle.aql_value.specs.Tree.{Tree}
+use Rattle.aql_value.specs.Datum.{Datum}
 use Rattle.aql_tree.specs.declared.syntax.Ident.{Ident}
 use Rattle.aql_meaning.specs.Row.{Row, same_ident, bind}
 
 -- for two variables that nothing is at once
-pub binds_swap : (x y : Ident) (row : Row) (v w : Tree)
+pub binds_swap : (x y : Ident) (row : Row) (v w : Datum)
     → ((z : Ident) → same_ident x z ≡ true → same_ident y z ≡ false)
     → bind x (bind y row w) v ≡ bind y (bind x row v) w
 binds_swap x y row v w apart = fun_ext (λ z. by z (same_ident x z) refl) where

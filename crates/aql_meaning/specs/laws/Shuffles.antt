@@ -13,9 +13,9 @@ pub data Shuffled {X : Type 0} : List X → List X → Type 0 where
   chain : {xs ys zs : List X} → Shuffled xs ys → Shuffled ys zs → Shuffled xs zs
 
 module _ {X : Type 0} where
-  pub shuffled_same : (xs : List X) → Shuffled xs xs
-  shuffled_same [] = none
-  shuffled_same (x ∷ xs) = skip x (shuffled_same xs)
+  pub shuffle_same : (xs : List X) → Shuffled xs xs
+  shuffle_same [] = none
+  shuffle_same (x ∷ xs) = skip x (shuffle_same xs)
 
   front : (x : X) (l : List X) (j : ℕ) (d : X) → j < length l → Shuffled (x ∷ l) (get_or l j d ∷ set l j x)
   front x [] j d h = absurd (omega arith)
@@ -26,7 +26,7 @@ module _ {X : Type 0} where
   exchanged : (l : List X) (i j : ℕ) (d e : X) → i < length l → j < length l
       → Shuffled l (set (set l i (get_or l j d)) j (get_or l i e))
   exchanged [] i j d e h k = absurd (omega arith)
-  exchanged (x ∷ l) zero zero d e h k = shuffled_same (x ∷ l)
+  exchanged (x ∷ l) zero zero d e h k = shuffle_same (x ∷ l)
   exchanged (x ∷ l) zero (suc j) d e h k = front x l j d (omega arith)
   exchanged (x ∷ l) (suc i) zero d e h k =
       subst (λ (y : X). Shuffled (x ∷ l) (y ∷ set l i x)) refl (front x l i e (omega arith))
@@ -36,8 +36,8 @@ module _ {X : Type 0} where
   swapped [] i j h k = none
   swapped (x ∷ l) i j h k = exchanged (x ∷ l) i j x x h k
 
-  pub shuffled : (xs ys : List X) → IsPermutation xs ys → Shuffled xs ys
-  shuffled xs ys p = IsPermutation-keeps xs (Shuffled xs) (shuffled_same xs)
+  pub shuffle : (xs ys : List X) → IsPermutation xs ys → Shuffled xs ys
+  shuffle xs ys p = IsPermutation-keeps xs (Shuffled xs) (shuffle_same xs)
       (λ l i j h k s. chain s (swapped l i j h k)) ys p
 
   pub permutes : {xs ys : List X} → Shuffled xs ys → IsPermutation xs ys
@@ -65,9 +65,10 @@ through R (chain s t) ys h =
     let b = through R t a.0 a.3 in
     (b.0, chain a.1 b.1, chain a.2 b.2, b.3)
 
-pub alike_permutation : {A B : Type 0} (R : A → B → Type 0) (xs zs : List A) (ys : List B) → IsPermutation xs zs
+pub alike_permutation : {A B : Type 0} (R : A → B → Type 0) (xs zs : List A) (ys : List B)
+    → IsPermutation xs zs
     → AllZip R xs ys → (ws : List B) × IsPermutation ys ws × AllZip R zs ws
-alike_permutation R xs zs ys p h = let t = through R (shuffled xs zs p) ys h in (t.0, permutes t.1, t.3)
+alike_permutation R xs zs ys p h = let t = through R (shuffle xs zs p) ys h in (t.0, permutes t.1, t.3)
 
 fronts_swapped : {X : Type 0} (us vs ws : List X) → IsPermutation (us ++ (vs ++ ws)) (vs ++ (us ++ ws))
 fronts_swapped us vs ws =

@@ -5,7 +5,7 @@ use Rattle.std.specs.Prelude.{Option, Some, None, MatchOption, zip, flat_map, Is
 use Rattle.std.specs.Bool.{MatchBool}
 use Rattle.std.specs.List.{AllZip}
 use Rattle.std.proofs.lemmas.List.Sorted.{IsPermutation-refl}
-use Rattle.aql_value.specs.Tree.{Tree, null, boolean}
+use Rattle.aql_value.specs.Datum.{Datum, null, boolean}
 use Rattle.aql_value.specs.Parts.{list, elements, at_name, at_value}
 use Rattle.aql_value.specs.Convert.{to_number, to_text}
 use Rattle.aql_value.specs.Database.{Database, documents_named}
@@ -18,17 +18,17 @@ use Rattle.aql_func.specs.Operators.{binary, unary, range}
 use Rattle.aql_tree.specs.declared.syntax.Ident.{Ident}
 use Rattle.aql_tree.specs.declared.syntax.UniqueVertices.{UniqueVertices}
 use Rattle.aql_tree.specs.declared.syntax.UniqueVertices.TheVariants as vertices
-use Rattle.aql_tree.specs.Tree.{WalkShape, ExprTree, literal, variable, current, listed, made, access, called, unary_of, chain, quantified, choice, range_of, subquery, ExprTrees, no_exprs, expr_then, MaybeExpr, no_expr, one_expr, MemberTrees, no_members, named_then, computed_then, StepTrees, no_steps, name_then, at_then, each_then, LinkTrees, no_links, link_then, ClauseTree, for_each, for_documents, for_paths, keep_if, define, sort_by, limit, collect, AggregateTrees, no_aggregates, aggregate_then, IntoTree, no_into, into, ClauseTrees, no_clauses, clause_then, QueryTree, query}
+use Rattle.aql_tree.specs.Tree.{TraversalShape, ExprTree, literal, variable, current, array_literal, object_literal, access, function_call, unary_of, chain, array_comparison, ternary, range_of, subquery, ExprTrees, no_exprs, expr_then, MaybeExpr, no_expr, one_expr, MemberTrees, no_members, named_then, computed_then, StepTrees, no_steps, name_then, at_then, inline_then, LinkTrees, no_links, link_then, ClauseTree, for_each, for_documents, traversal, filter_by, let_be, sort_by, limit, collect, AggregateTrees, no_aggregates, aggregate_then, IntoTree, no_into, into, ClauseTrees, no_clauses, clause_then, QueryTree, query}
 use Rattle.aql_meaning.specs.Row.{Row, value_at}
-use Rattle.aql_meaning.specs.Expressions.{quantify, object_literal, Linked}
+use Rattle.aql_meaning.specs.Expressions.{quantify, object_value, LinkGives}
 use Rattle.aql_meaning.specs.Value.{value_or}
-use Rattle.aql_meaning.specs.Clauses.{Keyed, with_elements, with_documents, kept, bound, limited, returned, Sorted}
-use Rattle.aql_meaning.specs.Groups.{Member, IsMember, classes, members_of, class_row, WithInto, Collected, variables_object}
-use Rattle.aql_meaning.specs.Paths.{Path, WalkedBy, WalkedFrom, Walked, path_row, with_paths, paths_up_to}
+use Rattle.aql_meaning.specs.Clauses.{KeyedRow, with_elements, with_documents, filter_true, with_values, limit_rows, return_values, Sorts}
+use Rattle.aql_meaning.specs.Groups.{Member, IsMember, groups, group_members, group_row, WithInto, Collects, variables_object}
+use Rattle.aql_meaning.specs.Paths.{Path, TraversesBy, TraversesFrom, Traverses, path_row, with_paths, paths_up_to}
 use Rattle.aql_meaning.specs.Options.{with_settings}
 use Rattle.aql_meaning.specs.Visible.{aggregate_vars, aggregate_functions, into_var, vars_after, collection_meant, edges_named}
-use Rattle.aql_meaning.specs.Meaning.{Ev, EvAll, EvOr, EvMembers, EvSteps, EvLinks, EvArguments, EvTaken, Changes, Through, Answer}
-use Rattle.aql_meaning.specs.laws.SomeWalk.{walk_exists}
+use Rattle.aql_meaning.specs.Meaning.{Evaluates, EvaluatesAll, EvaluatesOr, EvaluatesMembers, EvaluatesSteps, EvaluatesLinks, EvaluatesArguments, EvaluatesInto, Changes, Through, IsAnswer}
+use Rattle.aql_meaning.specs.laws.SomeTraversal.{traversal_exists}
 use Rattle.aql_meaning.specs.laws.SomeOrder.{some_order}
 
 -- for each element there is one that it is related to
@@ -37,13 +37,13 @@ abbrev pub all_some : {A B : Type 0} (P : A → B → Type 0) → ((a : A) → (
 all_some P f [] = ([], tt)
 all_some P f (x ∷ xs) = let y = f x in let ys = all_some P f xs in (y.0 ∷ ys.0, (y.1, ys.1))
 
-abbrev pick : (b : Bool) (P Q : Tree → Type 0) → ((v : Tree) × P v) → ((v : Tree) × Q v)
-    → (v : Tree) × MatchBool b (P v) (Q v)
+abbrev pick : (b : Bool) (P Q : Datum → Type 0) → ((v : Datum) × P v) → ((v : Datum) × Q v)
+    → (v : Datum) × MatchBool b (P v) (Q v)
 pick true P Q x y = x
 pick false P Q x y = y
 
-abbrev some_linked : (op : BinOp) (Right : Tree → Type 0) → ((b : Tree) × Right b)
-    → (a : Tree) → (v : Tree) × Linked op Right a v
+abbrev some_linked : (op : BinOp) (Right : Datum → Type 0) → ((b : Datum) × Right b)
+    → (a : Datum) → (v : Datum) × LinkGives op Right a v
 some_linked And Right x a = pick (truth a) Right (λ v. v ≡ a) x (a, refl)
 some_linked Or Right x a = pick (truth a) (λ v. v ≡ a) Right (a, refl) x
 some_linked op Right x a = (binary op a x.0, (x.0, x.1, refl))
@@ -51,57 +51,58 @@ some_linked op Right x a = (binary op a x.0, (x.0, x.1, refl))
 abbrev some_into : (i : Option Ident) (members : List Member) (row : Row)
     → (out : Row) × WithInto i members row out
 some_into None members row = (row, refl)
-some_into (Some x) members row = (_, (map (λ (m : Member). m.taken) members, IsPermutation-refl _, refl))
+some_into (Some x) members row = (_, (map (λ (m : Member). m.into_value) members, IsPermutation-refl _, refl))
 
-abbrev pub some_collected : (xs ys : List Ident) (fs : List (List Tree → Tree)) (i : Option Ident)
+abbrev pub some_collect : (xs ys : List Ident) (fs : List (List Datum → Datum)) (i : Option Ident)
     (start : Row)
-    (members : List Member) → (out : List Row) × Collected xs ys fs i start members out
-some_collected xs ys fs i start members =
-    all_some (λ c row. WithInto i (members_of c members) (class_row xs ys fs start members c) row)
-    (λ c. some_into i (members_of c members) (class_row xs ys fs start members c)) (classes xs members)
+    (members : List Member) → (out : List Row) × Collects xs ys fs i start members out
+some_collect xs ys fs i start members =
+    all_some (λ c row. WithInto i (group_members c members) (group_row xs ys fs start members c) row)
+    (λ c. some_into i (group_members c members) (group_row xs ys fs start members c)) (groups xs members)
 
-abbrev pub some_sorted : (directions : List Bool) (keys : List (List Tree)) (rows : List Row)
-    → (out : List Row) × Sorted directions keys rows out
-some_sorted directions keys rows =
-    let s = some_order directions (λ (p : Keyed). p.0) (zip keys rows) in
-    (map (λ (p : Keyed). p.1) s.0, (s.0, s.1, s.2, refl))
+abbrev pub some_sort : (directions : List Bool) (keys : List (List Datum)) (rows : List Row)
+    → (out : List Row) × Sorts directions keys rows out
+some_sort directions keys rows =
+    let s = some_order directions (λ (p : KeyedRow). p.0) (zip keys rows) in
+    (map (λ (p : KeyedRow). p.1) s.0, (s.0, s.1, s.2, refl))
 
-abbrev some_walked_by : (w : WalkShape) (es : List Tree) (pruned : Path → Bool) (id : List ℕ)
+abbrev some_walked_by : (w : TraversalShape) (es : List Datum) (pruned : Path → Bool) (id : List ℕ)
     (u : UniqueVertices)
-    → (paths : List Path) × WalkedBy w es pruned id u paths
-some_walked_by w es pruned id vertices.Global = walk_exists w es pruned id w.max
+    → (paths : List Path) × TraversesBy w es pruned id u paths
+some_walked_by w es pruned id vertices.Global = traversal_exists w es pruned id w.max
 some_walked_by w es pruned id vertices.None = (paths_up_to w es pruned id w.max, refl)
 some_walked_by w es pruned id vertices.Path = (paths_up_to w es pruned id w.max, refl)
 
-abbrev some_walked_from : (w : WalkShape) (es : List Tree) (pruned : Path → Bool) (id : Option (List ℕ))
-    → (paths : List Path) × WalkedFrom w es pruned id paths
+abbrev some_walked_from : (w : TraversalShape) (es : List Datum) (pruned : Path → Bool) (id : Option (List ℕ))
+    → (paths : List Path) × TraversesFrom w es pruned id paths
 some_walked_from w es pruned None = ([], refl)
 some_walked_from w es pruned (Some id) = some_walked_by w es pruned id w.options.vertices
 
-abbrev pub some_walked : (db : Database) (w : WalkShape) (es : List Tree) (prune : Row → Bool)
+abbrev pub some_traversal : (db : Database) (w : TraversalShape) (es : List Datum) (prune : Row → Bool)
     (rows : List Row)
-    (starts : List Tree) → (out : List Row) × Walked db w es prune rows starts out
-some_walked db w es prune rows starts =
+    (starts : List Datum) → (out : List Row) × Traverses db w es prune rows starts out
+some_traversal db w es prune rows starts =
     let paths = all_some
-    (λ (from : Row × Tree) walked.
-    WalkedFrom w es (λ t. prune (path_row db w from.0 t)) (id_text from.1) walked)
-    (λ (from : Row × Tree). some_walked_from w es (λ t. prune (path_row db w from.0 t)) (id_text from.1))
+    (λ (from : Row × Datum) walked.
+    TraversesFrom w es (λ t. prune (path_row db w from.0 t)) (id_text from.1) walked)
+    (λ (from : Row × Datum). some_walked_from w es (λ t. prune (path_row db w from.0 t)) (id_text from.1))
     (zip rows starts) in
     (with_paths db w rows paths.0, (paths.0, paths.1, IsPermutation-refl _))
 
 module _ (db : Database) where
   abbrev mutual
-    pub some_value : (e : ExprTree) (cur : Tree) (row : Row) → (v : Tree) × Ev db e cur row v
+    pub some_value : (e : ExprTree) (cur : Datum) (row : Row) → (v : Datum) × Evaluates db e cur row v
     some_value (literal t) cur row = (t, refl)
     some_value (variable x) cur row = (value_at row x, refl)
     some_value current cur row = (cur, refl)
-    some_value (listed es) cur row = let x = some_values es cur row in (list x.0, (x.0, x.1, refl))
-    some_value (made ms) cur row = let x = some_members ms cur row in (object_literal x.0, (x.0, x.1, refl))
+    some_value (array_literal es) cur row = let x = some_values es cur row in (list x.0, (x.0, x.1, refl))
+    some_value (object_literal ms) cur row =
+        let x = some_members ms cur row in (object_value x.0, (x.0, x.1, refl))
     some_value (access e ss) cur row =
         let x = some_value e cur row in
         let y = some_step ss cur row x.0 in
         (y.0, (x.0, x.1, y.1))
-    some_value (called name es) cur row =
+    some_value (function_call name es) cur row =
         let x = some_values es cur row in
         (call_named name x.0, (x.0, x.1, refl))
     some_value (unary_of op e) cur row = let x = some_value e cur row in (unary op x.0, (x.0, x.1, refl))
@@ -109,13 +110,14 @@ module _ (db : Database) where
         let x = some_value e cur row in
         let y = some_link ls cur row x.0 in
         (y.0, (x.0, x.1, y.1))
-    some_value (quantified e kind op f) cur row =
+    some_value (array_comparison e kind op f) cur row =
         let x = some_value e cur row in
         let y = some_value f cur row in
         (quantify kind op x.0 y.0, (x.0, y.0, x.1, y.1, refl))
-    some_value (choice t y n) cur row =
+    some_value (ternary t y n) cur row =
         let x = some_value t cur row in
-        let z = pick (truth x.0) (EvOr db y cur row x.0) (Ev db n cur row) (some_or y cur row x.0)
+        let z = pick (truth x.0) (EvaluatesOr db y cur row x.0) (Evaluates db n cur row)
+        (some_or y cur row x.0)
         (some_value n cur row) in
         (z.0, (x.0, x.1, z.1))
     some_value (range_of e f) cur row =
@@ -124,19 +126,21 @@ module _ (db : Database) where
         (range (to_number x.0) (to_number y.0), (x.0, y.0, x.1, y.1, refl))
     some_value (subquery q) cur row = let x = some_answer q row in (list x.0, (x.0, x.1, refl))
 
-    pub some_values : (es : ExprTrees) (cur : Tree) (row : Row) → (vs : List Tree) × EvAll db es cur row vs
+    pub some_values : (es : ExprTrees) (cur : Datum) (row : Row) → (vs : List Datum)
+        × EvaluatesAll db es cur row vs
     some_values no_exprs cur row = ([], tt)
     some_values (expr_then e es) cur row =
         let x = some_value e cur row in
         let y = some_values es cur row in
         (x.0 ∷ y.0, (x.1, y.1))
 
-    some_or : (m : MaybeExpr) (cur : Tree) (row : Row) (d : Tree) → (v : Tree) × EvOr db m cur row d v
+    some_or : (m : MaybeExpr) (cur : Datum) (row : Row) (d : Datum) → (v : Datum)
+        × EvaluatesOr db m cur row d v
     some_or no_expr cur row d = (d, refl)
     some_or (one_expr e) cur row d = some_value e cur row
 
-    some_members : (ms : MemberTrees) (cur : Tree) (row : Row)
-        → (fs : List (List ℕ × Tree)) × EvMembers db ms cur row fs
+    some_members : (ms : MemberTrees) (cur : Datum) (row : Row)
+        → (fs : List (List ℕ × Datum)) × EvaluatesMembers db ms cur row fs
     some_members no_members cur row = ([], tt)
     some_members (named_then name e ms) cur row =
         let x = some_value e cur row in
@@ -148,80 +152,84 @@ module _ (db : Database) where
         let y = some_members ms cur row in
         ((to_text k.0, x.0) ∷ y.0, (k.0, k.1, refl, x.1, y.1))
 
-    some_step : (ss : StepTrees) (cur : Tree) (row : Row) (d : Tree) → (v : Tree) × EvSteps db ss cur row d v
+    some_step : (ss : StepTrees) (cur : Datum) (row : Row) (d : Datum) → (v : Datum)
+        × EvaluatesSteps db ss cur row d v
     some_step no_steps cur row d = (d, refl)
     some_step (name_then name ss) cur row d = some_step ss cur row (at_name d name)
     some_step (at_then e ss) cur row d =
         let x = some_value e cur row in
         let y = some_step ss cur row (at_value d x.0) in
         (y.0, (x.0, x.1, y.1))
-    some_step (each_then f p ss) cur row d =
-        let tests = all_some (λ c b. EvOr db f c row (boolean true) b) (λ c. some_or f c row (boolean true))
+    some_step (inline_then f p ss) cur row d =
+        let tests = all_some (λ c b. EvaluatesOr db f c row (boolean true) b)
+        (λ c. some_or f c row (boolean true))
         (elements d) in
-        let given = all_some (λ c w. EvOr db p c row c w) (λ c. some_or p c row c)
-        (kept (elements d) tests.0) in
-        let ends = all_some (λ w u. EvSteps db ss cur row w u) (λ w. some_step ss cur row w) given.0 in
+        let given = all_some (λ c w. EvaluatesOr db p c row c w) (λ c. some_or p c row c)
+        (filter_true (elements d) tests.0) in
+        let ends = all_some (λ w u. EvaluatesSteps db ss cur row w u) (λ w. some_step ss cur row w) given.0 in
         (list ends.0, (tests.0, given.0, ends.0, tests.1, given.1, ends.1, refl))
 
-    some_link : (ls : LinkTrees) (cur : Tree) (row : Row) (a : Tree) → (v : Tree) × EvLinks db ls cur row a v
+    some_link : (ls : LinkTrees) (cur : Datum) (row : Row) (a : Datum) → (v : Datum)
+        × EvaluatesLinks db ls cur row a v
     some_link no_links cur row a = (a, refl)
     some_link (link_then op e ls) cur row a =
-        let x = some_linked op (Ev db e cur row) (some_value e cur row) a in
+        let x = some_linked op (Evaluates db e cur row) (some_value e cur row) a in
         let y = some_link ls cur row x.0 in
         (y.0, (x.0, x.1, y.1))
 
-    some_arguments : (gs : AggregateTrees) (row : Row) → (vs : List Tree) × EvArguments db gs row vs
+    some_arguments : (gs : AggregateTrees) (row : Row) → (vs : List Datum) × EvaluatesArguments db gs row vs
     some_arguments no_aggregates row = ([], tt)
     some_arguments (aggregate_then y' name e gs) row =
         let x = some_or e null row null in
         let y = some_arguments gs row in
         (x.0 ∷ y.0, (x.1, y.1))
 
-    some_taken : (i : IntoTree) (vars : List Ident) (row : Row) → (v : Tree) × EvTaken db i vars row v
+    some_taken : (i : IntoTree) (vars : List Ident) (row : Row) → (v : Datum) × EvaluatesInto db i vars row v
     some_taken no_into vars row = (null, refl)
     some_taken (into x what keep) vars row = some_or what null row (variables_object vars keep row)
 
     some_change : (c : ClauseTree) (start : Row) (vars : List Ident) (rows : List Row)
         → (out : List Row) × Changes db c start vars rows out
     some_change (for_each x e) start vars rows =
-        by (collection_meant e start vars) (all_some (Ev db e null) (some_value e null) rows)
+        by (collection_meant e start vars) (all_some (Evaluates db e null) (some_value e null) rows)
       where
-        by : (m : Option (List ℕ)) → ((vs : List Tree) × AllZip (Ev db e null) rows vs)
+        by : (m : Option (List ℕ)) → ((vs : List Datum) × AllZip (Evaluates db e null) rows vs)
             → (out : List Row) × MatchOption m
-            ((vs : List Tree) × AllZip (Ev db e null) rows vs × (out ≡ with_elements x rows vs))
+            ((vs : List Datum) × AllZip (Evaluates db e null) rows vs × (out ≡ with_elements x rows vs))
             (λ name. IsPermutation (with_documents x (documents_named db name) rows) out)
         by None vs = (with_elements x rows vs.0, (vs.0, vs.1, refl))
         by (Some name) vs = (with_documents x (documents_named db name) rows, IsPermutation-refl _)
     some_change (for_documents x name) start vars rows =
         (with_documents x (documents_named db name) rows, IsPermutation-refl _)
-    some_change (for_paths w e names prune settings) start vars rows =
-        let vs = all_some (Ev db e null) (some_value e null) rows in
-        let x = some_walked db (with_settings settings w) (edges_named db names)
+    some_change (traversal w e names prune settings) start vars rows =
+        let vs = all_some (Evaluates db e null) (some_value e null) rows in
+        let x = some_traversal db (with_settings settings w) (edges_named db names)
         (λ row. truth (value_or prune null row (boolean false))) rows vs.0 in
         (x.0, (vs.0, vs.1, x.1))
-    some_change (keep_if e) start vars rows =
-        let vs = all_some (Ev db e null) (some_value e null) rows in
-        (kept rows vs.0, (vs.0, vs.1, refl))
-    some_change (define x e) start vars rows =
-        let vs = all_some (Ev db e null) (some_value e null) rows in
-        (bound x rows vs.0, (vs.0, vs.1, refl))
+    some_change (filter_by e) start vars rows =
+        let vs = all_some (Evaluates db e null) (some_value e null) rows in
+        (filter_true rows vs.0, (vs.0, vs.1, refl))
+    some_change (let_be x e) start vars rows =
+        let vs = all_some (Evaluates db e null) (some_value e null) rows in
+        (with_values x rows vs.0, (vs.0, vs.1, refl))
     some_change (sort_by directions es) start vars rows =
-        let keys = all_some (EvAll db es null) (some_values es null) rows in
-        let x = some_sorted directions keys.0 rows in
+        let keys = all_some (EvaluatesAll db es null) (some_values es null) rows in
+        let x = some_sort directions keys.0 rows in
         (x.0, (keys.0, keys.1, x.1))
-    some_change (limit offset count) start vars rows = (limited offset count rows, refl)
+    some_change (limit offset count) start vars rows = (limit_rows offset count rows, refl)
     some_change (collect xs es gs i) start vars rows =
         let members = all_some
-        (λ row member. IsMember (EvAll db es null row) (EvArguments db gs row) (EvTaken db i vars row) member)
+        (λ row member. IsMember (EvaluatesAll db es null row) (EvaluatesArguments db gs row)
+        (EvaluatesInto db i vars row) member)
         (λ row.
         let a = some_values es null row in
         let b = some_arguments gs row in
         let t = some_taken i vars row in (
-          record { criteria = a.0; arguments = b.0; taken = t.0 },
-          record { criteria = a.1; arguments = b.1; taken = t.1 },
+          record { criteria = a.0; arguments = b.0; into_value = t.0 },
+          record { criteria = a.1; arguments = b.1; into_value = t.1 },
         ))
         rows in
-        let x = some_collected xs (aggregate_vars gs) (aggregate_functions gs) (into_var i) start members.0 in
+        let x = some_collect xs (aggregate_vars gs) (aggregate_functions gs) (into_var i) start members.0 in
         (x.0, (members.0, members.1, x.1))
 
     pub some_rows : (cs : ClauseTrees) (start : Row) (vars : List Ident) (rows : List Row)
@@ -232,8 +240,8 @@ module _ (db : Database) where
         let y = some_rows cs start (vars_after c vars) x.0 in
         (y.0, (x.0, x.1, y.1))
 
-    pub some_answer : (q : QueryTree) (start : Row) → (out : List Tree) × Answer db q start out
+    pub some_answer : (q : QueryTree) (start : Row) → (out : List Datum) × IsAnswer db q start out
     some_answer (query with cs distinct e) start =
         let x = some_rows cs start [] (start ∷ []) in
-        let vs = all_some (Ev db e null) (some_value e null) x.0 in
-        (returned distinct vs.0, (x.0, vs.0, x.1, vs.1, refl))
+        let vs = all_some (Evaluates db e null) (some_value e null) x.0 in
+        (return_values distinct vs.0, (x.0, vs.0, x.1, vs.1, refl))

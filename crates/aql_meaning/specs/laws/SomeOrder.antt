@@ -6,7 +6,7 @@ use Rattle.std.specs.Cmp.Derive.{point_total}
 use Rattle.std.specs.List.Sorted.{IsPermutation, IsSortedBy}
 use Rattle.std.proofs.lemmas.Cmp.{on_total, then_total, back_total}
 use Rattle.std.proofs.lemmas.List.Sorted.{ranks_by, IsPermutation-refl, IsPermutation-cons, IsPermutation-trans, IsPermutation-swap}
-use Rattle.aql_value.specs.Tree.{Tree}
+use Rattle.aql_value.specs.Datum.{Datum}
 use Rattle.aql_value.specs.laws.Strict.{compare_total}
 use Rattle.aql_func.specs.Arguments.{argument}
 use Rattle.aql_meaning.specs.Clauses.{key_cmp, keys_cmp}
@@ -91,13 +91,13 @@ keys_total (descending ∷ directions) =
     then_total (on_total (λ keys. argument keys 0) (key_total descending))
     (on_total (drop 1) (keys_total directions))
 
-abbrev pub keys_below : {X : Type 0} → List Bool → (X → List Tree) → X → X → Bool
+abbrev pub keys_below : {X : Type 0} → List Bool → (X → List Datum) → X → X → Bool
 keys_below directions keys a b = is_lt (keys_cmp directions (keys a) (keys b))
 
-pub keyed_order : {X : Type 0} (directions : List Bool) (keys : X → List Tree)
+pub keyed_order : {X : Type 0} (directions : List Bool) (keys : X → List Datum)
     → IsStrictWeakOrder (keys_below directions keys)
 keyed_order directions keys = ranks_by (keys_total directions) keys
 
-abbrev pub some_order : {X : Type 0} (directions : List Bool) (keys : X → List Tree) (xs : List X)
+abbrev pub some_order : {X : Type 0} (directions : List Bool) (keys : X → List Datum) (xs : List X)
     → (ys : List X) × IsPermutation xs ys × IsSortedBy (keys_below directions keys) ys
 some_order directions keys xs = sorted_exists (keys_below directions keys) (keyed_order directions keys) xs

@@ -1,26 +1,26 @@
 -- Worked queries: FOR, SORT, LIMIT, COLLECT and RETURN, each with what it prints.
 use Rattle.std.specs.Prelude.{ℕ, negsuc, [], ◌∷◌, true, false, Some, None, codes}
 use Prim.Native.String.{String}
-use Rattle.aql_value.specs.Tree.{number, null}
+use Rattle.aql_value.specs.Datum.{number, null}
 use Rattle.aql_value.specs.Parts.{list, record_of}
 use Rattle.aql_value.specs.Database.{Database}
-use Rattle.aql_tree.specs.Tree.{ExprTree, subquery, range_of, keep_if, limit, ClauseTree, QueryTree}
-use Rattle.aql_tree.specs.Made as made
-use Rattle.aql_tree.specs.View.{sort, grouped, at}
+use Rattle.aql_tree.specs.Tree.{ExprTree, subquery, range_of, filter_by, limit, ClauseTree, QueryTree}
+use Rattle.aql_tree.specs.Build as build
+use Rattle.aql_tree.specs.View.{sort, collect_clause, at}
 use Rattle.aql_meaning.specs.worked.Words.{num, str, attr, document, collection, int, var, dot, fn, for, set, agg, returning, Answers, AnswersInAnyOrder}
 use Rattle.aql_meaning.specs.worked.Expressions.{items, nothing}
 
 -- `COLLECT WITH COUNT INTO n`
 abbrev pub count_into : String → ClauseTree
-count_into n = grouped ([], agg n "LENGTH" None ∷ [], None)
+count_into n = collect_clause ([], agg n "LENGTH" None ∷ [], None)
 
 -- `COLLECT AGGREGATE s = SUM(e)`
 abbrev pub sum_into : String → ExprTree → ClauseTree
-sum_into s e = grouped ([], agg s "SUM" (Some e) ∷ [], None)
+sum_into s e = collect_clause ([], agg s "SUM" (Some e) ∷ [], None)
 
 -- `x[n]`
 abbrev pub place : String → ℕ → ExprTree
-place x n = made.stepped (var x) (at (int n)) []
+place x n = build.with_steps (var x) (at (int n)) []
 
 -- `[m, n]`
 abbrev pub pair : ℕ → ℕ → ExprTree
@@ -102,7 +102,8 @@ pub record WorkedClauses : Type 0 where
   pub each_document : AnswersInAnyOrder two keys_of_c (str "a" ∷ str "b" ∷ [])
   -- FOR x IN [1, null, 2, 0] FILTER x RETURN x
   pub true_like_kept : Answers []
-      (returning (for "x" (items (int 1 ∷ nothing ∷ int 2 ∷ int 0 ∷ [])) ∷ keep_if (var "x") ∷ []) (var "x"))
+      (returning (for "x" (items (int 1 ∷ nothing ∷ int 2 ∷ int 0 ∷ [])) ∷ filter_by (var "x") ∷ [])
+      (var "x"))
       (num 1 ∷ num 2 ∷ [])
   -- FOR x IN [[1,1],[1,2]] SORT x[0], x[1] DESC RETURN x[1]
   pub second_key : Answers []
@@ -115,17 +116,17 @@ pub record WorkedClauses : Type 0 where
       (var "x")) []
   -- FOR x IN [1, 1, null, {}.a] RETURN DISTINCT x
   pub distinct_in_row_order : Answers []
-      (made.query [] (for "x" (items (int 1 ∷ int 1 ∷ nothing ∷ dot (made.object []) "a" ∷ [])) ∷ []) true
+      (build.query [] (for "x" (items (int 1 ∷ int 1 ∷ nothing ∷ dot (build.object []) "a" ∷ [])) ∷ []) true
       (var "x"))
       (num 1 ∷ null ∷ [])
   -- FOR x IN [2,1,2] RETURN DISTINCT x
   pub distinct_keeps_the_first : Answers []
-      (made.query [] (for "x" (items (int 2 ∷ int 1 ∷ int 2 ∷ [])) ∷ []) true (var "x")) (num 2 ∷ num 1 ∷ [])
+      (build.query [] (for "x" (items (int 2 ∷ int 1 ∷ int 2 ∷ [])) ∷ []) true (var "x")) (num 2 ∷ num 1 ∷ [])
   -- FOR d IN c COLLECT g = d.g AGGREGATE k = COUNT(), s = SUM(d.n), m = MAX(d.n) RETURN [g,k,s,m]
   pub three_aggregates : Answers groups
       (returning (for "d" (var "c")
-      ∷ grouped (
-        made.assigned (codes "g") (dot (var "d") "g") ∷ [],
+      ∷ collect_clause (
+        build.assignment (codes "g") (dot (var "d") "g") ∷ [],
         agg "k" "COUNT" None ∷ agg "s" "SUM" (Some (dot (var "d") "n")) ∷ agg "m" "MAX"
             (Some (dot (var "d") "n")) ∷ [],
         None,
@@ -135,29 +136,29 @@ pub record WorkedClauses : Type 0 where
   -- FOR x IN [3,1] COLLECT INTO g = x RETURN SORTED(g)
   pub into_alone : Answers []
       (returning (for "x" (items (int 3 ∷ int 1 ∷ []))
-      ∷ grouped ([], [], Some (made.into (codes "g") (Some (var "x")) [])) ∷ [])
+      ∷ collect_clause ([], [], Some (build.collect_into (codes "g") (Some (var "x")) [])) ∷ [])
       (fn "SORTED" (var "g" ∷ [])))
       (list (num 1 ∷ num 3 ∷ []) ∷ [])
   -- FOR x IN [3] LET y = 4 COLLECT INTO g RETURN g, and INTO g KEEP y
   pub into_all_variables : Answers []
       (returning (for "x" (items (int 3 ∷ [])) ∷ set "y" (int 4)
-      ∷ grouped ([], [], Some (made.into (codes "g") None [])) ∷ []) (var "g"))
+      ∷ collect_clause ([], [], Some (build.collect_into (codes "g") None [])) ∷ []) (var "g"))
       (list (record_of (attr "x" (num 3) ∷ attr "y" (num 4) ∷ []) ∷ []) ∷ [])
   pub into_kept_variables : Answers []
       (returning (for "x" (items (int 3 ∷ [])) ∷ set "y" (int 4)
-      ∷ grouped ([], [], Some (made.into (codes "g") None (codes "y" ∷ []))) ∷ []) (var "g"))
+      ∷ collect_clause ([], [], Some (build.collect_into (codes "g") None (codes "y" ∷ []))) ∷ []) (var "g"))
       (list (record_of (attr "y" (num 4) ∷ []) ∷ []) ∷ [])
   -- FOR x IN [2,1,2] COLLECT k = x WITH COUNT INTO n RETURN [k, n]
   pub counted_by_class : Answers []
       (returning (for "x" (items (int 2 ∷ int 1 ∷ int 2 ∷ []))
-      ∷ grouped (made.assigned (codes "k") (var "x") ∷ [], agg "n" "LENGTH" None ∷ [], None) ∷ [])
+      ∷ collect_clause (build.assignment (codes "k") (var "x") ∷ [], agg "n" "LENGTH" None ∷ [], None) ∷ [])
       (items (var "k" ∷ var "n" ∷ [])))
       (list (num 1 ∷ num 1 ∷ []) ∷ list (num 2 ∷ num 2 ∷ []) ∷ [])
   -- FOR x IN [[2,1],[1,2],[1,1],[1,2]] COLLECT a = x[0], b = x[1] WITH COUNT INTO n RETURN [a, b, n]
   pub two_criteria : Answers []
       (returning (for "x" (items (pair 2 1 ∷ pair 1 2 ∷ pair 1 1 ∷ pair 1 2 ∷ []))
-      ∷ grouped (
-        made.assigned (codes "a") (place "x" 0) ∷ made.assigned (codes "b") (place "x" 1) ∷ [],
+      ∷ collect_clause (
+        build.assignment (codes "a") (place "x" 0) ∷ build.assignment (codes "b") (place "x" 1) ∷ [],
         agg "n" "LENGTH" None ∷ [],
         None,
       ) ∷ [])
@@ -167,12 +168,12 @@ pub record WorkedClauses : Type 0 where
   -- FOR x IN [1, null, 1] COLLECT AGGREGATE n = COUNT_DISTINCT(x) RETURN n
   pub null_counts_as_distinct : Answers []
       (returning (for "x" (items (int 1 ∷ nothing ∷ int 1 ∷ []))
-      ∷ grouped ([], agg "n" "COUNT_DISTINCT" (Some (var "x")) ∷ [], None) ∷ []) (var "n"))
+      ∷ collect_clause ([], agg "n" "COUNT_DISTINCT" (Some (var "x")) ∷ [], None) ∷ []) (var "n"))
       (num 2 ∷ [])
   -- FOR x IN [] COLLECT AGGREGATE s = SUM(x), m = MIN(x), u = SORTED_UNIQUE(x) RETURN [s, m, u]
   pub over_nothing : Answers []
       (returning (for "x" (items [])
-      ∷ grouped (
+      ∷ collect_clause (
         [],
         agg "s" "SUM" (Some (var "x")) ∷ agg "m" "MIN" (Some (var "x"))
             ∷ agg "u" "SORTED_UNIQUE" (Some (var "x")) ∷ [],

@@ -2,7 +2,7 @@
 use Rattle.std.proofs.Common.{◌≡◌, ◌∙◌, ℕ, List, [], ◌∷◌, ◌++◌, Bool, true, false, cond, refl, sym, subst}
 use Rattle.std.specs.Prelude.{Option, Some, unwrap_or, option_to_list}
 use Rattle.std.specs.List.{AllZip, AllByRecursion}
-use Rattle.aql_value.specs.Tree.{Tree, null}
+use Rattle.aql_value.specs.Datum.{Datum, null}
 use Rattle.aql_value.specs.Parts.{at_name}
 use Rattle.aql_tree.specs.declared.syntax.Ident.{Ident}
 use Rattle.aql_meaning.specs.Row.{Row, empty_row, bind, same_ident}
@@ -26,7 +26,7 @@ agree_self [] r = tt
 agree_self (Whole x ∷ us) r = (refl, agree_self us r)
 agree_self (Part x name ∷ us) r = (refl, agree_self us r)
 
-agree_at_bind : (u : Use) (x : Ident) (r s : Row) (v : Tree) → AgreeAt u r s
+agree_at_bind : (u : Use) (x : Ident) (r s : Row) (v : Datum) → AgreeAt u r s
     → AgreeAt u (bind x r v) (bind x s v)
 agree_at_bind (Whole y) x r s v h = by (same_ident x y)
   where
@@ -41,7 +41,7 @@ agree_at_bind (Part y name) x r s v h = by (same_ident x y)
     by true = refl
     by false = h
 
-pub agree_bind : (us : Uses) (x : Ident) (r s : Row) (v : Tree) → Agree us r s
+pub agree_bind : (us : Uses) (x : Ident) (r s : Row) (v : Datum) → Agree us r s
     → Agree us (bind x r v) (bind x s v)
 agree_bind [] x r s v h = tt
 agree_bind (u ∷ us) x r s v h = (agree_at_bind u x r s v h.0, agree_bind us x r s v h.1)
@@ -117,7 +117,7 @@ pub gives_agree : (n : Node) (us : Uses) (w : World) (k l : Place) (start : Row)
     → (more : List Row) × Gives n w l start others more × AllZip (Agree us) out more
 gives_agree n us w k l start reads rows others out h g =
     gives_alike (λ e. e) Any Agree agreement tt n (node_clear n) us w k l start start
-        (starts n) reads rows others out h
+    (starts n) reads rows others out h
     (subst (λ (m : Node). Gives m w k start rows out) (sym (node_same n)) g)
   where
     starts : (n : Node) → StartsAlike (λ e. e) Any Agree agreement tt us n start start

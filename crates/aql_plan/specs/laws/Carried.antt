@@ -3,7 +3,7 @@
 use Rattle.std.proofs.Common.{◌≡◌, ◌∙◌, List, [], ◌∷◌, ◌++◌, map, Bool, true, false, refl, ap, ap₂, subst}
 use Rattle.std.specs.Prelude.{Option, Some, None, option_map, option_to_list}
 use Rattle.std.specs.List.{AllZip, AllByRecursion}
-use Rattle.aql_value.specs.Tree.{Tree, null, boolean}
+use Rattle.aql_value.specs.Datum.{Datum, null, boolean}
 use Rattle.aql_value.specs.Truth.{truth}
 use Rattle.aql_tree.specs.declared.syntax.Ident.{Ident}
 use Rattle.aql_tree.specs.Tree.{ExprTree, ExprTrees, no_exprs, expr_then, MaybeExpr, no_expr, one_expr, AggregateTrees, no_aggregates, aggregate_then, IntoTree, no_into, into}
@@ -27,7 +27,7 @@ pub record Carries (f : ExprTree → ExprTree) (Free : Ident → Type 0) (S : Us
     → Type 0) : Type 0 where
   pub parts : (us vs : Uses) (r s : Row) → S (us ++ vs) r s → S us r s × S vs r s
   pub join : (us vs : Uses) (r s : Row) → S us r s → S vs r s → S (us ++ vs) r s
-  pub binds : (us : Uses) (x : Ident) (r s : Row) (v : Tree) → Free x → S us r s
+  pub binds : (us : Uses) (x : Ident) (r s : Row) (v : Datum) → Free x → S us r s
       → S us (bind x r v) (bind x s v)
   pub gives : (e : ExprTree) (r s : Row) → S (uses e) r s → value (f e) null r ≡ value e null s
   pub whole : (x : Ident) (r s : Row) → Free x → S (Whole x ∷ []) r s → value_at r x ≡ value_at s x
@@ -42,17 +42,17 @@ module _ (f : ExprTree → ExprTree) (Free : Ident → Type 0) (S : Uses → Row
     (carry : Carries f Free S) where
   -- ---- values
 
-  pub binds_to : (us : Uses) (x : Ident) (r s : Row) (v w : Tree) → Free x → v ≡ w → S us r s
+  pub binds_to : (us : Uses) (x : Ident) (r s : Row) (v w : Datum) → Free x → v ≡ w → S us r s
       → S us (bind x r v) (bind x s w)
   binds_to us x r s v w free e h =
-      subst (λ (u : Tree). S us (bind x r v) (bind x s u)) e (carry.binds us x r s v free h)
+      subst (λ (u : Datum). S us (bind x r v) (bind x s u)) e (carry.binds us x r s v free h)
 
-  pub binds_maybe : (us : Uses) (x : Option Ident) (r s : Row) (v : Tree)
+  pub binds_maybe : (us : Uses) (x : Option Ident) (r s : Row) (v : Datum)
       → AllByRecursion Free (option_to_list x) → S us r s → S us (bind_maybe x r v) (bind_maybe x s v)
   binds_maybe us None r s v free h = h
   binds_maybe us (Some x) r s v free h = carry.binds us x r s v free.0 h
 
-  pub binds_all : (us : Uses) (xs : List Ident) (vs : List Tree) (r s : Row)
+  pub binds_all : (us : Uses) (xs : List Ident) (vs : List Datum) (r s : Row)
       → AllByRecursion Free xs → S us r s → S us (bind_all xs vs r) (bind_all xs vs s)
   binds_all us [] vs r s free h = h
   binds_all us (x ∷ xs) [] r s free h = binds_all us xs [] (bind x r null) (bind x s null) free.1
@@ -67,7 +67,7 @@ module _ (f : ExprTree → ExprTree) (Free : Ident → Type 0) (S : Uses → Row
       let k = carry.parts (uses e) (all_uses es) r s h in
       ap₂ (λ v vs. v ∷ vs) (carry.gives e r s k.0) (keys_carried es r s k.1)
 
-  pub or_carried : (e : MaybeExpr) (d : Tree) (r s : Row) → S (maybe_uses e) r s
+  pub or_carried : (e : MaybeExpr) (d : Datum) (r s : Row) → S (maybe_uses e) r s
       → value_or (map_maybe f e) null r d ≡ value_or e null s d
   or_carried no_expr d r s h = refl
   or_carried (one_expr e) d r s h = carry.gives e r s h
@@ -80,11 +80,12 @@ module _ (f : ExprTree → ExprTree) (Free : Ident → Type 0) (S : Uses → Row
       → stops (map_maybe f e) r ≡ stops e s
   stops_carried e r s h = ap truth (or_carried e (boolean false) r s h)
 
-  abbrev ending : Tree → Bool → End Tree
+  abbrev ending : Datum → Bool → End Datum
   ending v inclusive = record { limit = v; inclusive = inclusive }
 
   end_carried : (e : Option (End ExprTree)) (r s : Row) → S (end_uses e) r s
-      → option_map (end_map (λ g. value_of g r)) (option_map (end_map f) e) ≡ option_map (end_map (λ g. value_of g s)) e
+      → option_map (end_map (λ g. value_of g r)) (option_map (end_map f) e)
+      ≡ option_map (end_map (λ g. value_of g s)) e
   end_carried None r s h = refl
   end_carried (Some e) r s h =
       ap (λ v. Some (ending v e.inclusive)) (carry.gives e.limit r s h)
@@ -117,8 +118,8 @@ module _ (f : ExprTree → ExprTree) (Free : Ident → Type 0) (S : Uses → Row
 
   -- ---- what a Collect sees of a row
 
-  abbrev member : List Tree → List Tree → Tree → Member
-  member criteria arguments taken = record { criteria = criteria; arguments = arguments; taken = taken }
+  abbrev member : List Datum → List Datum → Datum → Member
+  member criteria arguments taken = record { criteria = criteria; arguments = arguments; into_value = taken }
 
   evaluated : (xs : List Ident) (es : ExprTrees) (gs : AggregateTrees) (i : IntoTree) (r s : Row)
       → S (all_uses es ++ (aggregate_uses gs ++ into_uses i)) r s
@@ -128,7 +129,7 @@ module _ (f : ExprTree → ExprTree) (Free : Ident → Type 0) (S : Uses → Row
       let k = carry.parts (all_uses es) (aggregate_uses gs ++ into_uses i) r s h in
       let l = carry.parts (aggregate_uses gs) (into_uses i) r s k.1 in
       ap₂ (λ c a. member c a (taken_at (map_into f i) r)) (keys_carried es r s k.0)
-          (arguments_carried gs r s l.0)
+      (arguments_carried gs r s l.0)
       ∙ ap (member (keys_of es s) (arguments_at gs s)) (taken_carried i r s l.1)
 
   pub member_carried : (s : Stage) (xs : List Ident) (es : ExprTrees) (gs : AggregateTrees) (i : IntoTree)

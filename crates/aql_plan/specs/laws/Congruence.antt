@@ -1,10 +1,10 @@
--- A part of a plan may be replaced by one that refines it for what the nodes above use: below any node, in the
--- body of a subquery, and below the foot of a fragment.
+-- A part of a plan may be replaced by one that refines it for what the nodes above use: below any node, in
+-- the body of a subquery, and below the foot of a fragment.
 use Rattle.std.proofs.Common.{◌≡◌, ◌∙◌, ℕ, List, [], ◌∷◌, ◌++◌, map, Bool, true, false, refl, ap, ap₂, sym, subst}
 use Rattle.std.specs.Prelude.{Option, Some, None, ◌==◌}
 use Rattle.std.specs.Ordering.{is_lt}
 use Rattle.std.specs.List.{AllZip}
-use Rattle.aql_value.specs.Tree.{null}
+use Rattle.aql_value.specs.Datum.{null}
 use Rattle.aql_value.specs.Parts.{list}
 use Rattle.aql_value.specs.Database.{Database}
 use Rattle.aql_tree.specs.declared.syntax.Ident.{Ident}
@@ -60,7 +60,7 @@ refines_below (Gather directions es) plain us facts q p h db meets start out g =
 refines_below n plain us facts q p h db meets start out g =
     let a = h db meets start g.0 g.1 in
     let b = gives_agree n us (world facts db) Outside Outside start
-        (λ coll shard. refl) g.0 a.0 out a.2 g.2 in
+    (λ coll shard. refl) g.0 a.0 out a.2 g.2 in
     (b.0, (a.0, a.1, b.1), b.2)
 
 -- a body needs no more than to give the same values
@@ -227,7 +227,7 @@ pub stands_anywhere : (ns : List Node) (us : Uses) (facts : Facts) (q p : Plan)
 stands_anywhere [] us facts q p h = h
 stands_anywhere (n ∷ ns) us facts q p h =
     stands_anywhere ns us facts (Over q n) (Over p n)
-        (stands_below n (stands_inside ns) (uses_above ns us) facts q p h)
+    (stands_below n (stands_inside ns) (uses_above ns us) facts q p h)
 
 pub refines_anywhere : (ns : List Node) → stands_inside ns ≡ false → (us : Uses) (facts : Facts) (q p : Plan)
     → RefinesFor (uses_above ns us) facts q p → RefinesFor us facts (raised q ns) (raised p ns)

@@ -2,7 +2,7 @@
 use Rattle.std.proofs.Common.{◌≡◌, ◌∙◌, ℕ, suc, List, [], ◌∷◌, ◌++◌, map, Bool, true, false, true≢false, cond, refl, ap, ap₂, sym, subst}
 use Rattle.std.specs.Prelude.{Option, None, MatchOption, filter, flat_map, bytes_eq, IsPermutation, ◌&&◌}
 use Rattle.std.specs.List.{AllZip}
-use Rattle.aql_value.specs.Tree.{Tree, null}
+use Rattle.aql_value.specs.Datum.{Datum, null}
 use Rattle.aql_value.specs.Parts.{list}
 use Rattle.aql_value.specs.Truth.{truth}
 use Rattle.aql_value.specs.Database.{Database, documents_named, documents_of}
@@ -10,16 +10,16 @@ use Rattle.aql_func.specs.declared.operators.BinOp.TheVariants.{And}
 use Rattle.aql_func.specs.Operators.{binary}
 use Rattle.aql_tree.specs.declared.syntax.Ident.{Ident}
 use Rattle.aql_tree.specs.declared.syntax.Ident.TheVariants.{Name, Num}
-use Rattle.aql_tree.specs.Tree.{ExprTree, variable, chain, subquery, ExprTrees, no_exprs, expr_then, MaybeExpr, no_expr, one_expr, no_members, named_then, computed_then, LinkTrees, no_links, link_then, ClauseTree, for_each, for_documents, for_paths, keep_if, define, sort_by, limit, collect, AggregateTrees, no_aggregates, aggregate_then, IntoTree, no_into, into, ClauseTrees, no_clauses, clause_then, QueryTree, query}
+use Rattle.aql_tree.specs.Tree.{ExprTree, variable, chain, subquery, ExprTrees, no_exprs, expr_then, MaybeExpr, no_expr, one_expr, no_members, named_then, computed_then, LinkTrees, no_links, link_then, ClauseTree, for_each, for_documents, traversal, filter_by, let_be, sort_by, limit, collect, AggregateTrees, no_aggregates, aggregate_then, IntoTree, no_into, into, ClauseTrees, no_clauses, clause_then, QueryTree, query}
 use Rattle.aql_meaning.specs.Row.{Row, bind}
-use Rattle.aql_meaning.specs.Value.{value, value_or, linked}
-use Rattle.aql_meaning.specs.Clauses.{with_each, with_elements, with_documents, kept, bound, returned, Sorted}
+use Rattle.aql_meaning.specs.Value.{value, value_or, links_value}
+use Rattle.aql_meaning.specs.Clauses.{with_each, with_elements, with_documents, filter_true, with_values, return_values, Sorts}
 use Rattle.aql_meaning.specs.Groups.{Member, IsMember}
-use Rattle.aql_meaning.specs.Paths.{Walked}
+use Rattle.aql_meaning.specs.Paths.{Traverses}
 use Rattle.aql_meaning.specs.Visible.{vars_after, collection_meant, edges_named, each_once}
 use Rattle.aql_meaning.specs.Plain.{IsPlain, AllPlain, MaybePlain}
 use Rattle.aql_meaning.specs.Lifted.{IsNoName, AggregatesPlain, IntoPlain, ClauseLifted, ClausesLifted, IsLifted}
-use Rattle.aql_meaning.specs.Meaning.{Ev, EvAll, EvOr, EvArguments, EvTaken, Changes, Through, Answer}
+use Rattle.aql_meaning.specs.Meaning.{Evaluates, EvaluatesAll, EvaluatesOr, EvaluatesArguments, EvaluatesInto, Changes, Through, IsAnswer}
 use Rattle.aql_meaning.specs.laws.OneValue.{has_value}
 use Rattle.aql_meaning.specs.declared.grouping.Stage.TheVariants.{Whole}
 use Rattle.aql_meaning.specs.Documents.{projection, documents_kept}
@@ -40,15 +40,16 @@ all_pass [] = refl
 all_pass (x ∷ xs) = ap (λ ys. x ∷ ys) (all_pass xs)
 
 -- each document passes where there is no filter, and is kept whole
-all_kept : (documents : List Tree) → map (projection None) (filter (λ d. true) documents) ≡ documents
+all_kept : (documents : List Datum) → map (projection None) (filter (λ d. true) documents) ≡ documents
 all_kept [] = refl
 all_kept (d ∷ documents) = ap (λ ds. d ∷ ds) (all_kept documents)
 
-pub documents_read : (x : Ident) (documents : List Tree) (rows : List Row)
+pub documents_read : (x : Ident) (documents : List Datum) (rows : List Row)
     → with_each (bind x) rows (map (λ row. documents_kept x (passes no_expr) None row documents) rows)
     ≡ with_documents x documents rows
 documents_read x documents rows =
-    ap (λ (kept : List Tree). with_each (bind x) rows (map (λ row. kept) rows)) (all_kept documents)
+    ap (λ (filter_true : List Datum). with_each (bind x) rows (map (λ row. filter_true) rows))
+    (all_kept documents)
 
 -- the documents of a name are those of its number
 pub documents_found : (fs : List CollFact) (db : Database) → AllZip MeetsCollection fs db → (name : List ℕ)
@@ -73,7 +74,7 @@ edges_found facts db meets (name ∷ names) =
     ap₂ ◌++◌ (documents_found facts.collections db meets name) (edges_found facts db meets names)
 
 -- FILTER over an `&&` chain, part by part
-kept_of : (e : ExprTree) (rows : List Row) → kept rows (values_of e rows)
+kept_of : (e : ExprTree) (rows : List Row) → filter_true rows (values_of e rows)
     ≡ filter (λ row. truth (value e null row)) rows
 kept_of e [] = refl
 kept_of e (row ∷ rows) =
@@ -113,7 +114,7 @@ filters_run w (e ∷ es) b start out g =
           ∙ filter_twice (λ row. truth (value e null row)) (all_hold es) mid.0,
     )
 
-and_truth : (a b : Tree) → truth (binary And a b) ≡ (truth a && truth b)
+and_truth : (a b : Datum) → truth (binary And a b) ≡ (truth a && truth b)
 and_truth a b = by (truth a) refl
   where
     by : (c : Bool) → truth a ≡ c → truth (cond c b a) ≡ (c && truth b)
@@ -128,8 +129,8 @@ and_grouped : (a b c : Bool) → ((a && b) && c) ≡ (a && (b && c))
 and_grouped true b c = refl
 and_grouped false b c = refl
 
-linked_truth : (ls : LinkTrees) → all_and ls ≡ true → (row : Row) (a : Tree)
-    → truth (linked ls null row a) ≡ (truth a && all_hold (right_sides ls) row)
+linked_truth : (ls : LinkTrees) → all_and ls ≡ true → (row : Row) (a : Datum)
+    → truth (links_value ls null row a) ≡ (truth a && all_hold (right_sides ls) row)
 linked_truth no_links h row a = and_true (truth a)
 linked_truth (link_then And e ls) h row a =
     linked_truth ls h row (binary And a (value e null row))
@@ -141,10 +142,10 @@ parts_hold : (e : ExprTree) (row : Row) → truth (value e null row) ≡ all_hol
 parts_hold (chain e ls) row = by (all_and ls) refl
   where
     by : (b : Bool) → all_and ls ≡ b
-        → truth (linked ls null row (value e null row))
+        → truth (links_value ls null row (value e null row))
         ≡ all_hold (cond b (e ∷ right_sides ls) (chain e ls ∷ [])) row
     by true h = linked_truth ls h row (value e null row)
-    by false h = and_true (truth (linked ls null row (value e null row)))
+    by false h = and_true (truth (links_value ls null row (value e null row)))
 parts_hold e row = and_true (truth (value e null row))
 
 no_collection : (e : ExprTree) → IsNoName e → (start : Row) (vars : List Ident)
@@ -153,38 +154,38 @@ no_collection (variable (Name n)) h start vars = absurd h
 no_collection (variable (Num n)) h start vars = refl
 no_collection e h start vars = refl
 
-results_back : (vs : List Tree) → map result_of (map result_row vs) ≡ vs
+results_back : (vs : List Datum) → map result_of (map result_row vs) ≡ vs
 results_back [] = refl
 results_back (v ∷ vs) = ap (λ ws. v ∷ ws) (results_back vs)
 
 module _ (facts : Facts) (db : Database) (meets : Meets facts db) where
   plain_values : (e : ExprTree) → IsPlain e → (rows : List Row)
-      → AllZip (Ev db e null) rows (values_of e rows)
+      → AllZip (Evaluates db e null) rows (values_of e rows)
   plain_values e h [] = tt
   plain_values e h (row ∷ rows) = (has_value db e h null row, plain_values e h rows)
 
-  plain_all : (es : ExprTrees) → AllPlain es → (row : Row) → EvAll db es null row (keys_of es row)
+  plain_all : (es : ExprTrees) → AllPlain es → (row : Row) → EvaluatesAll db es null row (keys_of es row)
   plain_all no_exprs h row = tt
   plain_all (expr_then e es) h row = (has_value db e h.0 null row, plain_all es h.1 row)
 
   plain_keys : (es : ExprTrees) → AllPlain es → (rows : List Row)
-      → AllZip (EvAll db es null) rows (map (keys_of es) rows)
+      → AllZip (EvaluatesAll db es null) rows (map (keys_of es) rows)
   plain_keys es h [] = tt
   plain_keys es h (row ∷ rows) = (plain_all es h row, plain_keys es h rows)
 
-  plain_or : (e : MaybeExpr) → MaybePlain e → (row : Row) (d : Tree)
-      → EvOr db e null row d (value_or e null row d)
+  plain_or : (e : MaybeExpr) → MaybePlain e → (row : Row) (d : Datum)
+      → EvaluatesOr db e null row d (value_or e null row d)
   plain_or no_expr h row d = refl
   plain_or (one_expr e) h row d = has_value db e h null row
 
   plain_arguments : (gs : AggregateTrees) → AggregatesPlain gs → (row : Row)
-      → EvArguments db gs row (arguments_at gs row)
+      → EvaluatesArguments db gs row (arguments_at gs row)
   plain_arguments no_aggregates h row = tt
   plain_arguments (aggregate_then x name e rest) h row =
       (plain_or e h.0 row null, plain_arguments rest h.1 row)
 
   plain_taken : (i : IntoTree) → IntoPlain i → (vars : List Ident) (row : Row)
-      → EvTaken db i vars row (taken_at i row)
+      → EvaluatesInto db i vars row (taken_at i row)
   plain_taken no_into h vars row = refl
   plain_taken (into x no_expr keep) h vars row = absurd h
   plain_taken (into x (one_expr e) keep) h vars row = has_value db e h null row
@@ -192,14 +193,15 @@ module _ (facts : Facts) (db : Database) (meets : Meets facts db) where
   plain_members : (xs : List Ident) (es : ExprTrees) (gs : AggregateTrees) (i : IntoTree)
       → AllPlain es → AggregatesPlain gs → IntoPlain i → (vars : List Ident) (rows : List Row)
       → AllZip (λ row (m : Member).
-      IsMember (EvAll db es null row) (EvArguments db gs row) (EvTaken db i vars row) m) rows
+      IsMember (EvaluatesAll db es null row) (EvaluatesArguments db gs row) (EvaluatesInto db i vars row) m)
+      rows
       (map (member_at Whole xs es gs i) rows)
   plain_members xs es gs i h k l vars [] = tt
   plain_members xs es gs i h k l vars (row ∷ rows) = (
     record {
       criteria = plain_all es h row;
       arguments = plain_arguments gs k row;
-      taken = plain_taken i l vars row;
+      into_value = plain_taken i l vars row;
     },
     plain_members xs es gs i h k l vars rows,
   )
@@ -207,11 +209,11 @@ module _ (facts : Facts) (db : Database) (meets : Meets facts db) where
   -- the values of a subquery, where each list of its plan is an answer
   bodies : (x : Ident) (q : QueryTree)
       → ((row : Row) (results : List Row) → Runs (first_plan facts q) (world facts db) Outside row results
-      → Answer db q row (map result_of results)) → (rows out : List Row)
+      → IsAnswer db q row (map result_of results)) → (rows out : List Row)
       → AllZip (λ row given. (results : List Row)
       × Runs (first_plan facts q) (world facts db) Outside row results
       × (given ≡ bind x row (list (map result_of results)))) rows out
-      → (vs : List Tree) × AllZip (Ev db (subquery q) null) rows vs × (out ≡ bound x rows vs)
+      → (vs : List Datum) × AllZip (Evaluates db (subquery q) null) rows vs × (out ≡ with_values x rows vs)
   bodies x q f [] [] h = ([], tt, refl)
   bodies x q f [] (given ∷ out) h = absurd h
   bodies x q f (row ∷ rows) [] h = absurd h
@@ -224,9 +226,9 @@ module _ (facts : Facts) (db : Database) (meets : Meets facts db) where
 
   calculated : (x : Ident) (e : ExprTree) → IsPlain e → (b : Plan) (start : Row) (out : List Row)
       → ((rows : List Row) × Runs b (world facts db) Outside start rows
-      × (out ≡ bound x rows (values_of e rows)))
+      × (out ≡ with_values x rows (values_of e rows)))
       → (rows : List Row) × Runs b (world facts db) Outside start rows
-      × ((vs : List Tree) × AllZip (Ev db e null) rows vs × (out ≡ bound x rows vs))
+      × ((vs : List Datum) × AllZip (Evaluates db e null) rows vs × (out ≡ with_values x rows vs))
   calculated x e h b start out g = (g.0, g.1, (values_of e g.0, plain_values e h g.0, g.2))
 
   mutual
@@ -238,7 +240,7 @@ module _ (facts : Facts) (db : Database) (meets : Meets facts db) where
       g.0,
       g.1,
       subst (λ (m : Option (List ℕ)). MatchOption m
-          ((vs : List Tree) × AllZip (Ev db e null) g.0 vs × (out ≡ with_elements x g.0 vs))
+          ((vs : List Datum) × AllZip (Evaluates db e null) g.0 vs × (out ≡ with_elements x g.0 vs))
           (λ name. IsPermutation (with_documents x (documents_named db name) g.0) out))
           (sym (no_collection e h.1 start vars)) (values_of e g.0, plain_values e h.0 g.0, g.2),
     )
@@ -249,21 +251,21 @@ module _ (facts : Facts) (db : Database) (meets : Meets facts db) where
           (documents_read x (documents_of db (coll_number facts name)) g.0
           ∙ ap (λ ds. with_documents x ds g.0) (documents_found facts.collections db meets name)) g.2,
     )
-    clause_law (for_paths w e names prune no_members) h b start vars out g = (
+    clause_law (traversal w e names prune no_members) h b start vars out g = (
       g.0,
       g.1,
       (
         values_of e g.0,
         plain_values e h.0 g.0,
-        subst (λ (o : List Row). Walked db w (edges_named db names) (stops prune) g.0 (values_of e g.0) o)
+        subst (λ (o : List Row). Traverses db w (edges_named db names) (stops prune) g.0 (values_of e g.0) o)
             (sym (g.2.2 ∙ all_pass g.2.0))
-            (subst (λ (es : List Tree). Walked db w es (stops prune) g.0 (values_of e g.0) g.2.0)
+            (subst (λ (es : List Datum). Traverses db w es (stops prune) g.0 (values_of e g.0) g.2.0)
             (edges_found facts db meets (each_once names)) g.2.1),
       ),
     )
-    clause_law (for_paths w e names prune (named_then n m ms)) h b start vars out g = absurd h.2
-    clause_law (for_paths w e names prune (computed_then n m ms)) h b start vars out g = absurd h.2
-    clause_law (keep_if e) h b start vars out g =
+    clause_law (traversal w e names prune (named_then n m ms)) h b start vars out g = absurd h.2
+    clause_law (traversal w e names prune (computed_then n m ms)) h b start vars out g = absurd h.2
+    clause_law (filter_by e) h b start vars out g =
         let k = filters_run (world facts db) (parts e) b start out g in (
           k.0,
           k.1,
@@ -275,16 +277,16 @@ module _ (facts : Facts) (db : Database) (meets : Meets facts db) where
                 ∙ sym (kept_of e k.0),
           ),
         )
-    clause_law (define x (subquery q)) h b start vars out g =
+    clause_law (let_be x (subquery q)) h b start vars out g =
         (g.0, g.1, bodies x q (λ row results run. query_law q h row results run) g.0 out g.2)
-    clause_law (define x e) h b start vars out g = calculated x e h b start out g
+    clause_law (let_be x e) h b start vars out g = calculated x e h b start out g
     clause_law (sort_by directions es) h b start vars out g = (
       g.0,
       g.1,
       (
         map (keys_of es) g.0,
         plain_keys es h g.0,
-        subst (λ (o : List Row). Sorted directions (map (keys_of es) g.0) g.0 o) (sym g.2.2) g.2.1,
+        subst (λ (o : List Row). Sorts directions (map (keys_of es) g.0) g.0 o) (sym g.2.2) g.2.1,
       ),
     )
     clause_law (limit offset count) h b start vars out g = g
@@ -306,18 +308,18 @@ module _ (facts : Facts) (db : Database) (meets : Meets facts db) where
 
     pub query_law : (q : QueryTree) → IsLifted q → (start : Row) (rows : List Row)
         → Runs (first_plan facts q) (world facts db) Outside start rows
-        → Answer db q start (map result_of rows)
+        → IsAnswer db q start (map result_of rows)
     query_law (query with cs distinct e) h start rows g =
         let through = clauses_law cs h.0 Singleton start [] g.0 g.1 in (
           g.0,
           values_of e g.0,
           subst (λ (r : List Row). Through db cs start [] r g.0) through.1 through.2,
           plain_values e h.1 g.0,
-          ap (map result_of) g.2 ∙ results_back (returned distinct (values_of e g.0)),
+          ap (map result_of) g.2 ∙ results_back (return_values distinct (values_of e g.0)),
         )
 
 pub first_answers : (facts : Facts) (db : Database) → Meets facts db → (q : QueryTree) → IsLifted q
     → (start : Row)
-    → (vs : List Tree) → Answers (first_plan facts q) (world facts db) start vs → Answer db q start vs
+    → (vs : List Datum) → Answers (first_plan facts q) (world facts db) start vs → IsAnswer db q start vs
 first_answers facts db meets q h start vs g =
-    subst (λ (ts : List Tree). Answer db q start ts) (sym g.2) (query_law facts db meets q h start g.0 g.1)
+    subst (λ (ts : List Datum). IsAnswer db q start ts) (sym g.2) (query_law facts db meets q h start g.0 g.1)

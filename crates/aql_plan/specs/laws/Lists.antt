@@ -69,7 +69,7 @@ module _ {A B : Type 0} (R : A → B → Type 0) where
   filter_related Q p q e f (x ∷ xs) [] h = absurd h
   filter_related Q p q e f (x ∷ xs) (y ∷ ys) h =
       subst (λ b. AllZip Q (cond (p x) (x ∷ filter p xs) (filter p xs))
-          (cond b (y ∷ filter q ys) (filter q ys)))
+      (cond b (y ∷ filter q ys) (filter q ys)))
       (e x y h.0) (by (p x) (filter_related Q p q e f xs ys h.1))
     where
       by : (b : Bool) → AllZip Q (filter p xs) (filter q ys)

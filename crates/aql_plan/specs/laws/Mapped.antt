@@ -1,7 +1,7 @@
 -- A plan with a function applied to each of its expressions.
 use Rattle.std.proofs.Common.{◌≡◌, ◌∙◌, ℕ, List, ◌∷◌, refl, ap, ap₂}
 use Rattle.std.specs.Prelude.{Option, Some, None, option_map}
-use Rattle.aql_value.specs.Tree.{Tree}
+use Rattle.aql_value.specs.Datum.{Datum}
 use Rattle.aql_tree.specs.Tree.{ExprTree, ExprTrees, no_exprs, expr_then, MaybeExpr, no_expr, one_expr, AggregateTrees, no_aggregates, aggregate_then, IntoTree, no_into, into}
 use Rattle.aql_meaning.specs.Visible.{aggregate_vars, functions_by, into_var}
 use Rattle.aql_meaning.specs.declared.grouping.Stage.{Stage}
@@ -66,7 +66,7 @@ module _ (f : ExprTree → ExprTree) where
   vars_kept no_aggregates = refl
   vars_kept (aggregate_then x name e rest) = ap (λ xs. x ∷ xs) (vars_kept rest)
 
-  by_kept : (g : List ℕ → List Tree → Tree) (gs : AggregateTrees)
+  by_kept : (g : List ℕ → List Datum → Datum) (gs : AggregateTrees)
       → functions_by g (map_aggregates gs) ≡ functions_by g gs
   by_kept g no_aggregates = refl
   by_kept g (aggregate_then x name e rest) = ap (λ fs. g name ∷ fs) (by_kept g rest)

@@ -35,9 +35,14 @@ module _ (R : Row → Row → Type 0) (below before : Row → Row → Bool)
       by (r ∷ l) [] k d = absurd k
       by (r ∷ l) (s ∷ m) k d =
           let first : r ≡ row = cc in
-          let others : l ≡ rest = cc in
-          (s, m, refl, subst (λ (q : Row). R q s) first k.0, subst
-          (λ (q : List Row). AllZip R q m) others k.1)
+          let others : l ≡ rest = cc in (
+            s,
+            m,
+            refl,
+            subst (λ (q : Row). R q s) first k.0,
+            subst
+                (λ (q : List Row). AllZip R q m) others k.1,
+          )
   taken_related (l ∷ lists) (m ∷ others) h (suc place) row rest e =
       taken_related lists others h.1 place row rest e
 

@@ -1,19 +1,19 @@
--- A variable x that becomes another, y, in all nodes above: where it is so in their input's rows that y has the
--- value of x, their rows are those of the nodes as they were.
+-- A variable x that becomes another, y, in all nodes above: where it is so in their input's rows that y has
+-- the value of x, their rows are those of the nodes as they were.
 use Rattle.std.proofs.Common.{◌≡◌, ◌∙◌, [], ◌∷◌, map, Bool, true, false, cond, refl, ap, ap₂, sym, subst}
 use Rattle.std.specs.Prelude.{Some, None, unwrap_or, ◌&&◌, not}
-use Rattle.aql_value.specs.Tree.{Tree, null, boolean}
+use Rattle.aql_value.specs.Datum.{Datum, null, boolean}
 use Rattle.aql_value.specs.Parts.{list, elements, at_name, at_value}
 use Rattle.aql_value.specs.Convert.{to_number, to_text}
 use Rattle.aql_value.specs.Truth.{truth}
 use Rattle.aql_func.specs.Operators.{binary, unary, range}
 use Rattle.aql_func.specs.Named.{call_named}
 use Rattle.aql_tree.specs.declared.syntax.Ident.{Ident}
-use Rattle.aql_tree.specs.Tree.{ExprTree, literal, variable, current, listed, made, access, called, unary_of, chain, quantified, choice, range_of, subquery, ExprTrees, no_exprs, expr_then, MaybeExpr, no_expr, one_expr, MemberTrees, no_members, named_then, computed_then, StepTrees, no_steps, name_then, at_then, each_then, LinkTrees, no_links, link_then}
+use Rattle.aql_tree.specs.Tree.{ExprTree, literal, variable, current, array_literal, object_literal, access, function_call, unary_of, chain, array_comparison, ternary, range_of, subquery, ExprTrees, no_exprs, expr_then, MaybeExpr, no_expr, one_expr, MemberTrees, no_members, named_then, computed_then, StepTrees, no_steps, name_then, at_then, inline_then, LinkTrees, no_links, link_then}
 use Rattle.aql_meaning.specs.Row.{Row, empty_row, bind, value_at, same_ident}
-use Rattle.aql_meaning.specs.Expressions.{quantify, object_literal}
-use Rattle.aql_meaning.specs.Clauses.{kept}
-use Rattle.aql_meaning.specs.Value.{value, values, value_or, members, stepped, linked}
+use Rattle.aql_meaning.specs.Expressions.{quantify, object_value}
+use Rattle.aql_meaning.specs.Clauses.{filter_true}
+use Rattle.aql_meaning.specs.Value.{value, values, value_or, members, steps_value, links_value}
 use Rattle.aql_meaning.specs.Places.{put, put_all, put_maybe, put_members, put_steps, put_links}
 use Rattle.aql_meaning.specs.Uses.{Use, Whole, Part, Uses, AgreeAt, Agree}
 use Rattle.aql_meaning.specs.laws.Agrees.{agree_split, map_same, value_same}
@@ -26,31 +26,31 @@ module _ (x y : Ident) where
   abbrev pub renamed : Row → Row
   renamed row = bind x row (value_at row y)
 
-  at_renamed : (b : Bool) (cur : Tree) (row : Row) (z : Ident)
+  at_renamed : (b : Bool) (cur : Datum) (row : Row) (z : Ident)
       → value (cond b (variable y) (variable z)) cur row
       ≡ unwrap_or (cond b (Some (value_at row y)) (row z)) null
   at_renamed true cur row z = refl
   at_renamed false cur row z = refl
 
   mutual
-    pub value_renamed : (e : ExprTree) (cur : Tree) (r : Row)
+    pub value_renamed : (e : ExprTree) (cur : Datum) (r : Row)
         → value (put x (variable y) e) cur r ≡ value e cur (renamed r)
     value_renamed (literal v) cur r = refl
     value_renamed (variable z) cur r = at_renamed (same_ident x z) cur r z
     value_renamed current cur r = refl
-    value_renamed (listed es) cur r = ap list (values_renamed es cur r)
-    value_renamed (made ms) cur r = ap object_literal (members_renamed ms cur r)
+    value_renamed (array_literal es) cur r = ap list (values_renamed es cur r)
+    value_renamed (object_literal ms) cur r = ap object_value (members_renamed ms cur r)
     value_renamed (access e ss) cur r =
-        ap (stepped (put_steps x (variable y) ss) cur r) (value_renamed e cur r)
+        ap (steps_value (put_steps x (variable y) ss) cur r) (value_renamed e cur r)
         ∙ steps_renamed ss cur r (value e cur (renamed r))
-    value_renamed (called name es) cur r = ap (call_named name) (values_renamed es cur r)
+    value_renamed (function_call name es) cur r = ap (call_named name) (values_renamed es cur r)
     value_renamed (unary_of op e) cur r = ap (unary op) (value_renamed e cur r)
     value_renamed (chain e ls) cur r =
-        ap (linked (put_links x (variable y) ls) cur r) (value_renamed e cur r)
+        ap (links_value (put_links x (variable y) ls) cur r) (value_renamed e cur r)
         ∙ links_renamed ls cur r (value e cur (renamed r))
-    value_renamed (quantified a kind op b) cur r =
+    value_renamed (array_comparison a kind op b) cur r =
         ap₂ (quantify kind op) (value_renamed a cur r) (value_renamed b cur r)
-    value_renamed (choice test first other) cur r =
+    value_renamed (ternary test first other) cur r =
         ap (λ a. cond (truth a) (value_or (put_maybe x (variable y) first) cur r a)
         (value (put x (variable y) other) cur r)) (value_renamed test cur r)
         ∙ ap₂ (λ a b. cond (truth (value test cur (renamed r))) a b)
@@ -59,18 +59,18 @@ module _ (x y : Ident) where
         ap₂ (λ u v. range (to_number u) (to_number v)) (value_renamed a cur r) (value_renamed b cur r)
     value_renamed (subquery q) cur r = refl
 
-    values_renamed : (es : ExprTrees) (cur : Tree) (r : Row)
+    values_renamed : (es : ExprTrees) (cur : Datum) (r : Row)
         → values (put_all x (variable y) es) cur r ≡ values es cur (renamed r)
     values_renamed no_exprs cur r = refl
     values_renamed (expr_then e es) cur r =
         ap₂ (λ v vs. v ∷ vs) (value_renamed e cur r) (values_renamed es cur r)
 
-    or_renamed : (e : MaybeExpr) (cur : Tree) (r : Row) (d : Tree)
+    or_renamed : (e : MaybeExpr) (cur : Datum) (r : Row) (d : Datum)
         → value_or (put_maybe x (variable y) e) cur r d ≡ value_or e cur (renamed r) d
     or_renamed no_expr cur r d = refl
     or_renamed (one_expr e) cur r d = value_renamed e cur r
 
-    members_renamed : (ms : MemberTrees) (cur : Tree) (r : Row)
+    members_renamed : (ms : MemberTrees) (cur : Datum) (r : Row)
         → members (put_members x (variable y) ms) cur r ≡ members ms cur (renamed r)
     members_renamed no_members cur r = refl
     members_renamed (named_then name e ms) cur r =
@@ -79,31 +79,32 @@ module _ (x y : Ident) where
         ap₂ (λ m ms. m ∷ ms) (ap₂ (λ a b. (to_text a, b)) (value_renamed n cur r) (value_renamed e cur r))
         (members_renamed ms cur r)
 
-    steps_renamed : (ss : StepTrees) (cur : Tree) (r : Row) (d : Tree)
-        → stepped (put_steps x (variable y) ss) cur r d ≡ stepped ss cur (renamed r) d
+    steps_renamed : (ss : StepTrees) (cur : Datum) (r : Row) (d : Datum)
+        → steps_value (put_steps x (variable y) ss) cur r d ≡ steps_value ss cur (renamed r) d
     steps_renamed no_steps cur r d = refl
     steps_renamed (name_then name ss) cur r d = steps_renamed ss cur r (at_name d name)
     steps_renamed (at_then e ss) cur r d =
-        ap (λ i. stepped (put_steps x (variable y) ss) cur r (at_value d i)) (value_renamed e cur r)
+        ap (λ i. steps_value (put_steps x (variable y) ss) cur r (at_value d i)) (value_renamed e cur r)
         ∙ steps_renamed ss cur r (at_value d (value e cur (renamed r)))
-    steps_renamed (each_then filter gives ss) cur r d =
+    steps_renamed (inline_then filter gives ss) cur r d =
         ap list (
-        ap (λ ts. map (λ w. stepped (put_steps x (variable y) ss) cur r w)
-        (map (λ c. value_or (put_maybe x (variable y) gives) c r c) (kept (elements d) ts)))
+        ap (λ ts. map (λ w. steps_value (put_steps x (variable y) ss) cur r w)
+        (map (λ c. value_or (put_maybe x (variable y) gives) c r c) (filter_true (elements d) ts)))
         (map_same (λ c. value_or (put_maybe x (variable y) filter) c r (boolean true))
         (λ c. value_or filter c (renamed r) (boolean true))
         (λ c. or_renamed filter c r (boolean true)) (elements d))
-        ∙ ap (map (λ w. stepped (put_steps x (variable y) ss) cur r w))
+        ∙ ap (map (λ w. steps_value (put_steps x (variable y) ss) cur r w))
         (map_same (λ c. value_or (put_maybe x (variable y) gives) c r c) (λ c. value_or gives c (renamed r) c)
         (λ c. or_renamed gives c r c) _)
-        ∙ map_same (λ w. stepped (put_steps x (variable y) ss) cur r w) (λ w. stepped ss cur (renamed r) w)
+        ∙ map_same (λ w. steps_value (put_steps x (variable y) ss) cur r w)
+        (λ w. steps_value ss cur (renamed r) w)
         (λ w. steps_renamed ss cur r w) _)
 
-    links_renamed : (ls : LinkTrees) (cur : Tree) (r : Row) (a : Tree)
-        → linked (put_links x (variable y) ls) cur r a ≡ linked ls cur (renamed r) a
+    links_renamed : (ls : LinkTrees) (cur : Datum) (r : Row) (a : Datum)
+        → links_value (put_links x (variable y) ls) cur r a ≡ links_value ls cur (renamed r) a
     links_renamed no_links cur r a = refl
     links_renamed (link_then op e ls) cur r a =
-        ap (λ b. linked (put_links x (variable y) ls) cur r (binary op a b)) (value_renamed e cur r)
+        ap (λ b. links_value (put_links x (variable y) ls) cur r (binary op a b)) (value_renamed e cur r)
         ∙ links_renamed ls cur r (binary op a (value e cur (renamed r)))
 
   -- neither of the two
@@ -115,7 +116,7 @@ module _ (x y : Ident) where
   abbrev pub Renamed : Uses → Row → Row → Type 0
   Renamed us r s = Agree us (renamed r) s
 
-  renamed_bind : (z : Ident) → IsOther z → (r : Row) (v : Tree) → renamed (bind z r v) ≡ bind z (renamed r) v
+  renamed_bind : (z : Ident) → IsOther z → (r : Row) (v : Datum) → renamed (bind z r v) ≡ bind z (renamed r) v
   renamed_bind z other r v =
       ap (λ (b : Bool). bind x (bind z r v) (unwrap_or (cond b (Some v) (r y)) null)) other.not_second
       ∙ binds_swap x z r (value_at r y) v other.apart

@@ -1,8 +1,9 @@
--- A part of a plan is replaced by one that lacks a variable x, where y has its value: the nodes above go by y.
+-- A part of a plan is replaced by one that lacks a variable x, where y has its value: the nodes above go by
+-- y.
 use Rattle.std.proofs.Common.{◌≡◌, ◌∙◌, List, [], ◌∷◌, Bool, true, false, true≢false, cond, refl, ap, sym, subst}
 use Rattle.std.specs.Prelude.{Option, Some, unwrap_or, ◌&&◌, not}
 use Rattle.std.specs.List.{AllZip}
-use Rattle.aql_value.specs.Tree.{Tree, null}
+use Rattle.aql_value.specs.Datum.{Datum, null}
 use Rattle.aql_value.specs.Parts.{at_name}
 use Rattle.aql_value.specs.Database.{Database}
 use Rattle.aql_tree.specs.declared.syntax.Ident.{Ident}
@@ -34,7 +35,7 @@ module _ (x y : Ident) where
   unused_front true b h = (refl, h)
   unused_front false b h = absurd (true≢false (sym h))
 
-  unset : (b : Bool) → not b ≡ true → (v w : Option Tree) → cond b v w ≡ w
+  unset : (b : Bool) → not b ≡ true → (v w : Option Datum) → cond b v w ≡ w
   unset true h v w = absurd (true≢false (sym h))
   unset false h v w = refl
 
@@ -42,18 +43,18 @@ module _ (x y : Ident) where
   unused_agree [] h row = tt
   unused_agree (Whole z ∷ us) h row =
       let k = unused_front (not (same_ident x z)) (is_unused x y us) h in (
-        ap (λ (o : Option Tree). unwrap_or o null)
+        ap (λ (o : Option Datum). unwrap_or o null)
             (unset (same_ident x z) k.0 (Some (value_at row y)) (row z)),
         unused_agree us k.1 row,
       )
   unused_agree (Part z name ∷ us) h row =
       let k = unused_front (not (same_ident x z)) (is_unused x y us) h in (
-        ap (λ (o : Option Tree). at_name (unwrap_or o null) name)
+        ap (λ (o : Option Datum). at_name (unwrap_or o null) name)
             (unset (same_ident x z) k.0 (Some (value_at row y)) (row z)),
         unused_agree us k.1 row,
       )
 
-  -- behind a Collect x is gone
+  -- after a Collect x is gone
   abbrev pub IsUnusedBehind : Uses → Node → Type 0
   IsUnusedBehind us (Collect xs es gs i s) = is_unused x y us ≡ true
   IsUnusedBehind us n = Unit {0}

@@ -1,20 +1,20 @@
 -- The law of a plan and its rows: from rows that are related in what the plan needs, a plan with other
 -- expressions gives lists that are related in what is used of them. The expressions are those of the second
--- plan under f; with the function that changes nothing this is the law that a plan gives alike lists from rows
--- that agree in what it needs.
+-- plan under f; with the function that changes nothing this is the law that a plan gives alike lists from
+-- rows that agree in what it needs.
 use Rattle.std.proofs.Common.{◌≡◌, ◌∙◌, ℕ, List, [], ◌∷◌, ◌++◌, map, take, drop, Bool, refl, ap, ap₂, sym, subst}
 use Rattle.std.specs.Prelude.{Option, Some, None, option_to_list, filter, ◌==◌}
 use Rattle.std.specs.Ordering.{is_lt}
 use Rattle.std.specs.List.{AllZip, AllByRecursion}
-use Rattle.aql_value.specs.Tree.{Tree}
+use Rattle.aql_value.specs.Datum.{Datum}
 use Rattle.aql_value.specs.Parts.{list}
 use Rattle.aql_tree.specs.declared.syntax.Ident.{Ident}
 use Rattle.aql_tree.specs.declared.syntax.Ident.TheVariants.{Num}
 use Rattle.aql_tree.specs.Tree.{ExprTree, ExprTrees, AggregateTrees, IntoTree}
 use Rattle.aql_meaning.specs.Row.{Row, empty_row, bind}
-use Rattle.aql_meaning.specs.Clauses.{keys_cmp, returned, bound, with_elements, kept, Sorted}
-use Rattle.aql_meaning.specs.Groups.{Member, Collected}
-use Rattle.aql_meaning.specs.Paths.{Walked}
+use Rattle.aql_meaning.specs.Clauses.{keys_cmp, return_values, with_values, with_elements, filter_true, Sorts}
+use Rattle.aql_meaning.specs.Groups.{Member, Collects}
+use Rattle.aql_meaning.specs.Paths.{Traverses}
 use Rattle.aql_meaning.specs.Visible.{aggregate_vars, into_var}
 use Rattle.aql_meaning.specs.Uses.{Uses, uses, all_uses, maybe_uses}
 use Rattle.aql_meaning.specs.declared.grouping.Stage.{Stage}
@@ -102,7 +102,7 @@ module _ (f : ExprTree → ExprTree) (Free : Ident → Type 0) (S : Uses → Row
       → (more : List Row) × (more ≡ ys) × AllZip (S us) out more
   by_function us out xs ys e h = (ys, refl, subst (λ (o : List Row). AllZip (S us) o ys) (sym e) h)
 
-  results_related : (us : Uses) (vs : List Tree) → AllZip (S us) (map result_row vs) (map result_row vs)
+  results_related : (us : Uses) (vs : List Datum) → AllZip (S us) (map result_row vs) (map result_row vs)
   results_related us [] = tt
   results_related us (v ∷ vs) =
       (carry.binds us (Num 0) empty_row empty_row v zero_free (carry.empty us), results_related us vs)
@@ -156,10 +156,10 @@ module _ (f : ExprTree → ExprTree) (Free : Ident → Type 0) (S : Uses → Row
       own : Uses
       own = all_uses equal ++ (last_uses last ++ maybe_uses x.filter)
 
-      from : Row → List Tree
+      from : Row → List Datum
       from = read_in_bounds w k (map_reading f x) index (map_exprs f equal) (last_map f last)
 
-      other : Row → List Tree
+      other : Row → List Datum
       other = read_in_bounds w l x index equal last
 
       read_alike : AllZip (λ r s. S us r s × S (maybe_uses x.filter) r s × (from r ≡ other s)) rows others
@@ -192,17 +192,17 @@ module _ (f : ExprTree → ExprTree) (Free : Ident → Type 0) (S : Uses → Row
       collected_alike f Free S carry us xs (aggregate_vars gs) (stage_functions s gs) (into_var i)
       xs_free ys_free into_free start other h (map (member_at s xs es gs i) others) out
       (subst (λ (members : List Member).
-      Collected xs (aggregate_vars gs) (stage_functions s gs) (into_var i) start members out)
+      Collects xs (aggregate_vars gs) (stage_functions s gs) (into_var i) start members out)
       (map_equal (S (own_uses (Collect xs es gs i s)))
       (member_at s xs (map_exprs f es) (map_aggregates f gs) (map_into f i)) (member_at s xs es gs i)
       (member_carried f Free S carry s xs es gs i xs_free ys_free) rows others k)
-      (subst (λ (x : Option Ident). Collected xs (aggregate_vars gs) (stage_functions s gs) x start
+      (subst (λ (x : Option Ident). Collects xs (aggregate_vars gs) (stage_functions s gs) x start
       (map (member_at s xs (map_exprs f es) (map_aggregates f gs) (map_into f i)) rows) out) (into_kept f i)
-      (subst (λ (fs : List (List Tree → Tree)). Collected xs (aggregate_vars gs) fs
+      (subst (λ (fs : List (List Datum → Datum)). Collects xs (aggregate_vars gs) fs
       (into_var (map_into f i)) start
       (map (member_at s xs (map_exprs f es) (map_aggregates f gs) (map_into f i)) rows) out)
       (functions_kept f s gs)
-      (subst (λ (ys : List Ident). Collected xs ys (stage_functions s (map_aggregates f gs))
+      (subst (λ (ys : List Ident). Collects xs ys (stage_functions s (map_aggregates f gs))
       (into_var (map_into f i))
       start (map (member_at s xs (map_exprs f es) (map_aggregates f gs) (map_into f i)) rows) out)
       (vars_kept f gs) g))))
@@ -246,7 +246,7 @@ module _ (f : ExprTree → ExprTree) (Free : Ident → Type 0) (S : Uses → Row
         let a = carry.parts (needs b (own_uses (Collect xs es gs i t))) us r s h in
         let rows = runs_alike b clear.0 (own_uses (Collect xs es gs i t)) w k l r s g.0 place a.0 g.1 in
         let given =
-            grouped_alike us xs es gs i t clear.1.0 clear.1.1 clear.1.2 r s a.1 g.0 rows.0 out rows.2 g.2 in
+        grouped_alike us xs es gs i t clear.1.0 clear.1.1 clear.1.2 r s a.1 g.0 rows.0 out rows.2 g.2 in
         (given.0, (rows.0, rows.1, given.1), given.2)
     runs_alike (Over b n) clear us w k l r s out place h g =
         let rows = runs_alike b clear.0 (under n us) w k l r s g.0 place h g.1 in
@@ -285,7 +285,7 @@ module _ (f : ExprTree → ExprTree) (Free : Ident → Type 0) (S : Uses → Row
         indexed_alike us w k l reads x clear index equal last ordered rows others out h g
     gives_alike (EnumerateList x e) clear us w k l start other a reads rows others out h g =
         by_function us out (with_elements x rows (values_of e others))
-            (with_elements x others (values_of e others))
+        (with_elements x others (values_of e others))
         (g ∙ ap (with_elements x rows)
         (values_carried f Free S carry e rows others (lefts (uses e) us rows others h)))
         (elements_related f Free S carry us x clear rows others (values_of e others)
@@ -303,17 +303,19 @@ module _ (f : ExprTree → ExprTree) (Free : Ident → Type 0) (S : Uses → Row
         let d = carry.parts (uses e) (maybe_uses prune ++ maybe_uses keep) r s c.0 in
         let m = carry.parts (maybe_uses prune) (maybe_uses keep) r s d.1 in
         (carry.join (maybe_uses keep) us r s m.1 c.1, m.0)) rows others h)
-        (subst (λ (vs : List Tree). Walked w.db shape (edges_in w.db colls) (stops (map_maybe f prune)) rows
+        (subst
+        (λ (vs : List Datum). Traverses w.db shape (edges_in w.db colls) (stops (map_maybe f prune)) rows
         vs g.0) starts g.1) in
         let given =
-            by_function us out (filter (passes (map_maybe f keep)) g.0) (filter (passes keep) walked.0) g.2
+        by_function us out (filter (passes (map_maybe f keep)) g.0) (filter (passes keep) walked.0) g.2
         (filter_related (S (maybe_uses keep ++ us)) (S us) (passes (map_maybe f keep)) (passes keep)
         (λ r s b. passes_carried f Free S carry keep r s (carry.parts (maybe_uses keep) us r s b).0)
         (λ r s b. (carry.parts (maybe_uses keep) us r s b).1) g.0 walked.0 walked.2) in
         (given.0, (walked.0, walked.1, given.1), given.2)
     gives_alike (Calculation x e) clear us w k l start other a reads rows others out h g =
-        by_function us out (bound x rows (values_of e others)) (bound x others (values_of e others))
-        (g ∙ ap (bound x rows)
+        by_function us out (with_values x rows (values_of e others))
+        (with_values x others (values_of e others))
+        (g ∙ ap (with_values x rows)
         (values_carried f Free S carry e rows others (lefts (uses e) us rows others h)))
         (bound_related f Free S carry us x clear rows others (values_of e others)
         (rights (uses e) us rows others h))
@@ -337,18 +339,19 @@ module _ (f : ExprTree → ExprTree) (Free : Ident → Type 0) (S : Uses → Row
         ))
         rows others out h g
     gives_alike (Filter e) clear us w k l start other a reads rows others out h g =
-        by_function us out (kept rows (values_of e others)) (kept others (values_of e others))
-        (g ∙ ap (kept rows) (values_carried f Free S carry e rows others (lefts (uses e) us rows others h)))
+        by_function us out (filter_true rows (values_of e others)) (filter_true others (values_of e others))
+        (g ∙ ap (filter_true rows)
+        (values_carried f Free S carry e rows others (lefts (uses e) us rows others h)))
         (kept_related (S us) rows others (values_of e others) (rights (uses e) us rows others h))
     gives_alike (Sort directions es n) clear us w k l start other a reads rows others out h g =
         let same = map_equal (S (all_uses es)) (keys_of (map_exprs f es)) (keys_of es)
         (keys_carried f Free S carry es) rows others (lefts (all_uses es) us rows others h) in
         let sorted = sorted_alike (S us) directions (map (keys_of es) others) rows others g.0
         (rights (all_uses es) us rows others h)
-        (subst (λ (keys : List (List Tree)). Sorted directions keys rows g.0) same g.1) in
+        (subst (λ (keys : List (List Datum)). Sorts directions keys rows g.0) same g.1) in
         let given =
-            by_function us out (first_rows n g.0) (first_rows n sorted.0) g.2
-            (first_related (S us) n g.0 sorted.0 sorted.2) in
+        by_function us out (first_rows n g.0) (first_rows n sorted.0) g.2
+        (first_related (S us) n g.0 sorted.0 sorted.2) in
         (given.0, (sorted.0, sorted.1, given.1), given.2)
     gives_alike (Limit offset count) clear us w k l start other a reads rows others out h g =
         by_function us out (take count (drop offset rows)) (take count (drop offset others)) g
@@ -357,10 +360,11 @@ module _ (f : ExprTree → ExprTree) (Free : Ident → Type 0) (S : Uses → Row
     gives_alike (Collect xs es gs i s) clear us w k l start other a reads rows others out h g =
         grouped_alike us xs es gs i s clear.0 clear.1 clear.2 start other a rows others out h g
     gives_alike (Return distinct e) clear us w k l start other a reads rows others out h g =
-        by_function us out (map result_row (returned distinct (values_of e others)))
-        (map result_row (returned distinct (values_of e others)))
-        (g ∙ ap (λ vs. map result_row (returned distinct vs)) (values_carried f Free S carry e rows others h))
-        (results_related us (returned distinct (values_of e others)))
+        by_function us out (map result_row (return_values distinct (values_of e others)))
+        (map result_row (return_values distinct (values_of e others)))
+        (g ∙ ap (λ vs. map result_row (return_values distinct vs))
+        (values_carried f Free S carry e rows others h))
+        (results_related us (return_values distinct (values_of e others)))
     gives_alike NoResults clear us w k l start other a reads rows others out h g =
         by_function us out rows others g h
     gives_alike (Scatter coll only) clear us w k l start other a reads rows others out h g =

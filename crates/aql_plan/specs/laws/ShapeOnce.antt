@@ -152,7 +152,7 @@ shape_once facts (lowest {one = one} {b = b} {n = n} {coll = coll} i f h) =
     lowest_most facts (Foot coll one) b n coll i (shape_once facts h)
 shape_once facts (lowest_in_order {b = b} {x = x} {index = index} {descending = descending} e f h) =
     sent_ordered (index_order facts x index descending) (Foot x.coll true) (shape_of facts b)
-        (shape_once facts h)
+    (shape_once facts h)
 shape_once facts (other_reading {b = b} {n = n} {o = o} i f h) = other_most facts o b n i (shape_once facts h)
 shape_once facts (passing {b = b} {n = n} {o = o} i f h) = passing_most facts o b n i (shape_once facts h)
 shape_once facts (sorting {b = b} {directions = directions} {es = es} {o = o} f h) =

@@ -1,7 +1,7 @@
 -- A plan without fragments keeps its shape with a function at each of its expressions that leaves them plain.
 use Rattle.std.proofs.Common.{◌≡◌, ℕ, ◌+◌, Bool, true, false, true≢false, refl, ap, sym, subst}
 use Rattle.std.specs.Prelude.{Option, Some, None, option_map, MatchOption, slice_get, length}
-use Rattle.aql_func.specs.Aggregates.{Aggregate, counting, aggregate_named}
+use Rattle.aql_func.specs.Aggregates.{Aggregate, count, aggregate_named}
 use Rattle.aql_tree.specs.Tree.{ExprTree, ExprTrees, no_exprs, expr_then, MaybeExpr, no_expr, one_expr, AggregateTrees, no_aggregates, aggregate_then, IntoTree, no_into, into}
 use Rattle.aql_meaning.specs.Plain.{IsPlain, AllPlain, MaybePlain}
 use Rattle.aql_meaning.specs.Lifted.{IntoPlain}
@@ -42,7 +42,7 @@ module _ (f : ExprTree → ExprTree) (plain : (e : ExprTree) → IsPlain e → I
   into_fit (into x (one_expr e) keep) h = plain e h
 
   argument_kept : (a : Aggregate) (e : MaybeExpr) → HasArgument a e → HasArgument a (map_maybe f e)
-  argument_kept counting e h = maybe_plain e h
+  argument_kept count e h = maybe_plain e h
   argument_kept a no_expr h = h
   argument_kept a (one_expr e) h = plain e h
 
@@ -86,9 +86,13 @@ module _ (f : ExprTree → ExprTree) (plain : (e : ExprTree) → IsPlain e → I
 
   pub mapped_fit : (facts : Facts) (n : Node) → Fits facts n → Fits facts (map_node f n)
   mapped_fit facts (EnumerateCollection x) h = (h.0, maybe_plain x.filter h.1)
-  mapped_fit facts (Index x index equal last ordered) h =
-      (h.0, maybe_plain x.filter h.1, exprs_plain equal h.2, last_plain last h.3,
-      index_fits x equal last ordered (slice_get (indexes_in facts x.coll) index) h.4)
+  mapped_fit facts (Index x index equal last ordered) h = (
+    h.0,
+    maybe_plain x.filter h.1,
+    exprs_plain equal h.2,
+    last_plain last h.3,
+    index_fits x equal last ordered (slice_get (indexes_in facts x.coll) index) h.4,
+  )
   mapped_fit facts (EnumerateList x e) h = plain e h
   mapped_fit facts (Traversal w e colls prune keep) h =
       (plain e h.0, maybe_plain prune h.1, maybe_plain keep h.2, h.3, h.4)
@@ -96,7 +100,7 @@ module _ (f : ExprTree → ExprTree) (plain : (e : ExprTree) → IsPlain e → I
   mapped_fit facts (Subquery x s) h = tt
   mapped_fit facts (Filter e) h = plain e h
   mapped_fit facts (Sort directions es n) h = (exprs_plain es h.0, h.1)
-  mapped_fit facts (Limit offset count) h = h
+  mapped_fit facts (Limit offset most) h = h
   mapped_fit facts (Collect xs es gs i s) h = (exprs_plain es h.0, all_known gs h.1, into_fit i h.2)
   mapped_fit facts (Return distinct e) h = plain e h
   mapped_fit facts NoResults h = tt
@@ -114,7 +118,7 @@ module _ (f : ExprTree → ExprTree) (plain : (e : ExprTree) → IsPlain e → I
   mapped_outer (Traversal w e colls prune keep) h = tt
   mapped_outer (Filter e) h = tt
   mapped_outer (Sort directions es n) h = tt
-  mapped_outer (Limit offset count) h = tt
+  mapped_outer (Limit offset most) h = tt
   mapped_outer (Collect xs es gs i stage.Whole) h = tt
   mapped_outer NoResults h = tt
   mapped_outer n h = absurd h
@@ -132,7 +136,7 @@ module _ (f : ExprTree → ExprTree) (plain : (e : ExprTree) → IsPlain e → I
       (ordered_rows {x = x} {index = index} {equal = equal} {last = last} {descending = descending} i g h)
       lone e =
       ordered_rows i (mapped_fit facts (Index x index equal last (Some descending)) g)
-          (mapped_shaped facts h lone.0 refl)
+      (mapped_shaped facts h lone.0 refl)
   mapped_shaped facts (returning {e = c} g h) lone e =
       returning (plain c g) (mapped_shaped facts h lone.0 refl)
   mapped_shaped facts (gather h) lone e = absurd lone.1

@@ -2,12 +2,12 @@
 use Rattle.std.proofs.Common.{◌≡◌, ℕ, List, [], ◌∷◌, map, Bool, refl}
 use Rattle.std.specs.Prelude.{Option, Some, None, filter}
 use Rattle.std.proofs.lemmas.List.Sorted.{IsPermutation-refl}
-use Rattle.aql_value.specs.Tree.{Tree}
+use Rattle.aql_value.specs.Datum.{Datum}
 use Rattle.aql_value.specs.Parts.{list}
 use Rattle.aql_tree.specs.Tree.{ExprTree, ExprTrees}
 use Rattle.aql_meaning.specs.Row.{Row, bind}
 use Rattle.aql_meaning.specs.Visible.{aggregate_vars, into_var}
-use Rattle.aql_meaning.specs.laws.SomeAnswer.{all_some, some_collected, some_sorted, some_walked}
+use Rattle.aql_meaning.specs.laws.SomeAnswer.{all_some, some_collect, some_sort, some_traversal}
 use Rattle.aql_meaning.specs.laws.SomeOrder.{keyed_order, some_order}
 use Rattle.aql_meaning.specs.Documents.{Last, index_keys, InIndexOrder, documents_kept}
 use Rattle.aql_meaning.specs.Stages.{stage_functions, member_at}
@@ -25,7 +25,7 @@ some_indexed w place x index equal last None rows = (_, IsPermutation-refl _)
 some_indexed w place x index equal last (Some descending) rows =
     let names = attributes_in w.facts x.coll index in
     let lists = all_some
-    (λ row list. (sorted : List Tree)
+    (λ row list. (sorted : List Datum)
     × InIndexOrder names descending (read_in_bounds w place x index equal last row) sorted
     × (list ≡ documents_kept x.var (passes x.filter) x.attrs row sorted))
     (λ row.
@@ -65,7 +65,7 @@ abbrev mutual
       some_indexed w place x index equal last ordered rows
   some_given (EnumerateList x e) w place start rows = (_, refl)
   some_given (Traversal shape e colls prune keep) w place start rows =
-      let walked = some_walked w.db shape (edges_in w.db colls) (stops prune) rows (values_of e rows) in
+      let walked = some_traversal w.db shape (edges_in w.db colls) (stops prune) rows (values_of e rows) in
       (filter (passes keep) walked.0, (walked.0, walked.1, refl))
   some_given (Calculation x e) w place start rows = (_, refl)
   some_given (Subquery x b) w place start rows =
@@ -76,10 +76,10 @@ abbrev mutual
       (bind x row (list (map result_of results.0)), (results.0, results.1, refl))) rows
   some_given (Filter e) w place start rows = (_, refl)
   some_given (Sort directions es n) w place start rows =
-      let sorted = some_sorted directions (map (keys_of es) rows) rows in
+      let sorted = some_sort directions (map (keys_of es) rows) rows in
       (first_rows n sorted.0, (sorted.0, sorted.1, refl))
   some_given (Limit offset count) w place start rows = (_, refl)
-  some_given (Collect xs es gs i s) w place start rows = some_collected xs (aggregate_vars gs)
+  some_given (Collect xs es gs i s) w place start rows = some_collect xs (aggregate_vars gs)
       (stage_functions s gs) (into_var i) start (map (member_at s xs es gs i) rows)
   some_given (Return distinct e) w place start rows = (_, refl)
   some_given NoResults w place start rows = (_, refl)

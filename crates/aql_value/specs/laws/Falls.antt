@@ -2,15 +2,15 @@
 use Rattle.std.specs.Prelude.{◌≤◌, max, List, [], ◌∷◌}
 use Rattle.std.proofs.Common.{arith}
 use denote.Param.Weighed.{most}
-use Rattle.aql_value.specs.Tree.{weight, trees_weight, fields_weight, array_of, object_of}
-use Rattle.aql_value.specs.View.{tree_of, trees_in}
+use Rattle.aql_value.specs.Datum.{weight, datums_weight, fields_weight, array_of, object_of}
+use Rattle.aql_value.specs.View.{datum_of, datums_in}
 use Rattle.aql_value.specs.Fields.{fields_in}
 use Rattle.aql_value.specs.declared.values.Value.{Value}
 use Rattle.aql_value.specs.declared.values.Value.TheVariants.{Null, Bool, Num, Text, List as ListOf, Object}
 use Rattle.aql_value.specs.declared.values.Member.{Member}
 use Rattle.aql_value.specs.declared.values.Items.TheDeep.{deep-Value, deep-Member}
 
-value_falls : (v : Value) → deep-Value v ≤ weight (tree_of v)
+value_falls : (v : Value) → deep-Value v ≤ weight (datum_of v)
 value_falls Null = omega arith
 value_falls (Bool b) = omega arith
 value_falls (Num z) = omega arith
@@ -18,7 +18,7 @@ value_falls (Text s) = omega arith
 value_falls (ListOf ts) = omega arith
 value_falls (Object fs) = omega arith
 
-pub items_fall : (vs : List Value) → max (most deep-Value vs) 0 ≤ trees_weight (array_of (trees_in vs))
+pub items_fall : (vs : List Value) → max (most deep-Value vs) 0 ≤ datums_weight (array_of (datums_in vs))
 items_fall [] = omega arith
 items_fall (v ∷ vs) = omega (arith, value_falls v, items_fall vs)
 

@@ -1,33 +1,33 @@
 use Rattle.std.proofs.Common.{arith, ◌≡◌, ◌≤◌, ◌+◌, ◌++◌, Bor, [], ◌∷◌, length, map, drop, option_map, true, ap, sym, ◌∙◌, append_assoc}
 use Rattle.aql_value.specs.Parts.{list, at_name, at_value}
-use Rattle.aql_value.specs.Tree.{Tree, boolean}
-use Rattle.aql_value.specs.View.{tree_of, trees_in}
+use Rattle.aql_value.specs.Datum.{Datum, boolean}
+use Rattle.aql_value.specs.View.{datum_of, datums_in}
 use Rattle.aql_value.specs.declared.values.Value.{Value}
 use Rattle.aql_func.specs.Objects.{with_all}
-use Rattle.aql_tree.specs.View.{tree, trees, links, link_part, members, member_part, StepPart, maybe, step_part, steps, name, at, each}
-use Rattle.aql_meaning.specs.Value.{stepped, value, values, value_or, linked, members as values_of}
+use Rattle.aql_tree.specs.View.{tree, trees, links, link_part, members, member_part, StepPart, maybe, step_part, steps, name, at, inline}
+use Rattle.aql_meaning.specs.Value.{steps_value, value, values, value_or, links_value, members as values_of}
 use Rattle.aql_expr.proofs.Steps.{left, part-Name, part-At, part-Each, from_here, taken, one_kept, one_dropped, all_taken, one_member}
 use Rattle.aql_expr.proofs.evaluation.+evaluation.Goals as goal
 use Rattle.aql_expr.proofs.evaluation.+evaluation.Goals.{follow-in-Name, follow-in-At+in_ok-which-in-At, follow-then-branch+in_ok-given-in-Each+in_ok-follow_given-in-Each+in_ok-push-in-Each, follow-else-branch}
 
 pub follow-loop-at-preserved : goal.follow-loop-at-preserved
 follow-loop-at-preserved g t c =
-    let cur = tree_of c.args.cur.now in
+    let cur = datum_of c.args.cur.now in
     let row = g.R.RowView.vars c.args.row.now in
-    let from = tree_of c.loop-at.value.now in
+    let from = datum_of c.loop-at.value.now in
     let rest = steps (map step_part (drop (c.loop-at.at + 1) c.args.all.now)) in
     let here = λ (p : StepPart) (k : step_part c.index-all-at.result ≡ p).
     from_here c.args.all.now c.loop-at.at c.index-all-at.result p (omega arith) c.index-all-at.is k cur row
     from in
     elim c.match-all-at.branch [
       | follow-in-Name w ↦
-          ap (λ (v : Bor Value). stepped rest cur row (tree_of v.now)) w.value-is
-          ∙ ap (stepped rest cur row) (w.attribute-value.ensures ∙ ap (at_name from) w.as_str.ensures)
+          ap (λ (v : Bor Value). steps_value rest cur row (datum_of v.now)) w.value-is
+          ∙ ap (steps_value rest cur row) (w.attribute-value.ensures ∙ ap (at_name from) w.as_str.ensures)
           ∙ sym (here (name w.in-Name.name) (ap step_part w.in-Name.is ∙ part-Name w.in-Name.name))
           ∙ c.loop-at.invariant
       | follow-in-At+in_ok-which-in-At w ↦
-          ap (λ (v : Bor Value). stepped rest cur row (tree_of v.now)) w.value-is
-          ∙ ap (stepped rest cur row)
+          ap (λ (v : Bor Value). steps_value rest cur row (datum_of v.now)) w.value-is
+          ∙ ap (steps_value rest cur row)
           (w.access-value.ensures ∙ ap (at_value from) w.in_ok-which-in-At.ensures)
           ∙ sym (here (at (tree w.in-At.which)) (ap step_part w.in-At.is ∙ part-At w.in-At.which))
           ∙ c.loop-at.invariant
@@ -35,20 +35,20 @@ follow-loop-at-preserved g t c =
 
 pub follow-loop-element-preserved : goal.follow-loop-element-preserved
 follow-loop-element-preserved g t c =
-    let cur = tree_of c.args.cur.now in
+    let cur = datum_of c.args.cur.now in
     let row = g.R.RowView.vars c.args.row.now in
     let steps_left = steps (map step_part (drop (c.loop-at.at + 1) c.args.all.now)) in
-    let after = λ (w : Tree). stepped steps_left cur row w in
-    let given = λ (e : Tree). value_or (maybe (option_map tree c.in-Each.project)) e row e in
-    let tested = λ (e : Tree). value_or (maybe (option_map tree c.in-Each.filter)) e row (boolean true) in
+    let after = λ (w : Datum). steps_value steps_left cur row w in
+    let given = λ (e : Datum). value_or (maybe (option_map tree c.in-Each.project)) e row e in
+    let tested = λ (e : Datum). value_or (maybe (option_map tree c.in-Each.filter)) e row (boolean true) in
     let all = c.elements-element-items.result.now in
     let element = c.element-item.result in
-    let rest = trees_in (drop (c.loop-element.element-index + 1) all) in
+    let rest = datums_in (drop (c.loop-element.element-index + 1) all) in
     let done = c.loop-element.out in
-    let whole = taken after given tested (trees_in all) in
-    let begun : done ++ taken after given tested (tree_of element ∷ rest) ≡ whole =
+    let whole = taken after given tested (datums_in all) in
+    let begun : done ++ taken after given tested (datum_of element ∷ rest) ≡ whole =
     ap (λ ts. done ++ taken after given tested ts)
-    (sym (ap trees_in (left all c.loop-element.element-index element (omega arith) c.element-item.is)))
+    (sym (ap datums_in (left all c.loop-element.element-index element (omega arith) c.element-item.is)))
     ∙ c.loop-element.invariant in
     elim c.if-branch.branch [
       | follow-then-branch+in_ok-given-in-Each+in_ok-follow_given-in-Each+in_ok-push-in-Each w ↦
@@ -56,26 +56,26 @@ follow-loop-element-preserved g t c =
           (w.out-is ∙ w.in_ok-push-in-Each.ensures.ok
           ∙ ap (λ v. done ++ v ∷ [])
           (w.in_ok-follow_given-in-Each.ensures ∙ ap after w.in_ok-given-in-Each.ensures))
-          ∙ one_kept after given tested done (tree_of element) rest whole
+          ∙ one_kept after given tested done (datum_of element) rest whole
           (sym c.in_ok-is_kept-in-Each.ensures ∙ w.if-branch.true) begun
       | follow-else-branch w ↦
           ap (λ out. out ++ taken after given tested rest) w.out-is
-          ∙ one_dropped after given tested done (tree_of element) rest whole
+          ∙ one_dropped after given tested done (datum_of element) rest whole
           (sym c.in_ok-is_kept-in-Each.ensures ∙ w.if-branch.false) begun
     ]
 
 pub follow-returns-in-Each : goal.follow-returns-in-Each
 follow-returns-in-Each g t c =
-    let cur = tree_of c.args.cur.now in
+    let cur = datum_of c.args.cur.now in
     let row = g.R.RowView.vars c.args.row.now in
-    let from = tree_of c.loop-at.value.now in
+    let from = datum_of c.loop-at.value.now in
     let steps_left = steps (map step_part (drop (c.loop-at.at + 1) c.args.all.now)) in
-    let after = λ (w : Tree). stepped steps_left cur row w in
-    let given = λ (e : Tree). value_or (maybe (option_map tree c.in-Each.project)) e row e in
-    let tested = λ (e : Tree). value_or (maybe (option_map tree c.in-Each.filter)) e row (boolean true) in
+    let after = λ (w : Datum). steps_value steps_left cur row w in
+    let given = λ (e : Datum). value_or (maybe (option_map tree c.in-Each.project)) e row e in
+    let tested = λ (e : Datum). value_or (maybe (option_map tree c.in-Each.filter)) e row (boolean true) in
     let all = c.elements-element-items.result.now in
     let here = from_here c.args.all.now c.loop-at.at c.index-all-at.result
-    (each (option_map tree c.in-Each.filter) (option_map tree c.in-Each.project)) (omega arith)
+    (inline (option_map tree c.in-Each.filter) (option_map tree c.in-Each.project)) (omega arith)
     c.index-all-at.is (ap step_part c.in-Each.is ∙ part-Each c.in-Each.filter c.in-Each.project) cur row
     from in
     let ended : length all ≤ c.loop-element.element-index = omega arith in
@@ -85,7 +85,7 @@ follow-returns-in-Each g t c =
 
 pub evaluate_all-loop-expr-preserved : goal.evaluate_all-loop-expr-preserved
 evaluate_all-loop-expr-preserved g t c =
-    let cur = tree_of c.args.cur.now in
+    let cur = datum_of c.args.cur.now in
     let row = g.R.RowView.vars c.args.row.now in
     let all = c.args.exprs.now in
     let i = c.loop-expr.expr-index in
@@ -99,7 +99,7 @@ evaluate_all-loop-expr-preserved g t c =
 
 pub evaluate_members-loop-field-preserved : goal.evaluate_members-loop-field-preserved
 evaluate_members-loop-field-preserved g t c =
-    let cur = tree_of c.args.cur.now in
+    let cur = datum_of c.args.cur.now in
     let row = g.R.RowView.vars c.args.row.now in
     let all = c.args.fields.now in
     let i = c.loop-field.field-index in
@@ -112,11 +112,11 @@ evaluate_members-loop-field-preserved g t c =
 
 pub evaluate_links-loop-link-preserved : goal.evaluate_links-loop-link-preserved
 evaluate_links-loop-link-preserved g t c =
-    let cur = tree_of c.args.cur.now in
+    let cur = datum_of c.args.cur.now in
     let row = g.R.RowView.vars c.args.row.now in
     let all = c.args.all.now in
     let i = c.loop-link.link-index in
-    ap (linked (links (map link_part (drop (i + 1) all))) cur row) c.in_ok-left.ensures
-    ∙ ap (λ ls. linked (links (map link_part ls)) cur row (tree_of c.loop-link.left))
+    ap (links_value (links (map link_part (drop (i + 1) all))) cur row) c.in_ok-left.ensures
+    ∙ ap (λ ls. links_value (links (map link_part ls)) cur row (datum_of c.loop-link.left))
     (sym (left all i c.link-item.result c.loop-link-test.true c.link-item.is))
     ∙ c.loop-link.invariant

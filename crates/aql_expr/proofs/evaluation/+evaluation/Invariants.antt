@@ -1,9 +1,9 @@
 use Rattle.std.proofs.Common.{◌≡◌, ◌++◌, ◌+◌, ◌*◌, ◌-◌, ◌^◌, length, map, drop, true, option_map}
-use Rattle.aql_value.specs.Tree.{Tree, boolean}
-use Rattle.aql_value.specs.View.{tree_of, trees_in}
+use Rattle.aql_value.specs.Datum.{Datum, boolean}
+use Rattle.aql_value.specs.View.{datum_of, datums_in}
 use Rattle.aql_func.specs.Objects.{with_all}
 use Rattle.aql_tree.specs.View.{tree, trees, maybe, members, steps, links, member_part, step_part, link_part}
-use Rattle.aql_meaning.specs.Clauses.{kept}
+use Rattle.aql_meaning.specs.Clauses.{filter_true}
 use Rattle.aql_meaning.specs.Value as spec
 use Rattle.aql_expr.proofs.evaluation.+evaluation.Given as goal
 
@@ -46,41 +46,41 @@ decreases-evaluate_link g l = goal.size-evaluate_link g l * 2 ^ 66 + 1
 
 abbrev pub invariant-evaluate_all-loop-expr : goal.invariant-evaluate_all-loop-expr
 invariant-evaluate_all-loop-expr g l =
-    let cur = tree_of l.cur in
+    let cur = datum_of l.cur in
     let row = g.R.RowView.vars l.row in
     l.out ++ spec.values (trees (map tree (drop l.expr-index l.exprs))) cur row
     ≡ spec.values (trees (map tree l.exprs)) cur row
 
 abbrev pub invariant-evaluate_members-loop-field : goal.invariant-evaluate_members-loop-field
 invariant-evaluate_members-loop-field g l =
-    let cur = tree_of l.cur in
+    let cur = datum_of l.cur in
     let row = g.R.RowView.vars l.row in
     with_all l.out (spec.members (members (map member_part (drop l.field-index l.fields))) cur row)
     ≡ with_all l.initial.out (spec.members (members (map member_part l.fields)) cur row)
 
 abbrev pub invariant-follow-loop-at : goal.invariant-follow-loop-at
 invariant-follow-loop-at g l =
-    let cur = tree_of l.cur in
+    let cur = datum_of l.cur in
     let row = g.R.RowView.vars l.row in
-    spec.stepped (steps (map step_part (drop l.at l.all))) cur row (tree_of l.value)
-    ≡ spec.stepped (steps (map step_part (drop l.start l.all))) cur row (tree_of l.from)
+    spec.steps_value (steps (map step_part (drop l.at l.all))) cur row (datum_of l.value)
+    ≡ spec.steps_value (steps (map step_part (drop l.start l.all))) cur row (datum_of l.from)
 
 abbrev pub invariant-follow-loop-element : goal.invariant-follow-loop-element
 invariant-follow-loop-element g l =
-    let cur = tree_of l.cur in
+    let cur = datum_of l.cur in
     let row = g.R.RowView.vars l.row in
     let rest = steps (map step_part (drop (l.at + 1) l.all)) in
-    let after = λ (w : Tree). spec.stepped rest cur row w in
-    let given = λ (c : Tree). spec.value_or (maybe (option_map tree l.project)) c row c in
-    let tested = λ (c : Tree). spec.value_or (maybe (option_map tree l.filter)) c row (boolean true) in
-    let left = trees_in (drop l.element-index l.element-items) in
-    let whole = trees_in l.element-items in
-    l.out ++ map after (map given (kept left (map tested left)))
-    ≡ map after (map given (kept whole (map tested whole)))
+    let after = λ (w : Datum). spec.steps_value rest cur row w in
+    let given = λ (c : Datum). spec.value_or (maybe (option_map tree l.project)) c row c in
+    let tested = λ (c : Datum). spec.value_or (maybe (option_map tree l.filter)) c row (boolean true) in
+    let left = datums_in (drop l.element-index l.element-items) in
+    let whole = datums_in l.element-items in
+    l.out ++ map after (map given (filter_true left (map tested left)))
+    ≡ map after (map given (filter_true whole (map tested whole)))
 
 abbrev pub invariant-evaluate_links-loop-link : goal.invariant-evaluate_links-loop-link
 invariant-evaluate_links-loop-link g l =
-    let cur = tree_of l.cur in
+    let cur = datum_of l.cur in
     let row = g.R.RowView.vars l.row in
-    spec.linked (links (map link_part (drop l.link-index l.all))) cur row (tree_of l.left)
-    ≡ spec.linked (links (map link_part l.all)) cur row (tree_of l.initial.left)
+    spec.links_value (links (map link_part (drop l.link-index l.all))) cur row (datum_of l.left)
+    ≡ spec.links_value (links (map link_part l.all)) cur row (datum_of l.initial.left)

@@ -1,11 +1,12 @@
 use Rattle.std.proofs.Common.{◌≡◌, ◌≤◌, length, drop}
-use Rattle.aql_value.specs.View.{trees_in}
+use Rattle.aql_value.specs.View.{datums_in}
 use Rattle.aql_func.specs.Aggregates.{best, greater}
-use Rattle.aql_func.specs.Seen.{given}
+use Rattle.aql_func.specs.Optional.{optional_datum}
 use Rattle.aql_func.proofs.aggregates.maximum.Given as goal
 
 abbrev pub invariant-loop-at : goal.invariant-loop-at
-invariant-loop-at l = (l.at ≤ length l.values) × (given l.best ≡ best greater (trees_in (drop l.at l.values)))
+invariant-loop-at l =
+    (l.at ≤ length l.values) × (optional_datum l.best ≡ best greater (datums_in (drop l.at l.values)))
 
 abbrev pub decreases-loop-at : goal.decreases-loop-at
 decreases-loop-at l = l.at

@@ -1,9 +1,9 @@
 use Rattle.std.proofs.Common.{sym, ap, ◌∙◌}
-use Rattle.aql_value.specs.View.{tree_of}
+use Rattle.aql_value.specs.View.{datum_of}
 use Rattle.aql_value.specs.Parts.{elements}
-use Rattle.aql_value.specs.laws.Lists.{trees_list-array_of}
+use Rattle.aql_value.specs.laws.Lists.{datum_list-array_of}
 use Rattle.aql_func.proofs.arguments.array.Goals as goal
 
 pub returns-in-List-clause-elements : goal.returns-in-List-clause-elements
 returns-in-List-clause-elements c =
-    sym (ap (λ v. elements (tree_of v)) c.in-List.is ∙ trees_list-array_of c.in-List.list)
+    sym (ap (λ v. elements (datum_of v)) c.in-List.is ∙ datum_list-array_of c.in-List.list)

@@ -1,6 +1,6 @@
 use Rattle.std.proofs.Common.{◌≡◌, ◌++◌}
-use Rattle.aql_value.specs.View.{trees_in}
+use Rattle.aql_value.specs.View.{datums_in}
 use Rattle.aql_func.proofs.lists.array_of.Given as goal
 
 abbrev pub invariant-loop-value : goal.invariant-loop-value
-invariant-loop-value l = l.out ++ trees_in l.value-iterator.rest.items ≡ trees_in l.fn.values.items
+invariant-loop-value l = l.out ++ datums_in l.value-iterator.rest.items ≡ datums_in l.fn.values.items

@@ -1,5 +1,5 @@
 use Rattle.std.proofs.Common.{ap, sym, ◌∙◌, take}
-use Rattle.aql_value.specs.View.{tree_of, trees_in}
+use Rattle.aql_value.specs.View.{datum_of, datums_in}
 use Rattle.aql_func.specs.Lists.{firsts}
 use Rattle.aql_func.proofs.Steps.{done}
 use Rattle.aql_func.proofs.Firsts.{noted, firsts_push}
@@ -12,5 +12,5 @@ loop-value-preserved c =
     let one_more = done vs c.loop-value.value-index c.value-item.result c.loop-value-test.true
     c.value-item.is in
     c.in_ok-note.ensures.keys
-    ∙ ap (λ ks. noted ks (tree_of c.value-item.result)) c.loop-value.invariant
-    ∙ sym (ap firsts one_more ∙ firsts_push (trees_in before) (tree_of c.value-item.result))
+    ∙ ap (λ ks. noted ks (datum_of c.value-item.result)) c.loop-value.invariant
+    ∙ sym (ap firsts one_more ∙ firsts_push (datums_in before) (datum_of c.value-item.result))

@@ -1,8 +1,8 @@
 use Rattle.std.proofs.Common.{◌≡◌, ℕ, List, map, take}
-use Rattle.aql_value.specs.Tree.{Tree, text}
+use Rattle.aql_value.specs.Datum.{Datum, text}
 use Rattle.aql_value.specs.Fields.{fields_in}
 use Rattle.aql_func.proofs.objects.names_of.Given as goal
 
 abbrev pub invariant-loop-member : goal.invariant-loop-member
-invariant-loop-member l = l.out ≡ map (λ (f : List ℕ × Tree). text f.0)
+invariant-loop-member l = l.out ≡ map (λ (f : List ℕ × Datum). text f.0)
     (fields_in (take l.member-index l.member-items))

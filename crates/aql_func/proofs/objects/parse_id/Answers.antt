@@ -1,24 +1,24 @@
 use Rattle.std.proofs.Common.{Option, unwrap_or, ap, sym, ◌∙◌}
 use Rattle.std.proofs.lemmas.Result.{IfOk-weaker}
 use Rattle.std.specs.Prelude.{codes}
-use Rattle.aql_value.specs.Tree.{Tree, null}
-use Rattle.aql_value.specs.View.{tree_of}
+use Rattle.aql_value.specs.Datum.{Datum, null}
+use Rattle.aql_value.specs.View.{datum_of}
 use Rattle.aql_value.specs.Attributes.{attribute}
-use Rattle.aql_func.specs.Objects.{identified, id_of_text, parsed_identifier}
+use Rattle.aql_func.specs.Objects.{identifier_or_null, id_of_text, parse_identifier}
 use Rattle.aql_value.specs.laws.Lists.{fields_list-object_of}
 use Rattle.aql_func.proofs.objects.parse_id.Goals as goal
 
-abbrev id_in : Option Tree → Tree
-id_in o = identified (id_of_text (unwrap_or o null))
+abbrev id_in : Option Datum → Datum
+id_in o = identifier_or_null (id_of_text (unwrap_or o null))
 
 pub returns-in-Some : goal.returns-in-Some
 returns-in-Some c =
     IfOk-weaker c.parse_id_text.result _ _ (λ v gives. gives ∙ ap id_in c.in-Some.ensures
     ∙ ap (λ fs. id_in (attribute (codes "_id") fs)) (sym (fields_list-object_of c.in-Object.members))
-    ∙ ap (λ v. parsed_identifier (tree_of v)) (sym c.in-Object.is)) c.parse_id_text.ensures
+    ∙ ap (λ v. parse_identifier (datum_of v)) (sym c.in-Object.is)) c.parse_id_text.ensures
 
 pub returns-in-None : goal.returns-in-None
 returns-in-None c =
     ap id_in c.in-None.ensures ∙ ap (λ fs. id_in (attribute (codes "_id") fs))
     (sym (fields_list-object_of c.in-Object.members))
-    ∙ ap (λ v. parsed_identifier (tree_of v)) (sym c.in-Object.is)
+    ∙ ap (λ v. parse_identifier (datum_of v)) (sym c.in-Object.is)

@@ -3,7 +3,7 @@ use Rattle.std.specs.Prelude.{pos, ◌+ℤ◌, ◌<ℤ◌}
 use Rattle.std.specs.Int.{w64}
 use mir.Val.{to_z, of_z}
 use Rattle.std.proofs.lemmas.Int.{ints}
-use Rattle.aql_value.specs.Tree.{number}
+use Rattle.aql_value.specs.Datum.{number}
 use Rattle.aql_func.specs.Operators.{numbers, range_length}
 use Rattle.aql_func.proofs.Counted.{next_up, last_number}
 use Rattle.aql_func.proofs.ranges.upwards.Goals as goal

@@ -1,6 +1,6 @@
 use Rattle.std.proofs.Common.{◌≡◌, ◌∷◌, [], map, take}
 use Rattle.std.specs.Prelude.{encode_utf8_all}
-use Rattle.aql_value.specs.Tree.{text}
+use Rattle.aql_value.specs.Datum.{text}
 use Rattle.aql_func.proofs.texts.letters.Given as goal
 
 abbrev pub invariant-loop-c : goal.invariant-loop-c

@@ -1,5 +1,5 @@
 use Rattle.std.proofs.Common.{rules, ◌++◌, ap, sym, ◌∙◌, map, append_assoc}
-use Rattle.aql_value.specs.Tree.{text}
+use Rattle.aql_value.specs.Datum.{text}
 use Rattle.aql_func.specs.Texts.{parts_of}
 use Rattle.aql_func.proofs.Search.{cut_once, no_cut}
 use Rattle.aql_func.proofs.texts.parts_between.Goals as goal

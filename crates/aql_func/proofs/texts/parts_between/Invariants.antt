@@ -1,7 +1,7 @@
 use Rattle.std.proofs.Common.{◌≡◌, ◌++◌, length, map}
 use denote.Text.{Utf8}
 use denote.Shadow.{shadow}
-use Rattle.aql_value.specs.Tree.{text}
+use Rattle.aql_value.specs.Datum.{text}
 use Rattle.aql_func.specs.Texts.{parts_of}
 use Rattle.aql_func.proofs.texts.parts_between.Given as goal
 

@@ -1,8 +1,8 @@
 use Rattle.std.proofs.Common.{◌≡◌, drop}
-use Rattle.aql_lift.specs.Names.{idents}
-use Rattle.aql_names.specs.Faults.{kept_names}
+use Rattle.aql_lift.specs.Numbering.{idents}
+use Rattle.aql_names.specs.Faults.{keep_fault}
 use Rattle.aql_names.proofs.checks.check_kept.Given as goal
 
 abbrev pub invariant-loop-name : goal.invariant-loop-name
 invariant-loop-name l =
-    kept_names (idents l.own) l.keep ≡ kept_names (idents l.own) (drop l.name-index l.keep)
+    keep_fault (idents l.own) l.keep ≡ keep_fault (idents l.own) (drop l.name-index l.keep)

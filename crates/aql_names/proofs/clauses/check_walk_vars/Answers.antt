@@ -1,7 +1,7 @@
 use Rattle.std.proofs.Common.{rules, arith, [], ◌∷◌, ◌++◌}
 use Rattle.std.specs.Prelude.{option_to_list}
 use Rattle.std.proofs.lemmas.Grind.{common_steps}
-use Rattle.aql_lift.specs.Names.{idents}
+use Rattle.aql_lift.specs.Numbering.{idents}
 use Rattle.aql_names.proofs.Words.{new_append}
 use Rattle.aql_names.proofs.clauses.check_walk_vars.Goals as goal
 

@@ -1,6 +1,6 @@
 use Rattle.std.proofs.Common.{rules, arith}
 use Rattle.std.proofs.lemmas.Grind.{common_steps}
-use Rattle.aql_names.specs.Walk.{visible, site_of}
+use Rattle.aql_names.specs.Visit.{visible, site_of}
 use Rattle.aql_names.proofs.Words.{object_members}
 use Rattle.aql_names.proofs.clauses.object_with.Goals as goal
 

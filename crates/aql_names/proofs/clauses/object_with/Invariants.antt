@@ -1,6 +1,6 @@
 use Rattle.std.proofs.Common.{◌≡◌, map, take}
 use Rattle.aql_tree.specs.View.{member_part}
-use Rattle.aql_names.specs.Walk.{visible, site_of}
+use Rattle.aql_names.specs.Visit.{visible, site_of}
 use Rattle.aql_names.proofs.Words.{member_of}
 use Rattle.aql_names.proofs.clauses.object_with.Given as goal
 

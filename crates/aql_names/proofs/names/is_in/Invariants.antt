@@ -1,6 +1,6 @@
 use Rattle.std.proofs.Common.{◌≡◌, take}
 use Rattle.std.specs.Prelude.{reverse}
-use Rattle.aql_lift.specs.Names.{idents}
+use Rattle.aql_lift.specs.Numbering.{idents}
 use Rattle.aql_names.specs.Faults.{is_among}
 use Rattle.aql_names.proofs.names.is_in.Given as goal
 

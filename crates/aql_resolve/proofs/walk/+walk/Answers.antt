@@ -2,13 +2,13 @@ use Rattle.std.proofs.Common.{◌≡◌, ◌∙◌, ap, sym, subst, map, rules, 
 use Rattle.std.proofs.lemmas.List.{drop_all, map-append}
 use Rattle.aql_tree.specs.declared.syntax.Into.{Into}
 use Rattle.aql_tree.specs.declared.syntax.Query.{roll-Query}
-use Rattle.aql_tree.specs.Tree.{ClauseTree, subquery, for_paths, no_members, query}
-use Rattle.aql_tree.specs.View.{tree, steps, each, step_part, maybe, members, clauses, query_tree, clause_tree, IntoPart, into_part, into_tree, traversal_part, walked}
-use Rattle.aql_lift.specs.Names.{Names, numbered_walk}
+use Rattle.aql_tree.specs.Tree.{ClauseTree, subquery, traversal, no_members, query}
+use Rattle.aql_tree.specs.View.{tree, steps, inline, step_part, maybe, members, clauses, query_tree, clause_tree, IntoPart, into_part, into_tree, traversal_part, traversal_clause}
+use Rattle.aql_lift.specs.Numbering.{Numbering, number_traversal}
 use Rattle.aql_names.specs.Faults.{edge_collections, known_collections}
-use Rattle.aql_names.specs.Options.{unwritten}
-use Rattle.aql_names.specs.Walk as walk
-use Rattle.aql_names.specs.Walk.{Site, Walks, Judges, site_of, site_within, inline_site, with_own, visible, state, next}
+use Rattle.aql_names.specs.Options.{no_settings}
+use Rattle.aql_names.specs.Visit as visit
+use Rattle.aql_names.specs.Visit.{Site, Visits, Judges, site_of, site_within, inline_site, with_own, visible, state, next}
 use Rattle.aql_resolve.proofs.Turns.{let_of_query, let_of_value, of_query, no_query, into_given, walk_has_fault, walk_has_parts, shape_is, walk_parts_of, settings_have_fault, into_by_names, into_parts_of, steps_from, of_each, each_has_fault, fault_through, given_on, boxes, head_fault, head_new, head_depth, head_has_fault}
 use Rattle.aql_resolve.proofs.Queries.{query_parts_of, clause_has_fault, result_has_fault, gives_query}
 use Rattle.aql_resolve.proofs.walk.+walk.Goals as goal
@@ -23,8 +23,8 @@ access_steps-returns-in_err-step t c =
     c.loop-item-test.true c.item-item.is in
     let is : c.step.result ≡ Err c.in_err-step.field-0.0 = search rules in
     let is' : c.from_residual.result ≡ Err c.in_err-step.field-0.0 = search rules in
-    subst (λ o. Walks (map step_part) o c.from_residual.result last) (sym from_here)
-    (fault_through step_part (map step_part) (walk.step s (step_part c.item-item.result) before) _ c.step.result
+    subst (λ o. Visits (map step_part) o c.from_residual.result last) (sym from_here)
+    (fault_through step_part (map step_part) (visit.step s (step_part c.item-item.result) before) _ c.step.result
     c.from_residual.result c.in_err-step.field-0.0 last last is is' c.step.ensures)
 
 pub access_steps-loop-item-preserved : goal.access_steps-loop-item-preserved
@@ -37,8 +37,8 @@ access_steps-loop-item-preserved t c =
     c.loop-item.invariant
     ∙ steps_from s (map step_part found) c.args.all.now c.loop-item.item-index c.item-item.result before
     c.loop-item-test.true c.item-item.is
-    ∙ given_on (walk.step s (step_part c.item-item.result) before) _ (step_part q) last c.in_ok-step.ensures
-    ∙ ap (λ fs. walk.steps s fs (steps (map step_part (drop (c.loop-item.item-index + 1) c.args.all.now))) last)
+    ∙ given_on (visit.step s (step_part c.item-item.result) before) _ (step_part q) last c.in_ok-step.ensures
+    ∙ ap (λ fs. visit.steps s fs (steps (map step_part (drop (c.loop-item.item-index + 1) c.args.all.now))) last)
     (sym (ap (map step_part) c.in_ok-push.ensures.ok ∙ map-append step_part found (q ∷ [])))
 
 pub step-returns-in_err-project-in-Each : goal.step-returns-in_err-project-in-Each
@@ -50,11 +50,11 @@ step-returns-in_err-project-in-Each t c =
     let last = state c.maybe-in-Each.new.said c.maybe-in-Each.new.lets in
     let filter = option_map tree c.in-Each.filter in
     let gives = option_map tree c.in-Each.project in
-    let part : step_part c.args.item.now ≡ each filter gives =
+    let part : step_part c.args.item.now ≡ inline filter gives =
     ap step_part c.in-Each.is ∙ of_each c.in-Each.filter c.in-Each.project in
     let is : c.maybe-in-Each.result ≡ Err c.in_err-project-in-Each.field-0.0 = search rules in
     let is' : c.from_residual-in_err-project-in-Each.result ≡ Err c.in_err-project-in-Each.field-0.0 = search rules in
-    subst (λ p. Walks step_part (walk.step s p before) c.from_residual-in_err-project-in-Each.result last) (sym part)
+    subst (λ p. Visits step_part (visit.step s p before) c.from_residual-in_err-project-in-Each.result last) (sym part)
     (each_has_fault boxes step_part s here filter gives (boxes c.in_ok-filter-in-Each.filter)
     before second last c.maybe-in-Each.result c.from_residual-in_err-project-in-Each.result
     c.in_err-project-in-Each.field-0.0 c.inline-inner.ensures c.in_ok-filter-in-Each.ensures is is'
@@ -63,12 +63,12 @@ step-returns-in_err-project-in-Each t c =
 pub into_some-returns-in-Some : goal.into_some-returns-in-Some
 into_some-returns-in-Some t c =
     let i = c.args.into.now in
-    let f : Into → Option IntoPart × Names = λ x. (Some (into_part x), c.into_expr.new.behind) in
+    let f : Into → Option IntoPart × Numbering = λ x. (Some (into_part x), c.into_expr.new.behind) in
     let before = state c.args.said.now c.args.lets.now in
     let after = state c.into_expr.new.said c.into_expr.new.lets in
     let h = into_given f (site_of c.args.at.now) c.args.behind.now i.var _ _ _ _ before c.into_expr.result after
     (ap (option_map tree) c.in-Some.is) c.as_slice.ensures c.into_expr.ensures in
-    let h' = subst (λ p. Walks f (walk.into_walk (site_of c.args.at.now) c.args.behind.now (into_tree (Some p)) before)
+    let h' = subst (λ p. Visits f (visit.visit_into (site_of c.args.at.now) c.args.behind.now (into_tree (Some p)) before)
     c.into_expr.result after) (sym (into_parts_of i)) h in
     search (rules, h')
 
@@ -130,26 +130,26 @@ walk_clause-returns-clause-clause t c =
     let parts = c.in_ok-parts.parts in
     let head = c.in_ok-head.head in
     let last = state c.walk_parts.new.said c.walk_parts.new.lets in
-    let options = walk.written_options (members part.4) part.0.options parts.written in
+    let options = visit.options_after (members part.4) part.0.options parts.written in
     let start = tree parts.start.value in
     let collections : head.collections ≡ part.2 =
     c.in_ok-head.ensures.collections ∙ ap (λ p. p.2) (sym by_part) in
     let clause : clause_tree c.walk_of.result
-    ≡ for_paths (walk.walk_with options (numbered_walk (next c.args.said.now) part.0)) start part.2
+    ≡ traversal (visit.shape_with options (number_traversal (next c.args.said.now) part.0)) start part.2
     (maybe (boxes parts.prune)) no_members =
     c.walk_of.ensures.clause
-    ∙ ap (λ cs. for_paths (record part.0 { vertex = head.vertex; edge = head.edge; path = head.path; options = options }) start cs (maybe (boxes parts.prune)) no_members) collections
-    ∙ ap (λ w. for_paths w start part.2 (maybe (boxes parts.prune)) no_members)
+    ∙ ap (λ cs. traversal (record part.0 { vertex = head.vertex; edge = head.edge; path = head.path; options = options }) start cs (maybe (boxes parts.prune)) no_members) collections
+    ∙ ap (λ w. traversal w start part.2 (maybe (boxes parts.prune)) no_members)
     (shape_is part.0 (next c.args.said.now) options head.vertex head.edge head.path c.in_ok-head.ensures.vars.0
     c.in_ok-head.ensures.vars.1 c.in_ok-head.ensures.vars.2) in
-    let h : walk.clause s (walked part) (state c.args.said.now c.args.lets.now)
+    let h : visit.clause s (traversal_clause part) (state c.args.said.now c.args.lets.now)
     ≡ Ok ((clause_tree c.walk_of.result, c.walk_of.new.scope.own), last) =
     walk_has_parts s part.0 part.1 part.2 (maybe part.3) (members part.4) c.args.said.now
     c.open_walk.new.said (map clause_tree c.args.lets.now) head.behind (head_new s part.0 judged)
     (head_depth s part.0 judged) c.in_ok-head.ensures.said c.in_ok-head.ensures.behind
     (start, boxes parts.prune, parts.written) last c.in_ok-parts.ensures
     ∙ ap (λ (t : ClauseTree). Ok ((t, head.behind), last)) (sym clause)
-    ∙ ap (λ (own : Names). Ok ((clause_tree c.walk_of.result, own), last)) (sym c.walk_of.ensures.own) in
+    ∙ ap (λ (own : Numbering). Ok ((clause_tree c.walk_of.result, own), last)) (sym c.walk_of.ensures.own) in
     search (rules, h)
 
 pub walk_parts-returns-in_err-written : goal.walk_parts-returns-in_err-written
@@ -164,17 +164,17 @@ walk_parts-returns-in_err-written t c =
     let second = state c.boxed_expr.new.said c.boxed_expr.new.lets in
     let third = state c.prune_condition.new.said c.prune_condition.new.lets in
     let last = state c.written_options.new.said c.written_options.new.lets in
-    let found : walk.expr here part.1 first ≡ Ok (tree c.in_ok-start.start.value, second) =
-    ap (λ p. walk.expr here p.1 first) by_part ∙ c.in_ok-start.ensures in
+    let found : visit.expr here part.1 first ≡ Ok (tree c.in_ok-start.start.value, second) =
+    ap (λ p. visit.expr here p.1 first) by_part ∙ c.in_ok-start.ensures in
     let edges : edge_collections s.held part.2 ≡ None =
     ap (λ p. edge_collections s.held p.2) by_part ∙ ap (edge_collections s.held) (sym c.as_slice.ensures)
     ∙ c.in_ok-check_edges.ensures in
-    let pruned : walk.maybe narrow (maybe part.3) second ≡ Ok (boxes c.in_ok-prune.prune, third) =
-    ap (λ p. walk.maybe narrow (maybe p.3) second) by_part ∙ c.in_ok-prune.ensures in
+    let pruned : visit.maybe narrow (maybe part.3) second ≡ Ok (boxes c.in_ok-prune.prune, third) =
+    ap (λ p. visit.maybe narrow (maybe p.3) second) by_part ∙ c.in_ok-prune.ensures in
     let is : c.written_options.result ≡ Err c.in_err-written.field-0.0 = search rules in
     let is' : c.from_residual-in_err-written.result ≡ Err c.in_err-written.field-0.0 = search rules in
-    let written : Walks (λ w. w) (walk.settings inner unwritten (members part.4) third) c.written_options.result last =
-    subst (λ p. Walks (λ w. w) (walk.settings inner unwritten (members p.4) third) c.written_options.result last)
+    let written : Visits (λ w. w) (visit.settings inner no_settings (members part.4) third) c.written_options.result last =
+    subst (λ p. Visits (λ w. w) (visit.settings inner no_settings (members p.4) third) c.written_options.result last)
     (sym by_part) c.written_options.ensures in
     let h = settings_have_fault (λ p. (tree p.start.value, boxes p.prune, p.written)) (λ w. w) s c.args.behind.now
     part.1 part.2 (maybe part.3) (members part.4) first second third last here inner (tree c.in_ok-start.start.value)
@@ -193,7 +193,7 @@ query_within-returns-in_err-scoped t c =
     let is' : c.from_residual-in_err-scoped.result ≡ Err c.in_err-scoped.field-0.0 = search rules in
     let h : c.loop-item.item-index < length q.clauses = search rules in
     let at : c.item-item.result ≡ get_or q.clauses c.loop-item.item-index c.item-item.result = search rules in
-    subst (λ p. Walks query_tree (walk.query_walk held (visible (site_of c.args.at.now)) p c.args.said.now)
+    subst (λ p. Visits query_tree (visit.visit_query held (visible (site_of c.args.at.now)) p c.args.said.now)
     c.from_residual-in_err-scoped.result c.clause.new.said) (sym (query_parts_of q))
     (clause_has_fault held (visible (site_of c.args.at.now)) q.with q.clauses q.distinct (tree q.result.value)
     c.args.said.now known (λ c'. (clause_tree c', c.clause.new.scope.own)) query_tree
@@ -218,11 +218,11 @@ query_within-returns-in_err-result t c =
     let is' : c.from_residual-in_err-result.result ≡ Err c.in_err-result.field-0.0 = search rules in
     let before = state c.loop-item.said c.loop-item.done in
     let last = state c.boxed_expr.new.said c.boxed_expr.new.lets in
-    let fails : Walks (λ b. tree b.value) (walk.expr (site_of c.within-inner.result) (tree q.result.value) before)
+    let fails : Visits (λ b. tree b.value) (visit.expr (site_of c.within-inner.result) (tree q.result.value) before)
     c.boxed_expr.result last =
-    subst (λ b. Walks (λ b. tree b.value) (walk.expr (site_of c.within-inner.result) (tree b) before) c.boxed_expr.result last)
+    subst (λ b. Visits (λ b. tree b.value) (visit.expr (site_of c.within-inner.result) (tree b) before) c.boxed_expr.result last)
     c.deref.ensures c.boxed_expr.ensures in
-    subst (λ p. Walks query_tree (walk.query_walk held outer p c.args.said.now) c.from_residual-in_err-result.result
+    subst (λ p. Visits query_tree (visit.visit_query held outer p c.args.said.now) c.from_residual-in_err-result.result
     c.boxed_expr.new.said) (sym (query_parts_of q))
     (result_has_fault held outer q.with q.clauses q.distinct (tree q.result.value) c.args.said.now known
     (λ b. tree b.value) query_tree s (site_of c.within-inner.result) c.loop-item.item-index before last c.boxed_expr.result
@@ -243,12 +243,12 @@ query_within-returns t c =
     c.within-inner.ensures ∙ ap (λ o. let t : Site = record s { outer = o } in t) c.loop-item.invariant.1 in
     let last = state c.boxed_expr.new.said c.boxed_expr.new.lets in
     let found = tree c.in_ok-result.result.value in
-    let h : walk.expr (site_of c.within-inner.result) (tree q.result.value) (state c.loop-item.said c.loop-item.done)
+    let h : visit.expr (site_of c.within-inner.result) (tree q.result.value) (state c.loop-item.said c.loop-item.done)
     ≡ Ok (found, last) =
-    ap (λ b. walk.expr (site_of c.within-inner.result) (tree b) (state c.loop-item.said c.loop-item.done))
+    ap (λ b. visit.expr (site_of c.within-inner.result) (tree b) (state c.loop-item.said c.loop-item.done))
     (sym c.deref.ensures) ∙ c.in_ok-result.ensures in
     let with : q.with ≡ c.in_ok-with.with = search rules in
-    ap (λ p. walk.query_walk held outer p c.args.said.now) (query_parts_of q)
+    ap (λ p. visit.visit_query held outer p c.args.said.now) (query_parts_of q)
     ∙ gives_query held outer q.with q.clauses q.distinct (tree q.result.value) c.args.said.now known s
     (site_of c.within-inner.result) c.loop-item.item-index (state c.loop-item.said c.loop-item.done) last found
     c.loop-item.invariant.0 done inner h
@@ -263,11 +263,11 @@ query_within-returns t c =
 pub into_some-returns-in-None : goal.into_some-returns-in-None
 into_some-returns-in-None t c =
     let i = c.args.into.now in
-    let f : Into → Option IntoPart × Names = λ x. (Some (into_part x), c.into_names.new.behind) in
+    let f : Into → Option IntoPart × Numbering = λ x. (Some (into_part x), c.into_names.new.behind) in
     let h = into_by_names f (site_of c.args.at.now) c.args.behind.now i.var (option_map tree i.what) i.keep
     c.as_slice-in-None.result.now c.args.said.now (map clause_tree c.args.lets.now) c.into_names.result
     c.into_names.new.said (ap (option_map tree) c.in-None.is) c.as_slice-in-None.ensures c.into_names.ensures in
-    let h' = subst (λ p. Walks f (walk.into_walk (site_of c.args.at.now) c.args.behind.now (into_tree (Some p))
+    let h' = subst (λ p. Visits f (visit.visit_into (site_of c.args.at.now) c.args.behind.now (into_tree (Some p))
     (state c.args.said.now c.args.lets.now)) c.into_names.result (state c.into_names.new.said c.args.lets.now))
     (sym (into_parts_of i)) h in
     search (rules, h')

@@ -1,6 +1,6 @@
 use Rattle.std.proofs.Common.{◌≡◌, map, drop}
 use Rattle.aql_tree.specs.View.{clause_tree, clauses}
-use Rattle.aql_run.specs.Given.{all_hold}
+use Rattle.aql_run.specs.RowValues.{all_hold}
 use Rattle.aql_run.proofs.filtering.all_hold.Given as goal
 
 -- what is left decides

@@ -1,7 +1,7 @@
 use Rattle.std.proofs.Common.{◌∙◌, sym, ap, map}
 use Rattle.std.specs.Prelude.{◌&&◌, not}
 use Rattle.aql_tree.specs.View.{clause_tree, clauses}
-use Rattle.aql_run.specs.Forms.{only_filters, behind_for, runs}
+use Rattle.aql_run.specs.Forms.{only_filters, after_for, runs}
 use Rattle.aql_run.proofs.Lines.{all_are_filters, query-tree}
 use Rattle.aql_run.proofs.running.is_taken.Goals as goal
 
@@ -11,7 +11,7 @@ returns-then-not-query c =
     c.are_filters.ensures
     ∙ all_are_filters c.behind_for.result.now
     ∙ ap only_filters c.behind_for.ensures
-    ∙ ap (λ xs. only_filters (behind_for (clauses (map clause_tree xs)))) c.as_slice.ensures
-    ∙ ap (λ b. not b && only_filters (behind_for (clauses (map clause_tree q.clauses))))
+    ∙ ap (λ xs. only_filters (after_for (clauses (map clause_tree xs)))) c.as_slice.ensures
+    ∙ ap (λ b. not b && only_filters (after_for (clauses (map clause_tree q.clauses))))
     (sym c.if-not-query.true)
     ∙ sym (ap runs (query-tree q))

@@ -1,5 +1,5 @@
 use Rattle.std.proofs.Common.{◌≡◌, ◌<◌, ◌-◌, inr, arith, length}
-use Rattle.aql_value.specs.View.{tree_of}
+use Rattle.aql_value.specs.View.{datum_of}
 use Rattle.aql_script.proofs.StepsOn.{no_collection, not_json, adds, not_added}
 use Rattle.aql_script.proofs.step.take_document.Goals as goal
 
@@ -16,7 +16,7 @@ returns-in-Ok-add_document-clause-ok c =
     let last : c.len-declared.result - 1 ≡ length c.args.catalog.now - 1 =
     omega (arith, c.len-declared.ensures.value) in
     adds c.args.line c.args.catalog.now c.args.bytes.now
-    (tree_of c.in-Ok.value) _ _ some c.in-Ok.ensures.value last
+    (datum_of c.in-Ok.value) _ _ some c.in-Ok.ensures.value last
     c.in-Ok-add_document.ensures.ok.1
 
 pub returns-in-Err-add_document-clause-err : goal.returns-in-Err-add_document-clause-err
@@ -27,7 +27,7 @@ returns-in-Err-add_document-clause-err c =
     omega (arith, c.len-declared.ensures.value) in
     rw c.doc_fault.ensures
     (not_added c.args.line c.args.catalog.now c.args.bytes.now
-    (tree_of c.in-Ok.value) _ _ some c.in-Ok.ensures.value
+    (datum_of c.in-Ok.value) _ _ some c.in-Ok.ensures.value
     last c.in-Err-add_document.ensures.err)
 
 pub returns-in-Err-clause-err : goal.returns-in-Err-clause-err

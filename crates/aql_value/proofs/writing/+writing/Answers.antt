@@ -1,7 +1,7 @@
 use Rattle.std.proofs.Common.{◌++◌, ◌∷◌, [], nat_lt, ap, ◌∙◌}
 use Rattle.std.proofs.lemmas.Result.{err_from_is_err_and}
-use Rattle.aql_value.specs.Tree.{array, object, array_of, object_of}
-use Rattle.aql_value.specs.View.{trees_in}
+use Rattle.aql_value.specs.Datum.{array, object, array_of, object_of}
+use Rattle.aql_value.specs.View.{datums_in}
 use Rattle.aql_value.specs.Fields.{fields_in}
 use Rattle.aql_value.specs.Json.{json_text}
 use Rattle.aql_value.proofs.Written.{longer, finish, items_end, members_end}
@@ -15,7 +15,7 @@ write_items-returns-in_err-write_item t c =
 
 pub write_items-returns : goal.write_items-returns
 write_items-returns t c =
-    let seen = ap trees_in c.deref-item-items.ensures.value ∙ c.list.view_is in
+    let seen = ap datums_in c.deref-item-items.ensures.value ∙ c.list.view_is in
     let e = items_end c.deref-item-items.result.now c.loop-i.i c.loop-i.out.items _
     (nat_lt 0 c.loop-i.i) c.loop-i-test.false c.loop-i.invariant.0 in
     finish c.put-2.result c.args.out.now.items c.loop-i.out.items c.put-2.new.out.items (93 ∷ [])

@@ -1,5 +1,5 @@
 use Rattle.std.proofs.Common.{◌≡◌, ◌<◌, length, arith, inl, inr, ◌∙◌, sym, subst}
-use Rattle.aql_value.specs.View.{tree_of}
+use Rattle.aql_value.specs.View.{datum_of}
 use Rattle.aql_doc.specs.Held.{documents_in}
 use Rattle.aql_doc.specs.Limits.{IsDeclared}
 use Rattle.aql_doc.specs.Documents.{with_document}
@@ -29,9 +29,9 @@ returns-in-Ok-clause-ok c =
     let there = found _ _ _ _ are lt c.index_mut-collection.ensures.value in (
       c.in-Ok.ensures.ok.0 ∙ documents_found c.args.self.now c.args.coll.0 _ there,
       gives _ _ c.args.coll.0 _ c.add.new.self
-          (λ h. with_document h (documents_in c.args.self.now) (tree_of c.args.doc))
+          (λ h. with_document h (documents_in c.args.self.now) (datum_of c.args.doc))
           are there
-          (counted _ _ c.index_mut-collection.result.now _ (tree_of c.args.doc) are c.self.invariant.0
+          (counted _ _ c.index_mut-collection.result.now _ (datum_of c.args.doc) are c.self.invariant.0
           ∙ c.in-Ok.ensures.ok.1),
     )
 
@@ -44,9 +44,9 @@ returns-in-Err-clause-err c =
       | inl m ↦ inl m
       | inr w ↦ inr
           (refuses _ c.args.coll.0 _
-          (λ h. with_document h (documents_in c.args.self.now) (tree_of c.args.doc))
+          (λ h. with_document h (documents_in c.args.self.now) (datum_of c.args.doc))
           c.in-Err.fault there
-          (counted _ _ c.index_mut-collection.result.now _ (tree_of c.args.doc) are c.self.invariant.0
+          (counted _ _ c.index_mut-collection.result.now _ (datum_of c.args.doc) are c.self.invariant.0
           ∙ w))
     ]
 

@@ -1,6 +1,6 @@
 use Rattle.std.proofs.Common.{◌≡◌, ◌<◌, length, arith, inl, inr, ap}
 use Rattle.std.specs.Prelude.{Err, ◌⊎◌}
-use Rattle.aql_doc.specs.Declarations.{with_index, indexed}
+use Rattle.aql_doc.specs.Declarations.{with_index, add_index}
 use Rattle.aql_doc.specs.declared.faults.CatalogFault.TheVariants.{Memory}
 use Rattle.aql_doc.proofs.Places.{set_total, found, gives, refuses, unchanged, on_ok, on_err, if_err, kept_within}
 use Rattle.aql_doc.proofs.catalog.Catalog.add_index.Goals as goal
@@ -32,7 +32,7 @@ returns-clause-err c =
     let there = found _ _ _ _ are lt c.index_mut-collection.ensures.value in
     if_err c.add_index.result
     (λ e. (e ≡ Memory) ⊎ (with_index c.index_mut-collection.result.now c.args.attributes ≡ Err e))
-    (λ e. (e ≡ Memory) ⊎ (indexed c.args.self.now c.args.coll.0 c.args.attributes ≡ Err e))
+    (λ e. (e ≡ Memory) ⊎ (add_index c.args.self.now c.args.coll.0 c.args.attributes ≡ Err e))
     (λ e h. elim h [
       | inl m ↦ inl m
       | inr w ↦ inr (refuses _ c.args.coll.0 _ (λ h. with_index h c.args.attributes) e there w)

@@ -1,7 +1,7 @@
 use Rattle.std.proofs.Common.{true, sym, ap, ◌∙◌}
 use Rattle.std.proofs.lemmas.Map.Text.{hash_set_updates_text}
-use Rattle.aql_doc.specs.Taken.{has_key}
-use Rattle.aql_doc.specs.Documents.{filled}
+use Rattle.aql_doc.specs.KeySet.{has_key}
+use Rattle.aql_doc.specs.Documents.{fill}
 use Rattle.aql_doc.proofs.Adding.{put_in, made_room}
 use Rattle.aql_doc.proofs.collection.Collection.put.Goals as goal
 
@@ -16,5 +16,5 @@ invariant_of-self-2 c = λ q.
     (made_room q c.self.inside.taken c.reserve.new.self c.reserve.ensures.keys)
     (hash_set_updates_text _ c.reserve.new.self c.insert.new.self true c.in-Ok.ensures.updates q)
     (c.in_ok-filled.ensures
-    ∙ ap (λ key. filled c.self.inside.info.name key c.args.members) c.as_str.ensures.value)
+    ∙ ap (λ key. fill c.self.inside.info.name key c.args.members) c.as_str.ensures.value)
     c.in_ok-push.ensures.ok

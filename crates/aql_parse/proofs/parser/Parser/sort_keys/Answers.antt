@@ -2,42 +2,42 @@ use Rattle.std.proofs.Common.{map, ℕ, Bool, List, rules, arith}
 use Rattle.std.proofs.lemmas.Grind.{common_steps}
 use Rattle.aql_tree.specs.View.{KeyPart, key_part}
 use Rattle.aql_grammar.specs.Kinds.{Tokens}
-use Rattle.aql_grammar.specs.Input.{Outcome, separated_onto, separated_from}
+use Rattle.aql_grammar.specs.Input.{Outcome, comma_list_onto, comma_list_from}
 use Rattle.aql_grammar.specs.Reader.{expr, sort_key}
 use Rattle.aql_grammar.specs.laws.Turns.{one_more, no_more}
 use Rattle.aql_parse.proofs.parser.Parser.sort_keys.Goals as goal
 
 -- what is read in the turns that are left
 abbrev rest : ℕ → Bool → List KeyPart → Tokens → ℕ → Outcome (List KeyPart)
-rest depth inside found tokens turns = separated_from (sort_key (expr depth) inside) turns found tokens
+rest depth inside found tokens turns = comma_list_from (sort_key (expr depth) inside) turns found tokens
 
 pub loop-turn-init : goal.loop-turn-init
-unfolding separated_onto
+unfolding comma_list_onto
 loop-turn-init g c = first_of (search rules, grind (arith, common_steps))
 
 pub returns-in_err-sort_key : goal.returns-in_err-sort_key
-unfolding separated_from
+unfolding comma_list_from
 returns-in_err-sort_key g c =
     let e = one_more (rest c.args.self.now.depth c.args.self.now.inside (map key_part c.loop-turn.found)
     c.loop-turn.tokens) c.left-turn-end.result c.loop-turn._turn (omega arith) c.loop-turn.invariant in
     first_of (search rules, grind (arith, common_steps))
 
 pub returns-then-not-eat : goal.returns-then-not-eat
-unfolding separated_from
+unfolding comma_list_from
 returns-then-not-eat g c =
     let e = one_more (rest c.args.self.now.depth c.args.self.now.inside (map key_part c.loop-turn.found)
     c.loop-turn.tokens) c.left-turn-end.result c.loop-turn._turn (omega arith) c.loop-turn.invariant in
     first_of (search rules, grind (arith, common_steps))
 
 pub loop-turn-preserved : goal.loop-turn-preserved
-unfolding separated_from
+unfolding comma_list_from
 loop-turn-preserved g c =
     let e = one_more (rest c.args.self.now.depth c.args.self.now.inside (map key_part c.loop-turn.found)
     c.loop-turn.tokens) c.left-turn-end.result c.loop-turn._turn (omega arith) c.loop-turn.invariant in
     first_of (search rules, grind (arith, common_steps))
 
 pub returns : goal.returns
-unfolding separated_from
+unfolding comma_list_from
 returns g c =
     let e = no_more (rest c.args.self.now.depth c.args.self.now.inside (map key_part c.loop-turn.found)
     c.loop-turn.tokens) c.left-turn-end.result c.loop-turn._turn (omega arith) c.loop-turn.invariant in

@@ -1,7 +1,7 @@
 use Rattle.std.proofs.Common.{Ok, Err, Some, sym, ap, ◌∙◌, subst}
 use Rattle.aql_value.specs.Place.{IsPlace}
 use Rattle.aql_value.specs.Fields.{fields_in}
-use Rattle.aql_value.specs.View.{tree_of}
+use Rattle.aql_value.specs.View.{datum_of}
 use Rattle.aql_value.specs.Attributes.{attribute}
 use Rattle.aql_value.specs.declared.values.Member.{Member}
 use Rattle.aql_value.proofs.Kept.{attribute_at, attribute_absent, place_within}
@@ -14,7 +14,7 @@ returns-in-Ok c =
     (fields_in es)) c.deref.ensures.value c.in-Ok.ensures in
     let h = attribute_at c.args.name.now c.self.inside.entries.items c.in-Ok.at c.index.result.now
     (place_within c.self.inside.entries.items c.in-Ok.at p.0) p.1 p.2 in
-    ap (λ (m : Member). Some (tree_of m.value)) c.index.ensures ∙ sym h
+    ap (λ (m : Member). Some (datum_of m.value)) c.index.ensures ∙ sym h
     ∙ ap (attribute c.args.name.now) c.self.view_is
 
 pub returns-in-Err : goal.returns-in-Err

@@ -4,18 +4,18 @@ use Rattle.std.proofs.Common.{◌≡◌, ◌∙◌, ℕ, zero, suc, ◌+◌, ◌
 use Rattle.std.proofs.lemmas.Bool.{cases_lt}
 use Rattle.std.proofs.lemmas.Slice.Eq.{bytes_eq-Decides}
 use Rattle.std.specs.Prelude.{bytes_eq}
-use Rattle.aql_value.specs.Tree.{Tree}
-use Rattle.aql_tree.specs.Tree.{WalkShape}
-use Rattle.aql_meaning.specs.Paths.{EdgeStep, Path, steps_from, end_of, empty_path, extended, IsIn, is_reached, Apart, IsBuilt, IsChosen}
+use Rattle.aql_value.specs.Datum.{Datum}
+use Rattle.aql_tree.specs.Tree.{TraversalShape}
+use Rattle.aql_meaning.specs.Paths.{EdgeStep, Path, steps_from, end_of, empty_path, extension, IsIn, is_reached, AreApart, IsBuilt, IsChosen}
 
-module _ (w : WalkShape) (es : List Tree) (pruned : Path → Bool) (start : List ℕ) where
+module _ (w : TraversalShape) (es : List Datum) (pruned : Path → Bool) (start : List ℕ) where
   -- without the last property
   record Grown (max : ℕ) (old ps : List Path) : Type 0 where
     fresh : (p : Path) → IsIn p ps → IsIn p old ⊎ (length p.steps ≡ max)
     holds_empty : IsIn (empty_path start) ps
     built : (p : Path) → IsIn p ps → IsBuilt w es pruned start ps p
     short : (p : Path) → IsIn p ps → length p.steps ≤ max
-    apart : Apart ps
+    apart : AreApart ps
 
   built_more : (q p : Path) (ps : List Path) → IsBuilt w es pruned start ps p
       → IsBuilt w es pruned start (q ∷ ps) p
@@ -42,22 +42,22 @@ module _ (w : WalkShape) (es : List Tree) (pruned : Path → Bool) (start : List
       by : (b : Bool) → is_reached s.to ps ≡ b → (qs : List Path) × Grown max old qs × Adds t s ps qs
       by true r = (ps, g, ((λ p h. h), r, (λ id h. h)))
       by false r = (
-        extended t s ∷ ps,
+        extension t s ∷ ps,
         record {
           fresh = λ p. elim [
             | inl h ↦ inr
                 (subst (λ (q : Path). length q.steps ≡ max) (sym h)
-                (let k : length (extended t s).steps ≡ max = omega arith in k))
+                (let k : length (extension t s).steps ≡ max = omega arith in k))
             | inr h ↦ g.fresh p h
           ];
           holds_empty = inr g.holds_empty;
           built = λ p. elim [
             | inl h ↦ inr (t, s, h, inr i, f, e)
-            | inr h ↦ built_more (extended t s) p ps (g.built p h)
+            | inr h ↦ built_more (extension t s) p ps (g.built p h)
           ];
           short = λ p. elim [
             | inl h ↦ subst (λ (q : Path). length q.steps ≤ max) (sym h)
-                (let k : length (extended t s).steps ≤ max = omega arith in k)
+                (let k : length (extension t s).steps ≤ max = omega arith in k)
             | inr h ↦ g.short p h
           ];
           apart = (r, g.apart);
@@ -191,8 +191,8 @@ module _ (w : WalkShape) (es : List Tree) (pruned : Path → Bool) (start : List
         },
       )
 
-  pub walk_exists : (max : ℕ) → (ps : List Path) × IsChosen w es pruned start max ps
-  walk_exists zero = (
+  pub traversal_exists : (max : ℕ) → (ps : List Path) × IsChosen w es pruned start max ps
+  traversal_exists zero = (
     empty_path start ∷ [],
     record {
       holds_empty = inl refl;
@@ -206,7 +206,7 @@ module _ (w : WalkShape) (es : List Tree) (pruned : Path → Bool) (start : List
       reaches = λ t h f l. absurd (omega arith);
     },
   )
-  walk_exists (suc n) =
-      let c0 = walk_exists n in
+  traversal_exists (suc n) =
+      let c0 = traversal_exists n in
       let r = next n c0.0 c0.1 in
       (r.0, subst (λ (m : ℕ). IsChosen w es pruned start m r.0) (add-one n) r.1)

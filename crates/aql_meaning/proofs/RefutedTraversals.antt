@@ -3,31 +3,31 @@ use Rattle.std.proofs.Common.{◌≡◌, ◌∙◌, refl, sym, ap, ap₂, subst,
 use Rattle.std.specs.Prelude.{Option, None, codes, nat_le, bytes_eq}
 use Rattle.std.proofs.lemmas.List.Sorted.{IsPermutation-sym}
 use Rattle.std.proofs.lemmas.Slice.Eq.{bytes_eq-Decides}
-use Rattle.aql_value.specs.Tree.{Tree, null, text}
+use Rattle.aql_value.specs.Datum.{Datum, null, text}
 use Rattle.aql_value.specs.Parts.{same}
 use Rattle.aql_value.specs.Database.{Database}
 use Rattle.aql_tree.specs.declared.syntax.Direction.TheVariants.{Outbound}
-use Rattle.aql_tree.specs.Tree.{ExprTree, WalkShape}
+use Rattle.aql_tree.specs.Tree.{ExprTree, TraversalShape}
 use Rattle.aql_tree.specs.View.{maybe, members}
-use Rattle.aql_tree.specs.Made as made
+use Rattle.aql_tree.specs.Build as build
 use Rattle.aql_meaning.specs.Row.{empty_row}
 use Rattle.aql_meaning.specs.Value.{value}
-use Rattle.aql_meaning.specs.Paths.{Path, EdgeStep, IsIn, IsChosen, Apart, is_reached, along, extended, end_of, path_row, path_rows, steps_from}
+use Rattle.aql_meaning.specs.Paths.{Path, EdgeStep, IsIn, IsChosen, AreApart, is_reached, along, extension, end_of, path_row, path_rows, steps_from}
 use Rattle.aql_meaning.specs.Visible.{edges_named}
-use Rattle.aql_meaning.specs.Meaning.{Answer}
+use Rattle.aql_meaning.specs.Meaning.{IsAnswer}
 use Rattle.aql_meaning.specs.worked.Words.{str, edge, txt, returning}
-use Rattle.aql_meaning.specs.worked.Walks.{walk, vertex_alone, global, key, at_key, keys_of_path, ring, shortcut, diamond, chosen_paths, path_ab, path_ac, path_abc, path_abd, path_acd}
+use Rattle.aql_meaning.specs.worked.Traversals.{traversal, vertex_alone, global, key, at_key, keys_of_path, ring, shortcut, diamond, chosen_paths, path_ab, path_ac, path_abc, path_abd, path_acd}
 use Rattle.aql_meaning.proofs.Absent.{differ, absent}
 use Rattle.aql_meaning.proofs.Fixed.{values_at, single_walk, in_permuted, in_map, in_filter, from_filter, from_map}
-use Rattle.aql_meaning.proofs.Walks.{raw_shape, shape, edges, holds, pruned, from_a, by, ab, ac, bd, cd}
+use Rattle.aql_meaning.proofs.Traversals.{raw_shape, shape, edges, holds, pruned, from_a, by, ab, ac, bd, cd}
 
 -- ---- paths after a pruned one
 
-abbrev ring_shape : WalkShape
-ring_shape = (made.traversal vertex_alone 1 4 Outbound (txt "n/a") (codes "e" ∷ []) (at_key "c") []).0
+abbrev ring_shape : TraversalShape
+ring_shape = (build.traversal vertex_alone 1 4 Outbound (txt "n/a") (codes "e" ∷ []) (at_key "c") []).0
 
-pub beyond_prune : Answer ring
-    (returning (walk vertex_alone 1 4 Outbound "n/a" (at_key "c") [] ∷ []) key) empty_row
+pub beyond_prune : IsAnswer ring
+    (returning (traversal vertex_alone 1 4 Outbound "n/a" (at_key "c") [] ∷ []) key) empty_row
     (str "b" ∷ str "c" ∷ str "a" ∷ []) → ⊥
 beyond_prune h =
     let w = single_walk ring ring_shape (txt "n/a") (codes "e" ∷ []) (maybe (at_key "c"))
@@ -49,19 +49,19 @@ beyond_prune h =
 -- ---- one path to each vertex
 
 -- what RETURN gives for a path
-abbrev keys_at : Database → Path → Tree
+abbrev keys_at : Database → Path → Datum
 keys_at db t = value keys_of_path null (path_row db shape empty_row t)
 
 -- an answer has the chosen paths of one step or two, and no others
-record Chosen (db : Database) (prune : Option ExprTree) (values : List Tree) : Type 0 where
+record Chosen (db : Database) (prune : Option ExprTree) (values : List Datum) : Type 0 where
   paths : List Path
   chosen : IsChosen shape (edges_named db (codes "e" ∷ [])) (λ t. holds prune (path_row db shape empty_row t))
       (codes "n/a") 2 paths
   given : (t : Path) → IsIn t paths → nat_le 1 (length t.steps) ≡ true → IsIn (keys_at db t) values
-  from : (v : Tree) → IsIn v values → (t : Path) × IsIn t paths × (v ≡ keys_at db t)
+  from : (v : Datum) → IsIn v values → (t : Path) × IsIn t paths × (v ≡ keys_at db t)
 
-chosen_in : (db : Database) (prune : Option ExprTree) (values : List Tree)
-    → Answer db (chosen_paths prune) empty_row values → Chosen db prune values
+chosen_in : (db : Database) (prune : Option ExprTree) (values : List Datum)
+    → IsAnswer db (chosen_paths prune) empty_row values → Chosen db prune values
 chosen_in db prune values h =
     let w = single_walk db raw_shape (txt "n/a") (codes "e" ∷ []) (maybe prune)
     (members global) tt empty_row h.0 h.2 in
@@ -83,7 +83,7 @@ chosen_in db prune values h =
 
 -- ---- a vertex at a later depth
 
-abbrev es : List Tree
+abbrev es : List Datum
 es = edges_named shortcut (codes "e" ∷ [])
 
 abbrev never : Path → Bool
@@ -100,29 +100,29 @@ not_b e = differ (str "n/b") (str "n/c") refl refl (ap (λ s. text s) e)
 
 -- the one path to c of at most one step
 direct : (T : List Path) → IsChosen shape es never (codes "n/a") 2 T → (u : Path) → IsIn u T
-    → end_of u ≡ codes "n/c" → length u.steps ≤ 1 → u ≡ extended from_a straight
+    → end_of u ≡ codes "n/c" → length u.steps ≤ 1 → u ≡ extension from_a straight
 direct T c u i to short = elim (c.built u i) [
   | inl e ↦ absurd (ids_differ (sym (ap end_of e) ∙ to))
   | inr x ↦ elim (c.built x.0 x.3) [
     | inl e ↦ elim (subst (λ (t : Path). IsIn x.1 (steps_from Outbound es (end_of t))) e x.5) [
-      | inl s ↦ absurd (not_b (sym (ap (λ (p : Path). end_of p) (x.2 ∙ ap₂ extended e s)) ∙ to))
-      | inr j ↦ elim j [ inl s ↦ x.2 ∙ ap₂ extended e s | inr k ↦ absurd k ]
+      | inl s ↦ absurd (not_b (sym (ap (λ (p : Path). end_of p) (x.2 ∙ ap₂ extension e s)) ∙ to))
+      | inr j ↦ elim j [ inl s ↦ x.2 ∙ ap₂ extension e s | inr k ↦ absurd k ]
     ]
     | inr y ↦ absurd (
-        let k : length (extended (extended y.0 y.1) x.1).steps ≤ 1 =
-        subst (λ (p : Path). length p.steps ≤ 1) (x.2 ∙ ap (λ t. extended t x.1) y.2) short in
+        let k : length (extension (extension y.0 y.1) x.1).steps ≤ 1 =
+        subst (λ (p : Path). length p.steps ≤ 1) (x.2 ∙ ap (λ t. extension t x.1) y.2) short in
         omega arith)
   ]
 ]
 
-pub later_depth : Answer shortcut (chosen_paths None) empty_row (path_ab ∷ path_abc ∷ []) → ⊥
+pub later_depth : IsAnswer shortcut (chosen_paths None) empty_row (path_ab ∷ path_abc ∷ []) → ⊥
 later_depth h =
     let c = chosen_in shortcut None (path_ab ∷ path_abc ∷ []) h in
     let u = c.chosen.reaches from_a c.chosen.holds_empty refl (let k : 0 < 2 = omega arith in k) straight
     (inr (inl refl)) in
     let is = direct c.paths c.chosen u.0 u.1 u.2 u.3 in
     absent path_ac (path_ab ∷ path_abc ∷ []) refl refl
-    (subst (λ (v : Tree). IsIn v (path_ab ∷ path_abc ∷ [])) (ap (keys_at shortcut) is)
+    (subst (λ (v : Datum). IsIn v (path_ab ∷ path_abc ∷ [])) (ap (keys_at shortcut) is)
     (c.given u.0 u.1 (ap (λ (t : Path). nat_le 1 (length t.steps)) is)))
 
 -- ---- the vertex d of the diamond
@@ -136,11 +136,11 @@ by_c = by (by from_a ac) cd
 abbrev IsShort : Path → Type 0
 IsShort t = (t ≡ from_a) ⊎ ((t ≡ by from_a ab) ⊎ (t ≡ by from_a ac))
 
-first_step : (u t : Path) (s : EdgeStep) → u ≡ extended t s → t ≡ from_a
+first_step : (u t : Path) (s : EdgeStep) → u ≡ extension t s → t ≡ from_a
     → IsIn s (steps_from Outbound edges (end_of t)) → IsShort u
 first_step u t s is e i = elim (subst (λ (p : Path). IsIn s (steps_from Outbound edges (end_of p))) e i) [
-  | inl f ↦ inr (inl (is ∙ ap₂ extended e f))
-  | inr j ↦ elim j [ inl f ↦ inr (inr (is ∙ ap₂ extended e f)) | inr k ↦ absurd k ]
+  | inl f ↦ inr (inl (is ∙ ap₂ extension e f))
+  | inr j ↦ elim j [ inl f ↦ inr (inr (is ∙ ap₂ extension e f)) | inr k ↦ absurd k ]
 ]
 
 module _ (prune : Option ExprTree) where
@@ -153,8 +153,8 @@ module _ (prune : Option ExprTree) where
     | inr x ↦ elim (c.built x.0 x.3) [
       | inl e ↦ first_step t x.0 x.1 x.2 e x.5
       | inr y ↦ absurd (
-          let k : length (extended (extended y.0 y.1) x.1).steps ≤ 1 =
-          subst (λ (p : Path). length p.steps ≤ 1) (x.2 ∙ ap (λ p. extended p x.1) y.2) l in
+          let k : length (extension (extension y.0 y.1) x.1).steps ≤ 1 =
+          subst (λ (p : Path). length p.steps ≤ 1) (x.2 ∙ ap (λ p. extension p x.1) y.2) l in
           omega arith)
     ]
   ]
@@ -168,24 +168,24 @@ module _ (prune : Option ExprTree) where
   only T c u i = elim (c.built u i) [
     | inl e ↦ inl (inl e)
     | inr x ↦
-        let long : length (extended x.0 x.1).steps ≤ 2 =
+        let long : length (extension x.0 x.1).steps ≤ 2 =
         subst (λ (p : Path). length p.steps ≤ 2) x.2 (c.short u i) in
         elim (short_path T c x.0 x.3 (omega arith)) [
           | inl e ↦ inl (first_step u x.0 x.1 x.2 e x.5)
           | inr j ↦ elim j [
             | inl e ↦ elim (subst (λ (p : Path). IsIn x.1 (steps_from Outbound edges (end_of p))) e x.5) [
-              | inl f ↦ inr (inl (x.2 ∙ ap₂ extended e f, subst (λ p. pruned prune p ≡ false) e x.4))
+              | inl f ↦ inr (inl (x.2 ∙ ap₂ extension e f, subst (λ p. pruned prune p ≡ false) e x.4))
               | inr k ↦ absurd k
             ]
             | inr e ↦ elim (subst (λ (p : Path). IsIn x.1 (steps_from Outbound edges (end_of p))) e x.5) [
-              | inl f ↦ inr (inr (x.2 ∙ ap₂ extended e f, subst (λ p. pruned prune p ≡ false) e x.4))
+              | inl f ↦ inr (inr (x.2 ∙ ap₂ extension e f, subst (λ p. pruned prune p ≡ false) e x.4))
               | inr k ↦ absurd k
             ]
           ]
         ]
   ]
 
-  other : (v : Tree) (t p : Path) → same v v ≡ true → same v (keys_at diamond p) ≡ false
+  other : (v : Datum) (t p : Path) → same v v ≡ true → same v (keys_at diamond p) ≡ false
       → v ≡ keys_at diamond t → t ≡ p → ⊥
   other v t p s d e f = differ v (keys_at diamond p) s d (e ∙ ap (keys_at diamond) f)
 
@@ -222,7 +222,7 @@ reached id u (t ∷ T) (inl e) f =
 reached id u (t ∷ T) (inr i) f =
     ap (λ b. bytes_eq id (end_of t) || b) (reached id u T i f) ∙ or_true (bytes_eq id (end_of t))
 
-one_end : (t u : Path) (T : List Path) → Apart T → IsIn t T → IsIn u T → end_of t ≡ end_of u → t ≡ u
+one_end : (t u : Path) (T : List Path) → AreApart T → IsIn t T → IsIn u T → end_of t ≡ end_of u → t ≡ u
 one_end t u [] a i j e = absurd i
 one_end t u (p ∷ T) a (inl h) (inl k) e = h ∙ sym k
 one_end t u (p ∷ T) a (inl h) (inr j) e =
@@ -231,7 +231,7 @@ one_end t u (p ∷ T) a (inr i) (inl k) e =
     absurd (true≢false (sym (reached (end_of p) t T i (sym (ap end_of k) ∙ sym e)) ∙ a.0))
 one_end t u (p ∷ T) a (inr i) (inr j) e = one_end t u T a.1 i j e
 
-pub two_paths : Answer diamond (chosen_paths None) empty_row
+pub two_paths : IsAnswer diamond (chosen_paths None) empty_row
     (path_ab ∷ path_ac ∷ path_abd ∷ path_acd ∷ []) → ⊥
 two_paths h =
     let c = chosen_in diamond None _ h in
@@ -247,7 +247,7 @@ elsewhere : (u p : Path) → same (text (end_of p)) (text (end_of p)) ≡ true
 elsewhere u p s d to e =
     differ (text (end_of p)) (str "n/d") s d (ap (λ id. text id) (sym (ap end_of e) ∙ to))
 
-pub vertex_left_out : Answer diamond (chosen_paths None) empty_row (path_ab ∷ path_ac ∷ []) → ⊥
+pub vertex_left_out : IsAnswer diamond (chosen_paths None) empty_row (path_ab ∷ path_ac ∷ []) → ⊥
 vertex_left_out h =
     let c = chosen_in diamond None _ h in
     let b = c.from path_ab (inl refl) in
@@ -263,13 +263,13 @@ vertex_left_out h =
     by_cases c u i to (inl (inr (inl e))) = elsewhere u (by from_a ab) refl refl to e
     by_cases c u i to (inl (inr (inr e))) = elsewhere u (by from_a ac) refl refl to e
     by_cases c u i to (inr (inl e)) = absent path_abd (path_ab ∷ path_ac ∷ []) refl refl
-        (subst (λ (v : Tree). IsIn v (path_ab ∷ path_ac ∷ [])) (ap (keys_at diamond) e.0)
+        (subst (λ (v : Datum). IsIn v (path_ab ∷ path_ac ∷ [])) (ap (keys_at diamond) e.0)
         (c.given u i (ap (λ (t : Path). nat_le 1 (length t.steps)) e.0)))
     by_cases c u i to (inr (inr e)) = absent path_acd (path_ab ∷ path_ac ∷ []) refl refl
-        (subst (λ (v : Tree). IsIn v (path_ab ∷ path_ac ∷ [])) (ap (keys_at diamond) e.0)
+        (subst (λ (v : Datum). IsIn v (path_ab ∷ path_ac ∷ [])) (ap (keys_at diamond) e.0)
         (c.given u i (ap (λ (t : Path). nat_le 1 (length t.steps)) e.0)))
 
-pub beyond_pruned_b : Answer diamond (chosen_paths (at_key "b")) empty_row
+pub beyond_pruned_b : IsAnswer diamond (chosen_paths (at_key "b")) empty_row
     (path_ab ∷ path_ac ∷ path_abd ∷ []) → ⊥
 beyond_pruned_b h =
     let c = chosen_in diamond (at_key "b") _ h in

@@ -34,13 +34,13 @@ Gives q (Err fault.Memory) = Unit {0}
 Gives q (Err other) = ⊥
 
 -- each answer with its cause
-abbrev pub Parsed : Tokens → Result Query ParseFault → Type 0
-Parsed tokens (Ok q) = WithinLimits tokens × (Tree tokens (query_tree q) × IsShallow (query_tree q))
-Parsed tokens (Err fault.TooDeep) = 64 < nesting tokens
-Parsed tokens (Err fault.TooManyClauses) = (nesting tokens ≤ 64) × (256 < marks tokens)
-Parsed tokens (Err fault.NotInGrammar) = WithinLimits tokens × HasNoTree tokens
-Parsed tokens (Err fault.WalkTooDeep) = WithinLimits tokens × TraversesTooDeep tokens
-Parsed tokens (Err fault.Memory) = Unit {0}
+abbrev pub Parses : Tokens → Result Query ParseFault → Type 0
+Parses tokens (Ok q) = WithinLimits tokens × (Tree tokens (query_tree q) × IsShallow (query_tree q))
+Parses tokens (Err fault.TooDeep) = 64 < nesting tokens
+Parses tokens (Err fault.TooManyClauses) = (nesting tokens ≤ 64) × (256 < marks tokens)
+Parses tokens (Err fault.NotInGrammar) = WithinLimits tokens × HasNoTree tokens
+Parses tokens (Err fault.WalkTooDeep) = WithinLimits tokens × TraversesTooDeep tokens
+Parses tokens (Err fault.Memory) = Unit {0}
 
 -- the reader's answer over all the tokens
 abbrev pub ReadsWhole : Option QueryTree → Result Query ParseFault → Type 0

@@ -1,15 +1,15 @@
 -- The words in which a grammar or a rule names trees, where the parts that repeat are plain lists:
 -- the trees themselves are those of Tree, in the order of the AQL manual's grammar.
 use Rattle.std.specs.Prelude.{ℕ, ℤ, Bool, false, List, ◌∷◌, Option, Some, None}
-use Rattle.aql_value.specs.Tree as value
+use Rattle.aql_value.specs.Datum as value
 use Rattle.aql_func.specs.declared.operators.BinOp.{BinOp}
 use Rattle.aql_tree.specs.declared.syntax.Ident.{Ident}
 use Rattle.aql_tree.specs.declared.syntax.Ident.TheVariants.{Name}
 use Rattle.aql_tree.specs.declared.syntax.Direction.{Direction}
 use Rattle.aql_tree.specs.declared.syntax.UniqueEdges.TheVariants as edges
 use Rattle.aql_tree.specs.declared.syntax.UniqueVertices.TheVariants as vertices
-use Rattle.aql_tree.specs.Tree.{WalkOptions, WalkShape, ExprTree, literal, variable, listed, made, access}
-use Rattle.aql_tree.specs.Tree.{called, chain, choice, ClauseTree, for_each, define, QueryTree}
+use Rattle.aql_tree.specs.Tree.{TraversalOptions, TraversalShape, ExprTree, literal, variable, array_literal, object_literal, access}
+use Rattle.aql_tree.specs.Tree.{function_call, chain, ternary, ClauseTree, for_each, let_be, QueryTree}
 use Rattle.aql_tree.specs.Tree as tree
 use Rattle.aql_tree.specs.View.{trees, maybe, MemberPart, members, StepPart, steps, LinkPart, links}
 use Rattle.aql_tree.specs.View.{LetPart, AggregatePart, IntoPart, clauses}
@@ -34,28 +34,28 @@ abbrev pub name : List ℕ → ExprTree
 name x = variable (Name x)
 
 abbrev pub list : List ExprTree → ExprTree
-list es = listed (trees es)
+list es = array_literal (trees es)
 
 abbrev pub object : List MemberPart → ExprTree
-object ms = made (members ms)
+object ms = object_literal (members ms)
 
 abbrev pub call : List ℕ → List ExprTree → ExprTree
-call f es = called f (trees es)
+call f es = function_call f (trees es)
 
--- an expression with at least one step behind it
-abbrev pub stepped : ExprTree → StepPart → List StepPart → ExprTree
-stepped e s ss = access e (steps (s ∷ ss))
+-- an expression with at least one step after it
+abbrev pub with_steps : ExprTree → StepPart → List StepPart → ExprTree
+with_steps e s ss = access e (steps (s ∷ ss))
 
 abbrev pub link : BinOp → ExprTree → LinkPart
 link op e = (op, e)
 
--- an expression with at least one link behind it
-abbrev pub linked : ExprTree → LinkPart → List LinkPart → ExprTree
-linked e l ls = chain e (links (l ∷ ls))
+-- an expression with at least one link after it
+abbrev pub with_links : ExprTree → LinkPart → List LinkPart → ExprTree
+with_links e l ls = chain e (links (l ∷ ls))
 
 -- `test ? first : other`
 abbrev pub conditional : ExprTree → Option ExprTree → ExprTree → ExprTree
-conditional test first other = choice test (maybe first) other
+conditional test first other = ternary test (maybe first) other
 
 -- ---- clauses
 
@@ -63,49 +63,49 @@ abbrev pub for_in : List ℕ → ExprTree → ClauseTree
 for_in x e = for_each (Name x) e
 
 abbrev pub let_in : List ℕ → ExprTree → ClauseTree
-let_in x e = define (Name x) e
+let_in x e = let_be (Name x) e
 
 -- a variable that takes a value, as a criterion of COLLECT does
-abbrev pub assigned : List ℕ → ExprTree → LetPart
-assigned x e = (Name x, e)
+abbrev pub assignment : List ℕ → ExprTree → LetPart
+assignment x e = (Name x, e)
 
 -- `x = NAME(argument)`
-abbrev pub aggregated : List ℕ → List ℕ → Option ExprTree → AggregatePart
-aggregated x f argument = (Name x, f, argument)
+abbrev pub aggregate_as : List ℕ → List ℕ → Option ExprTree → AggregatePart
+aggregate_as x f argument = (Name x, f, argument)
 
-abbrev pub into : List ℕ → Option ExprTree → List (List ℕ) → IntoPart
-into x what keep = (Name x, what, keep)
+abbrev pub collect_into : List ℕ → Option ExprTree → List (List ℕ) → IntoPart
+collect_into x what keep = (Name x, what, keep)
 
 -- the variables of a traversal: its vertex, its edge and its path
-pub record WalkNames : Type 0 where
+pub record TraversalNames : Type 0 where
   pub vertex : List ℕ
   pub edge : Option (List ℕ)
   pub path : Option (List ℕ)
 
-abbrev pub named : Option (List ℕ) → Option Ident
-named None = None
-named (Some x) = Some (Name x)
+abbrev pub maybe_name : Option (List ℕ) → Option Ident
+maybe_name None = None
+maybe_name (Some x) = Some (Name x)
 
 -- the options of a traversal where nothing is written
-abbrev pub default_options : WalkOptions
+abbrev pub default_options : TraversalOptions
 default_options = record { edges = edges.Path; vertices = vertices.None; bfs = false }
 
 -- what a traversal says beside its expressions, as it is written: its options are still settings
-abbrev pub written_shape : WalkNames → ℕ → ℕ → Direction → WalkShape
-written_shape names min max direction = record {
+abbrev pub shape_by_names : TraversalNames → ℕ → ℕ → Direction → TraversalShape
+shape_by_names names min max direction = record {
   vertex = Name names.vertex;
-  edge = named names.edge;
-  path = named names.path;
+  edge = maybe_name names.edge;
+  path = maybe_name names.path;
   min = min;
   max = max;
   direction = direction;
   options = default_options;
 }
 
-abbrev pub traversal : WalkNames → ℕ → ℕ → Direction → ExprTree → List (List ℕ) → Option ExprTree
+abbrev pub traversal : TraversalNames → ℕ → ℕ → Direction → ExprTree → List (List ℕ) → Option ExprTree
     → List MemberPart → TraversalPart
 traversal names min max direction start collections prune settings =
-    (written_shape names min max direction, start, collections, prune, settings)
+    (shape_by_names names min max direction, start, collections, prune, settings)
 
 -- ---- queries
 
