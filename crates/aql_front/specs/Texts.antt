@@ -1,22 +1,13 @@
 -- The text of each fault, as it stands on the error output after `aql: `.
 use Rattle.std.specs.Prelude.{ℕ, List, ◌++◌, codes}
 use Rattle.std.specs.Fmt.{decimal}
-use Rattle.aql_lex.specs.declared.faults.LexKind.{LexKind}
-use Rattle.aql_lex.specs.declared.faults.LexKind.TheVariants.{BadChar, OpenString, OpenComment, BadEscape, Fraction, NumberTooLarge}
+use Rattle.aql_lex.specs.Faults.{lex_text}
 use Rattle.aql_script.specs.Texts.{limit_text}
 use Rattle.aql_script.specs.declared.faults.LimitKind.TheVariants.{QueryBytes, Nesting, Clauses, WalkDepth}
 use Rattle.aql_names.specs.declared.faults.ScopeFault.{ScopeFault}
 use Rattle.aql_names.specs.declared.faults.ScopeFault.TheVariants as scope
 use Rattle.aql_front.specs.declared.faults.QueryFault.{QueryFault}
 use Rattle.aql_front.specs.declared.faults.QueryFault.TheVariants.{TooLong, Lexical, TooDeep, TooManyClauses, NotInGrammar, WalkTooDeep, Scope, Memory}
-
-abbrev pub lex_text : LexKind → List ℕ
-lex_text BadChar = codes "bad character"
-lex_text OpenString = codes "open string"
-lex_text OpenComment = codes "open comment"
-lex_text BadEscape = codes "bad escape"
-lex_text Fraction = codes "fraction"
-lex_text NumberTooLarge = codes "number too large"
 
 abbrev pub at_byte : ℕ → List ℕ → List ℕ
 at_byte place text = codes "query: byte " ++ (decimal place ++ (codes ": " ++ text))

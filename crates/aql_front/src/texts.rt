@@ -1,5 +1,6 @@
 ghost use Rattle.std.specs.Prelude.{◌≡◌, IfOk};
-ghost use Rattle.aql_front.specs.Texts.{query_fault_text, at_byte, lex_text};
+ghost use Rattle.aql_lex.specs.Faults.{lex_text};
+ghost use Rattle.aql_front.specs.Texts.{query_fault_text, at_byte};
 ghost use Rattle.aql_front.specs.Texts.{scope_text, of_name, wrong_arity};
 
 use crate::QueryFault;
@@ -15,7 +16,7 @@ pub fn query_fault_text(alloc: Global, fault: &QueryFault) -> Result<Text, OutOf
 {
     match fault {
         QueryFault::TooLong => limit_text(alloc, LimitKind::QueryBytes),
-        QueryFault::Lexical { place, kind } => at_byte(alloc, *place, lex_text(*kind)),
+        QueryFault::Lexical { place, kind } => at_byte(alloc, *place, *kind),
         QueryFault::TooDeep => limit_text(alloc, LimitKind::Nesting),
         QueryFault::TooManyClauses => limit_text(alloc, LimitKind::Clauses),
         QueryFault::NotInGrammar => Text::new(alloc, "query: not in the grammar"),
@@ -25,24 +26,11 @@ pub fn query_fault_text(alloc: Global, fault: &QueryFault) -> Result<Text, OutOf
     }
 }
 
-fn at_byte(alloc: Global, place: u32, text: &str) -> Result<Text, OutOfMemory>
-    ensures { IfOk result (λ t. t ≡ at_byte place text.now) }
+fn at_byte(alloc: Global, place: u32, kind: LexKind) -> Result<Text, OutOfMemory>
+    ensures { IfOk result (λ t. t ≡ at_byte place (lex_text kind)) }
 {
-    let whole = format!(in alloc; "query: byte {place}: {text}")?;
+    let whole = format!(in alloc; "query: byte {place}: {kind}")?;
     Text::new(alloc, whole.as_str())
-}
-
-fn lex_text(kind: LexKind) -> &'static str
-    ensures { result.now ≡ lex_text kind }
-{
-    match kind {
-        LexKind::BadChar => "bad character",
-        LexKind::OpenString => "open string",
-        LexKind::OpenComment => "open comment",
-        LexKind::BadEscape => "bad escape",
-        LexKind::Fraction => "fraction",
-        LexKind::NumberTooLarge => "number too large",
-    }
 }
 
 fn scope_text(alloc: Global, fault: &ScopeFault) -> Result<Text, OutOfMemory>

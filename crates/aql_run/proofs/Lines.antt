@@ -1,5 +1,5 @@
 -- Lists of clauses and of lines.
-use Rattle.std.proofs.Common.{arith, rules, ◌≡◌, ◌∙◌, ℕ, zero, suc, ◌<◌, List, [], ◌∷◌, ◌++◌, Bool, true, false, cond, length, get_or, map, refl, sym, ap, ap₂, append-nil, append_assoc}
+use Rattle.std.proofs.Common.{arith, rules, ◌≡◌, ◌∙◌, ℕ, zero, suc, ◌<◌, List, [], ◌∷◌, ◌++◌, Bool, true, false, cond, length, get_or, map, refl, sym, ap, append-nil, append_assoc}
 use Rattle.std.specs.Prelude.{◌&&◌}
 use Rattle.std.specs.List.{list_all}
 use Rattle.aql_value.specs.Datum.{Datum, null}
@@ -25,9 +25,9 @@ pub query-tree : (q : Query)
     → query_tree q ≡ query q.with (clauses (map clause_tree q.clauses)) q.distinct (tree q.result.value)
 query-tree q = search (rules, the_lemmas)
 
-pub behind_is_lifted : (cs : ClauseTrees) → ClausesLifted cs → ClausesLifted (after_for cs)
-behind_is_lifted (clause_then (for_documents (Num n) name) cs) h = h.1
-behind_is_lifted cs h = h
+pub rest_is_lifted : (cs : ClauseTrees) → ClausesLifted cs → ClausesLifted (after_for cs)
+rest_is_lifted (clause_then (for_documents (Num n) name) cs) h = h.1
+rest_is_lifted cs h = h
 
 pub lifted_at : (cs : List Clause) → ClausesLifted (clauses (map clause_tree cs)) → (k : ℕ) (d : Clause)
     → k < length cs → ClauseLifted (clause_tree (get_or cs k d))
@@ -36,14 +36,15 @@ lifted_at (c ∷ cs) h zero d l = h.0
 lifted_at (c ∷ cs) h (suc k) d l = lifted_at cs h.1 k d (omega arith)
 
 -- a row's line, added to those before
-pub line_added : (filters : ClauseTrees) (e : ExprTree) (row : Row) (b : Bool) (v : Datum) (old : List ℕ)
-    → b ≡ all_hold row filters → b ≡ true → v ≡ value e null row
-    → (old ++ json_text v) ++ 10 ∷ [] ≡ old ++ answer_text (row_values filters e row)
-line_added filters e row b v old h k l =
-    append_assoc old (json_text v) (10 ∷ [])
+pub line_added : (filters : ClauseTrees) (e : ExprTree) (row : Row) (b : Bool) (old : List ℕ)
+    → b ≡ all_hold row filters → b ≡ true
+    → (old ++ json_text (value e null row)) ++ 10 ∷ [] ≡ old ++ answer_text (row_values filters e row)
+line_added filters e row b old h k =
+    let text = json_text (value e null row) in
+    append_assoc old text (10 ∷ [])
     ∙ ap (λ ns. old ++ ns)
-    (sym (append-nil (json_text v ++ 10 ∷ []))
-    ∙ ap₂ (λ w t. answer_text (cond t (w ∷ []) [])) l (sym k ∙ h))
+    (sym (append-nil (text ++ 10 ∷ []))
+    ∙ ap (λ t. answer_text (cond t (value e null row ∷ []) [])) (sym k ∙ h))
 
 pub no_line : (filters : ClauseTrees) (e : ExprTree) (row : Row) (b : Bool) (old : List ℕ)
     → b ≡ all_hold row filters → b ≡ false → old ≡ old ++ answer_text (row_values filters e row)

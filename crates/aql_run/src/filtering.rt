@@ -1,17 +1,20 @@
 // The lines of rows, each filtered by itself.
 ghost use Rattle.std.specs.Prelude.{All, [], ◌∷◌, ◌++◌, ◌≡◌, IfOk, map, OnOk};
 ghost use Rattle.std.specs.List.{flat_map};
+ghost use Rattle.aql_value.specs.Json.{json_text};
+ghost use Rattle.aql_value.specs.Datum.{null};
 ghost use Rattle.aql_value.specs.View.{datums_in};
 ghost use Rattle.aql_tree.specs.declared.syntax.Ident.TheVariants.{Num};
 ghost use Rattle.aql_tree.specs.View.{clause_tree, clauses, tree};
 ghost use Rattle.aql_meaning.specs.Plain.{IsPlain};
 ghost use Rattle.aql_meaning.specs.Row.{bind, empty_row};
+ghost use Rattle.aql_meaning.specs.Value.{value};
 ghost use Rattle.aql_meaning.specs.Lifted.{ClauseLifted};
 ghost use Rattle.aql_run.specs.Forms.{answer_text};
 ghost use Rattle.aql_run.specs.RowValues as spec;
 
 use crate::rows::{DocumentRow, NoVariables};
-use aql_expr::{RowView, eval};
+use aql_expr::{RowView, borrow, eval};
 use aql_tree::{Clause, Expr};
 use aql_value::{OutOfMemory, Value, truthy, write_json};
 use std::alloc::Global;
@@ -70,11 +73,30 @@ fn add_line<R: RowView>(
         (R.vars row.now))) }
 {
     if all_hold(alloc, row, filters)? {
-        let value = eval(alloc, gives, row)?;
-        write_json(&value, text)?;
+        write_value(alloc, row, gives, text)?;
         text.push(b'\n')?;
     }
     Ok(())
+}
+
+// Writes the value of an expression at a row; one that the row lends is not copied.
+fn write_value<R: RowView>(
+    alloc: Global,
+    row: &R,
+    gives: &Expr,
+    text: &mut Vec<u8>,
+) -> Result<(), OutOfMemory>
+    requires { IsPlain (tree gives.now) }
+    ensures { OnOk result (text.new.items
+        ≡ text.old.items ++ json_text (value (tree gives.now) null (R.vars row.now))) }
+{
+    match borrow(gives, row, &Value::Null) {
+        Some(value) => write_json(value, text),
+        None => {
+            let value = eval(alloc, gives, row)?;
+            write_json(&value, text)
+        }
+    }
 }
 
 // Whether all conditions are true-like; after the first that is not, none is looked at.

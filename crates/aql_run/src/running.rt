@@ -39,7 +39,7 @@ pub fn run(alloc: Global, query: &Query, catalog: &Catalog) -> Result<Option<Vec
 fn is_taken(query: &Query) -> bool
     ensures { result ≡ runs (query_tree query.now) }
 {
-    !query.distinct && are_filters(behind_for(query.clauses.as_slice()))
+    !query.distinct && are_filters(after_for(query.clauses.as_slice()))
 }
 
 // The variable and the collection of a FOR over a collection that comes first.
@@ -60,7 +60,7 @@ fn for_first(clauses: &[Clause]) -> Option<(u32, &Text)>
 }
 
 // The clauses after it.
-fn behind_for(clauses: &[Clause]) -> &[Clause]
+fn after_for(clauses: &[Clause]) -> &[Clause]
     ensures { clause_trees (map clause_tree result.now)
         ≡ forms.after_for (clause_trees (map clause_tree clauses.now)) }
 {
@@ -70,8 +70,8 @@ fn behind_for(clauses: &[Clause]) -> &[Clause]
                 var: Ident::Num(_),
                 ..
             },
-            behind @ ..,
-        ] => behind,
+            rest @ ..,
+        ] => rest,
         _ => clauses,
     }
 }
@@ -100,7 +100,7 @@ fn lines(
     ensures { IfOk result (λ text. text.items ≡ answer_text (answer_values (database catalog.now)
         (clause_trees (map clause_tree clauses.now)) (tree gives.now))) }
 {
-    let filters = behind_for(clauses);
+    let filters = after_for(clauses);
     match for_first(clauses) {
         Some((var, collection)) => {
             let documents = documents_of(catalog, collection.as_str());

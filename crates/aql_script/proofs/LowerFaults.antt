@@ -1,7 +1,7 @@
 -- Neither a declaration nor a document nor a line of JSON has want of memory as its fault: it comes to a call
 -- alone.
-use Rattle.std.proofs.Common.{ℕ, List, Bool, true, false, Option, Some, None, Ok, Err, if◌then◌else◌, ◌+◌, nat_lt, nat_le, length}
-use Rattle.std.specs.Prelude.{Result, ◌&&◌, not, is_some, bytes_eq, slice_get, codes, ◌++◌, ◌∷◌, []}
+use Rattle.std.proofs.Common.{ℕ, List, Bool, true, false, Option, Some, None, Ok, Err, if◌then◌else◌, nat_lt, nat_le, length}
+use Rattle.std.specs.Prelude.{Result, ◌&&◌, not, is_some, slice_get, codes, ◌++◌, ◌∷◌, []}
 use Rattle.std.specs.Str.{is_utf8}
 use Rattle.serde_json.specs.Data.{Data, depth}
 use Rattle.serde_json.specs.Read.{read}

@@ -24,7 +24,7 @@ use Rattle.aql_script.specs.declared.options.Options.{Options}
 use Rattle.aql_script.specs.declared.directives.Directive.{Directive}
 use Rattle.aql_script.specs.declared.directives.Directive.TheVariants.{Declare, Index, Query}
 use Rattle.aql_script.specs.declared.faults.LoadFault.{LoadFault}
-use Rattle.aql_script.specs.declared.faults.LoadFault.TheVariants.{Read, Limit, Line, Memory}
+use Rattle.aql_script.specs.declared.faults.LoadFault.TheVariants.{Limit, Line}
 use Rattle.aql_script.specs.declared.faults.LimitKind.TheVariants.{LineBytes, Shards, ScriptBytes}
 use Rattle.aql_script.specs.declared.faults.LineKind.TheVariants.{DeclaredTwice, NoCollection, NoQuery, QueryNotUtf8}
 

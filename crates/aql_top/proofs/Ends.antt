@@ -1,7 +1,7 @@
 -- Which status comes.
-use Rattle.std.proofs.Common.{◌≡◌, ◌≢◌, ℕ, ◌⊎◌, inl, inr, List, [], Bool, true, false, Option, Some, None, Err, refl, sym, ap, ◌∙◌, subst, arith}
+use Rattle.std.proofs.Common.{◌≡◌, ℕ, ◌⊎◌, inl, inr, List, [], Bool, true, false, Option, Some, None, Err, refl, sym, ap, ◌∙◌, subst}
 use Rattle.std.specs.Prelude.{IsSome, IsSomeAnd, IfSome, Result, codes}
-use Rattle.aql_script.specs.Script.{IsScript, HasFault, IsOfBytes}
+use Rattle.aql_script.specs.Script.{IsScript, HasFault}
 use Rattle.aql_script.specs.declared.loading.Loaded.{Loaded}
 use Rattle.aql_script.specs.declared.faults.LoadFault.{LoadFault}
 use Rattle.aql_tree.specs.Tree.{QueryTree}
@@ -9,7 +9,6 @@ use Rattle.aql_lift.specs.Lifting.{scope_query}
 use Rattle.aql_front.specs.declared.faults.QueryFault.{QueryFault}
 use Rattle.aql_front.specs.declared.faults.QueryFault.TheVariants as query
 use Rattle.aql_front.specs.Reading.{Refuses}
-use Rattle.aql_front.specs.Texts.{query_fault_text}
 use Rattle.aql_front.proofs.Once.{only_query, only_fault, written_once}
 use Rattle.aql_run.specs.Forms.{runs}
 use Rattle.aql_top.specs.Forms.{TakesWords, ReadsAs, IsScriptWith, Accepts, HasOtherQuery, HasQueryFault}

@@ -9,8 +9,8 @@ pub returns-then-not-query : goal.returns-then-not-query
 returns-then-not-query c =
     let q = c.args.query.now in
     c.are_filters.ensures
-    ∙ all_are_filters c.behind_for.result.now
-    ∙ ap only_filters c.behind_for.ensures
+    ∙ all_are_filters c.after_for.result.now
+    ∙ ap only_filters c.after_for.ensures
     ∙ ap (λ xs. only_filters (after_for (clauses (map clause_tree xs)))) c.as_slice.ensures
     ∙ ap (λ b. not b && only_filters (after_for (clauses (map clause_tree q.clauses))))
     (sym c.if-not-query.true)
