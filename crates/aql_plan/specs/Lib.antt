@@ -6,11 +6,15 @@ pub mod Runs
 pub mod Needs
 pub mod Refines
 pub mod Above
+pub mod Exprs
+pub mod Renaming
 pub mod Variables
+pub mod Used
 pub mod Fits
 pub mod Shapes
 pub mod WellFormed
 pub mod FirstPlan
+pub mod RuleNames
 pub mod Theorems
 pub mod Worked
 pub mod ShapesWorked

@@ -7,12 +7,10 @@ pub mod NodesAlike
 pub mod RunsAlike
 pub mod Agreement
 pub mod Congruence
-pub mod SomeMerge
-pub mod SomeRun
+pub mod Idents
 pub mod Renamed
-pub mod FirstAnswers
+pub mod AccessUses
 pub mod RenamedAbove
-pub mod MergedOrder
 pub mod ShapesKept
 pub mod ShapeOnce
 pub mod ShapesMapped

@@ -4,8 +4,17 @@
 
 mod facts;
 pub mod laws;
+mod node_uses;
+mod nodes;
 mod plan;
+mod rules;
+mod uses;
+mod variables;
+pub mod worked;
 
 pub use aql_meaning::{Edge, Last, Stage, WalkOptions};
 pub use facts::{CollFact, CollFacts, Facts, IndexFact, IndexFacts, IndexKind, Widths};
+pub use node_uses::add_own_uses;
 pub use plan::{Passed, Plan, Plans};
+pub use rules::{RuleName, RuleNames};
+pub use uses::{Use, Uses, add_uses};

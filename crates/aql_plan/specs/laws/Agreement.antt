@@ -11,11 +11,12 @@ use Rattle.aql_meaning.specs.Uses.{Use, Whole, Part, Uses, AgreeAt, Agree}
 use Rattle.aql_meaning.specs.laws.Agrees.{agree_split, value_same}
 use Rattle.aql_plan.specs.Plan.{Plan, Singleton, Over, Node, EnumerateCollection, Index, EnumerateList, Traversal, Calculation, Subquery, Collect}
 use Rattle.aql_plan.specs.Runs.{World, Place, read, Runs, Feeds, Gives}
+use Rattle.aql_plan.specs.Renaming.{PlanSets, NodeSets}
 use Rattle.aql_plan.specs.Needs.{under, needs}
 use Rattle.aql_plan.specs.laws.Lists.{related_self}
 use Rattle.aql_plan.specs.laws.Mapped.{plan_same, node_same}
 use Rattle.aql_plan.specs.laws.Carried.{Carries}
-use Rattle.aql_plan.specs.laws.RunsAlike.{foot_uses, ClearPlan, Clear, SamePlace, StartsAlike, runs_alike, feeds_alike, gives_alike}
+use Rattle.aql_plan.specs.laws.RunsAlike.{foot_uses, SamePlace, StartsAlike, runs_alike, feeds_alike, gives_alike}
 
 pub agree_join : (us vs : Uses) (r s : Row) → Agree us r s → Agree vs r s → Agree (us ++ vs) r s
 agree_join [] vs r s h k = k
@@ -76,11 +77,11 @@ all_any [] = tt
 all_any (x ∷ xs) = (tt, all_any xs)
 
 mutual
-  plan_clear : (p : Plan) → ClearPlan Any p
+  plan_clear : (p : Plan) → PlanSets Any p
   plan_clear Singleton = tt
   plan_clear (Over b n) = (plan_clear b, node_clear n)
 
-  node_clear : (n : Node) → Clear Any n
+  node_clear : (n : Node) → NodeSets Any n
   node_clear (EnumerateCollection x) = tt
   node_clear (Index x index equal last ordered) = tt
   node_clear (EnumerateList x e) = tt

@@ -20,7 +20,8 @@ use Rattle.aql_plan.specs.Plan.{Collect}
 use Rattle.aql_meaning.specs.AtRows.{value_of, values_of, keys_of, passes, stops}
 use Rattle.aql_plan.specs.Needs.{end_uses, last_uses, as_wholes, own_uses}
 use Rattle.aql_plan.specs.laws.Lists.{map_equal}
-use Rattle.aql_plan.specs.laws.Mapped.{map_exprs, map_maybe, map_aggregates, map_into, vars_kept}
+use Rattle.aql_plan.specs.Exprs.{map_exprs, map_maybe, map_aggregates, map_into}
+use Rattle.aql_plan.specs.laws.Mapped.{vars_kept}
 
 -- f is applied to the expressions at the first row; the variables that are set are free
 pub record Carries (f : ExprTree → ExprTree) (Free : Ident → Type 0) (S : Uses → Row → Row

@@ -1,83 +1,35 @@
--- A plan with a function applied to each of its expressions.
+-- What a plan with a function at each of its expressions has in common with the plan.
 use Rattle.std.proofs.Common.{◌≡◌, ◌∙◌, ℕ, List, ◌∷◌, refl, ap, ap₂}
 use Rattle.std.specs.Prelude.{Option, Some, None, option_map}
 use Rattle.aql_value.specs.Datum.{Datum}
-use Rattle.aql_tree.specs.Tree.{ExprTree, ExprTrees, no_exprs, expr_then, MaybeExpr, no_expr, one_expr, AggregateTrees, no_aggregates, aggregate_then, IntoTree, no_into, into}
+use Rattle.aql_tree.specs.Tree.{ExprTree, ExprTrees, no_exprs, expr_then, MaybeExpr, no_expr, one_expr}
+use Rattle.aql_tree.specs.Tree.{AggregateTrees, no_aggregates, aggregate_then, IntoTree, no_into, into}
 use Rattle.aql_meaning.specs.Visible.{aggregate_vars, functions_by, into_var}
 use Rattle.aql_meaning.specs.declared.grouping.Stage.{Stage}
 use Rattle.aql_meaning.specs.declared.grouping.Stage.TheVariants as stage
 use Rattle.aql_meaning.specs.Documents.{End, Last, no_last, one_of, between, last_map, end_map}
 use Rattle.aql_meaning.specs.Stages.{stage_functions}
 use Rattle.aql_plan.specs.Plan.{Reading, Plan, Singleton, Over, Node, EnumerateCollection, Index, EnumerateList, Traversal, Calculation, Subquery, Filter, Sort, Limit, Collect, Return, NoResults, Scatter, Distribute, Remote, Gather}
+use Rattle.aql_plan.specs.Exprs.{map_exprs, map_maybe, map_aggregates, map_into, map_reading, map_plan, map_node}
 
 module _ (f : ExprTree → ExprTree) where
-  abbrev pub map_exprs : ExprTrees → ExprTrees
-  map_exprs no_exprs = no_exprs
-  map_exprs (expr_then e es) = expr_then (f e) (map_exprs es)
-
-  abbrev pub map_maybe : MaybeExpr → MaybeExpr
-  map_maybe no_expr = no_expr
-  map_maybe (one_expr e) = one_expr (f e)
-
-  abbrev pub map_aggregates : AggregateTrees → AggregateTrees
-  map_aggregates no_aggregates = no_aggregates
-  map_aggregates (aggregate_then x name e rest) = aggregate_then x name (map_maybe e) (map_aggregates rest)
-
-  abbrev pub map_into : IntoTree → IntoTree
-  map_into no_into = no_into
-  map_into (into x what keep) = into x (map_maybe what) keep
-
-  abbrev pub map_reading : Reading → Reading
-  map_reading x = record {
-    var = x.var;
-    coll = x.coll;
-    filter = map_maybe x.filter;
-    attrs = x.attrs;
-    shard = x.shard;
-  }
-
-  abbrev mutual
-    pub map_plan : Plan → Plan
-    map_plan Singleton = Singleton
-    map_plan (Over b n) = Over (map_plan b) (map_node n)
-
-    pub map_node : Node → Node
-    map_node (EnumerateCollection x) = EnumerateCollection (map_reading x)
-    map_node (Index x index equal last ordered) =
-        Index (map_reading x) index (map_exprs equal) (last_map f last) ordered
-    map_node (EnumerateList x e) = EnumerateList x (f e)
-    map_node (Traversal w e colls prune filter) =
-        Traversal w (f e) colls (map_maybe prune) (map_maybe filter)
-    map_node (Calculation x e) = Calculation x (f e)
-    map_node (Subquery x b) = Subquery x (map_plan b)
-    map_node (Filter e) = Filter (f e)
-    map_node (Sort directions es n) = Sort directions (map_exprs es) n
-    map_node (Limit offset count) = Limit offset count
-    map_node (Collect xs es gs i s) = Collect xs (map_exprs es) (map_aggregates gs) (map_into i) s
-    map_node (Return distinct e) = Return distinct (f e)
-    map_node NoResults = NoResults
-    map_node (Scatter coll only) = Scatter coll only
-    map_node (Distribute coll es) = Distribute coll (map_exprs es)
-    map_node Remote = Remote
-    map_node (Gather directions es) = Gather directions (map_exprs es)
-
   -- what a Collect sets and computes stays
-  pub vars_kept : (gs : AggregateTrees) → aggregate_vars (map_aggregates gs) ≡ aggregate_vars gs
+  pub vars_kept : (gs : AggregateTrees) → aggregate_vars (map_aggregates f gs) ≡ aggregate_vars gs
   vars_kept no_aggregates = refl
   vars_kept (aggregate_then x name e rest) = ap (λ xs. x ∷ xs) (vars_kept rest)
 
   by_kept : (g : List ℕ → List Datum → Datum) (gs : AggregateTrees)
-      → functions_by g (map_aggregates gs) ≡ functions_by g gs
+      → functions_by g (map_aggregates f gs) ≡ functions_by g gs
   by_kept g no_aggregates = refl
   by_kept g (aggregate_then x name e rest) = ap (λ fs. g name ∷ fs) (by_kept g rest)
 
   pub functions_kept : (s : Stage) (gs : AggregateTrees)
-      → stage_functions s (map_aggregates gs) ≡ stage_functions s gs
+      → stage_functions s (map_aggregates f gs) ≡ stage_functions s gs
   functions_kept stage.Whole gs = by_kept _ gs
   functions_kept stage.Partial gs = by_kept _ gs
   functions_kept stage.Final gs = by_kept _ gs
 
-  pub into_kept : (i : IntoTree) → into_var (map_into i) ≡ into_var i
+  pub into_kept : (i : IntoTree) → into_var (map_into f i) ≡ into_var i
   into_kept no_into = refl
   into_kept (into x what keep) = refl
 

@@ -27,9 +27,11 @@ use Rattle.aql_plan.specs.Runs.{World, Place, Outside, Inside, read, read_in_bou
 use Rattle.aql_meaning.specs.AtRows.{value_of, values_of, keys_of, passes, stops, row_before}
 use Rattle.aql_meaning.specs.Stages.{Grouped}
 use Rattle.aql_meaning.specs.Clauses.{first_rows}
+use Rattle.aql_plan.specs.Renaming.{PlanSets, NodeSets}
 use Rattle.aql_plan.specs.Needs.{last_uses, own_uses, result_uses, under, needs}
 use Rattle.aql_plan.specs.laws.Lists.{take_related, drop_related, weaker, map_equal, filter_related, chosen, carried}
-use Rattle.aql_plan.specs.laws.Mapped.{map_exprs, map_maybe, map_aggregates, map_into, map_reading, map_plan, map_node, vars_kept, functions_kept, into_kept}
+use Rattle.aql_plan.specs.Exprs.{map_exprs, map_maybe, map_aggregates, map_into, map_reading, map_plan, map_node}
+use Rattle.aql_plan.specs.laws.Mapped.{vars_kept, functions_kept, into_kept}
 use Rattle.aql_plan.specs.laws.SortsAlike.{sorted_alike}
 use Rattle.aql_plan.specs.laws.MergesAlike.{merged_alike}
 use Rattle.aql_plan.specs.laws.Carried.{Carries, binds_to, keys_carried, passes_carried, stops_carried, last_carried, member_carried, values_carried}
@@ -41,25 +43,6 @@ foot_uses Singleton us = us
 foot_uses (Over b (Scatter coll only)) us = us
 foot_uses (Over b (Distribute coll es)) us = all_uses es ++ us
 foot_uses (Over b n) us = foot_uses b (under n us)
-
-module _ (Free : Ident → Type 0) where
-  -- each variable that a plan sets, also in a body, is free
-  abbrev mutual
-    pub ClearPlan : Plan → Type 0
-    ClearPlan Singleton = Unit {0}
-    ClearPlan (Over b n) = ClearPlan b × Clear n
-
-    pub Clear : Node → Type 0
-    Clear (EnumerateCollection x) = Free x.var
-    Clear (Index x index equal last ordered) = Free x.var
-    Clear (EnumerateList x e) = Free x
-    Clear (Traversal w e colls prune g) = Free w.vertex
-        × AllByRecursion Free (option_to_list w.edge) × AllByRecursion Free (option_to_list w.path)
-    Clear (Calculation x e) = Free x
-    Clear (Subquery x b) = Free x × ClearPlan b
-    Clear (Collect xs es gs i s) = AllByRecursion Free xs × AllByRecursion Free (aggregate_vars gs)
-        × AllByRecursion Free (option_to_list (into_var i))
-    Clear n = Unit {0}
 
 module _ (f : ExprTree → ExprTree) (Free : Ident → Type 0) (S : Uses → Row → Row → Type 0)
     (carry : Carries f Free S) (zero_free : Free (Num 0)) where
@@ -213,7 +196,7 @@ module _ (f : ExprTree → ExprTree) (Free : Ident → Type 0) (S : Uses → Row
   StartsAlike us n start other = Unit {0}
 
   mutual
-    pub runs_alike : (p : Plan) → ClearPlan Free p → (us : Uses) (w : World) (k l : Place) (r s : Row)
+    pub runs_alike : (p : Plan) → PlanSets Free p → (us : Uses) (w : World) (k l : Place) (r s : Row)
         → (out : List Row) → SamePlace (foot_uses p us) k l → S (needs p us) r s
         → Runs (map_plan f p) w k r out
         → (more : List Row) × Runs p w l s more × AllZip (S us) out more
@@ -254,7 +237,7 @@ module _ (f : ExprTree → ExprTree) (Free : Ident → Type 0) (S : Uses → Row
         g.0 rows.0 out rows.2 g.2 in
         (given.0, (rows.0, rows.1, given.1), given.2)
 
-    pub feeds_alike : (p : Plan) → ClearPlan Free p → (us : Uses) (w : World) (r s : Row) (taken : List Row)
+    pub feeds_alike : (p : Plan) → PlanSets Free p → (us : Uses) (w : World) (r s : Row) (taken : List Row)
         → S (needs p us) r s → Feeds (map_plan f p) w r taken
         → (more : List Row) × Feeds p w s more × AllZip (S (foot_uses p us)) taken more
     feeds_alike Singleton clear us w r s taken h g = by_function us taken [] [] g tt
@@ -267,7 +250,7 @@ module _ (f : ExprTree → ExprTree) (Free : Ident → Type 0) (S : Uses → Row
         (carry.parts (needs b (own_uses (Collect xs es gs i t))) us r s h).0 g
     feeds_alike (Over b n) clear us w r s taken h g = feeds_alike b clear.0 (under n us) w r s taken h g
 
-    pub gives_alike : (n : Node) → Clear Free n → (us : Uses) (w : World) (k l : Place) (start other : Row)
+    pub gives_alike : (n : Node) → NodeSets Free n → (us : Uses) (w : World) (k l : Place) (start other : Row)
         → StartsAlike us n start other
         → ((coll : ℕ) (shard : Option ℕ) → read w coll shard k ≡ read w coll shard l)
         → (rows others out : List Row) → AllZip (S (under n us)) rows others

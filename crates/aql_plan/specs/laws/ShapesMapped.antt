@@ -16,7 +16,7 @@ use Rattle.aql_plan.specs.Plan.{Reading, Plan, Singleton, Over, Node, EnumerateC
 use Rattle.aql_plan.specs.Fits.{EndPlain, LastPlain, HasArgument, AllKnown, exprs_in, BoundsFit, LookupFits, KindFits, IndexFits}
 use Rattle.aql_plan.specs.Fits.{Fits}
 use Rattle.aql_plan.specs.Shapes.{Shape, Rows, Result, IsOuter, Shaped, one_row, calculated, with_subquery, plain_rows, ordered_rows, scatter, distribute, remote, lowest, lowest_in_order, other_reading, passing, sorting, gather, gather_in_order, partial, joining, finishing, returning, is_inside, HasNoFragment}
-use Rattle.aql_plan.specs.laws.Mapped.{map_exprs, map_maybe, map_aggregates, map_into, map_reading, map_plan, map_node}
+use Rattle.aql_plan.specs.Exprs.{map_exprs, map_maybe, map_aggregates, map_into, map_reading, map_plan, map_node}
 
 module _ (f : ExprTree → ExprTree) (plain : (e : ExprTree) → IsPlain e → IsPlain (f e)) where
   exprs_plain : (es : ExprTrees) → AllPlain es → AllPlain (map_exprs f es)

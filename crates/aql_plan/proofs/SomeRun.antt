@@ -16,7 +16,7 @@ use Rattle.aql_plan.specs.Plan.{Reading, Plan, Singleton, Over, Node, EnumerateC
 use Rattle.aql_plan.specs.Runs.{World, Place, Outside, Inside, read_in_bounds, Indexed, edges_in, result_of, targets, part_of, came, Runs, Feeds, Gives}
 use Rattle.aql_meaning.specs.AtRows.{values_of, keys_of, passes, stops, row_before}
 use Rattle.aql_meaning.specs.Clauses.{with_each, first_rows}
-use Rattle.aql_plan.specs.laws.SomeMerge.{some_merged}
+use Rattle.aql_plan.proofs.SomeMerge.{some_merged}
 
 abbrev some_indexed : (w : World) (place : Place) (x : Reading) (index : ℕ) (equal : ExprTrees)
     (last : Last ExprTree) (ordered : Option Bool) (rows : List Row)

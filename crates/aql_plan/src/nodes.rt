@@ -1,0 +1,263 @@
+//! Plans made from the nodes of others.
+
+ghost use Rattle.std.specs.Prelude.{◌≡◌, IfOk, MatchOption, Some, None, option_map};
+ghost use Rattle.aql_plan.specs.Plan as spec;
+ghost use Rattle.aql_plan.specs.Nodes.{over, body_in, with_body};
+ghost use Rattle.aql_meaning.specs.View.{end_tree, last_tree};
+ghost use Rattle.aql_plan.specs.View.{plan_tree};
+
+use crate::plan::Plan;
+use aql_copy::{
+    copy_aggregates, copy_expr, copy_exprs, copy_into, copy_keys, copy_lets, copy_maybe, copy_texts,
+};
+use aql_meaning::{Edge, Last};
+use aql_value::{CollNo, CollNos, Names, OutOfMemory, Seq};
+use std::alloc::Global;
+
+fn copy_colls(alloc: Global, colls: &[CollNo]) -> Result<CollNos, OutOfMemory>
+    ensures { IfOk result (λ cs. cs ≡ colls.now) }
+{
+    let mut all = Seq::new(alloc);
+    for coll in colls {
+        all.push(*coll)?;
+    }
+    Ok(all)
+}
+
+fn copy_attrs(alloc: Global, attrs: &Option<Names>) -> Result<Option<Names>, OutOfMemory>
+    ensures { IfOk result (λ a. a ≡ attrs.now) }
+{
+    match attrs {
+        Some(names) => Ok(Some(copy_texts(alloc, names.as_slice())?)),
+        None => Ok(None),
+    }
+}
+
+fn copy_edge(alloc: Global, edge: &Edge) -> Result<Edge, OutOfMemory>
+    ensures { IfOk result (λ e. end_tree e ≡ end_tree edge.now) }
+{
+    Ok(Edge {
+        expr: copy_expr(alloc, &edge.expr)?,
+        inclusive: edge.inclusive,
+    })
+}
+
+fn copy_maybe_edge(alloc: Global, edge: &Option<Edge>) -> Result<Option<Edge>, OutOfMemory>
+    ensures { IfOk result (λ e. option_map end_tree e ≡ option_map end_tree edge.now) }
+{
+    match edge {
+        Some(edge) => Ok(Some(copy_edge(alloc, edge)?)),
+        None => Ok(None),
+    }
+}
+
+fn copy_last(alloc: Global, last: &Last) -> Result<Last, OutOfMemory>
+    ensures { IfOk result (λ l. last_tree l ≡ last_tree last.now) }
+{
+    match last {
+        Last::None => Ok(Last::None),
+        Last::OneOf(e) => Ok(Last::OneOf(copy_expr(alloc, e)?)),
+        Last::Range { low, high } => {
+            let low = copy_maybe_edge(alloc, low)?;
+            Ok(Last::Range {
+                low,
+                high: copy_maybe_edge(alloc, high)?,
+            })
+        }
+    }
+}
+
+fn boxed(alloc: Global, plan: Plan) -> Result<Box<Plan>, OutOfMemory>
+    ensures { IfOk result (λ b. plan_tree b.value ≡ plan_tree plan) }
+{
+    Ok(Box::new(alloc, plan)?)
+}
+
+impl Plan {
+    /// The body of a subquery; `None` exactly at every other node.
+    pub fn body(&self) -> Option<&Plan>
+        ensures { MatchOption result (body_in (spec.top (plan_tree self.now)) ≡ None)
+            (λ b. body_in (spec.top (plan_tree self.now)) ≡ Some (plan_tree b.now)) }
+    {
+        match self {
+            Plan::Subquery { body, .. } => Some(body),
+            _ => None,
+        }
+    }
+
+    /// An equal plan.
+    #[cycle(copy)]
+    pub fn copy(&self, alloc: Global) -> Result<Plan, OutOfMemory>
+        ensures { IfOk result (λ p. plan_tree p ≡ plan_tree self.now) }
+    {
+        match self.below() {
+            None => Ok(Plan::Singleton),
+            Some(below) => {
+                let below = below.copy(alloc)?;
+                self.over(alloc, below)
+            }
+        }
+    }
+
+    /// The node over another input; `Singleton`, which has none, stays itself.
+    #[cycle(copy)]
+    pub fn over(&self, alloc: Global, below: Plan) -> Result<Plan, OutOfMemory>
+        ensures { IfOk result (λ p. plan_tree p ≡ over (plan_tree self.now) (plan_tree below)) }
+    {
+        match self {
+            Plan::Singleton => Ok(Plan::Singleton),
+            Plan::EnumerateCollection {
+                var,
+                coll,
+                filter,
+                attrs,
+                shard,
+                ..
+            } => Ok(Plan::EnumerateCollection {
+                below: boxed(alloc, below)?,
+                var: *var,
+                coll: *coll,
+                filter: copy_maybe(alloc, filter)?,
+                attrs: copy_attrs(alloc, attrs)?,
+                shard: *shard,
+            }),
+            Plan::Index {
+                var,
+                coll,
+                filter,
+                attrs,
+                shard,
+                index,
+                equal,
+                last,
+                ordered,
+                ..
+            } => Ok(Plan::Index {
+                below: boxed(alloc, below)?,
+                var: *var,
+                coll: *coll,
+                filter: copy_maybe(alloc, filter)?,
+                attrs: copy_attrs(alloc, attrs)?,
+                shard: *shard,
+                index: *index,
+                equal: copy_exprs(alloc, equal.as_slice())?,
+                last: copy_last(alloc, last)?,
+                ordered: *ordered,
+            }),
+            Plan::EnumerateList { var, list, .. } => Ok(Plan::EnumerateList {
+                below: boxed(alloc, below)?,
+                var: *var,
+                list: copy_expr(alloc, list)?,
+            }),
+            Plan::Traversal {
+                vertex,
+                edge,
+                path,
+                min,
+                max,
+                direction,
+                start,
+                collections,
+                prune,
+                options,
+                filter,
+                ..
+            } => Ok(Plan::Traversal {
+                below: boxed(alloc, below)?,
+                vertex: *vertex,
+                edge: *edge,
+                path: *path,
+                min: *min,
+                max: *max,
+                direction: *direction,
+                start: copy_expr(alloc, start)?,
+                collections: copy_colls(alloc, collections.as_slice())?,
+                prune: copy_maybe(alloc, prune)?,
+                options: *options,
+                filter: copy_maybe(alloc, filter)?,
+            }),
+            Plan::Calculation { var, expr, .. } => Ok(Plan::Calculation {
+                below: boxed(alloc, below)?,
+                var: *var,
+                expr: copy_expr(alloc, expr)?,
+            }),
+            Plan::Subquery { var, body, .. } => {
+                let body = body.copy(alloc)?;
+                Ok(Plan::Subquery {
+                    below: boxed(alloc, below)?,
+                    var: *var,
+                    body: boxed(alloc, body)?,
+                })
+            }
+            Plan::Filter { cond, .. } => Ok(Plan::Filter {
+                below: boxed(alloc, below)?,
+                cond: copy_expr(alloc, cond)?,
+            }),
+            Plan::Sort { keys, limit, .. } => Ok(Plan::Sort {
+                below: boxed(alloc, below)?,
+                keys: copy_keys(alloc, keys.as_slice())?,
+                limit: *limit,
+            }),
+            Plan::Limit { offset, count, .. } => Ok(Plan::Limit {
+                below: boxed(alloc, below)?,
+                offset: *offset,
+                count: *count,
+            }),
+            Plan::Collect {
+                groups,
+                aggregates,
+                into,
+                stage,
+                ..
+            } => Ok(Plan::Collect {
+                below: boxed(alloc, below)?,
+                groups: copy_lets(alloc, groups.as_slice())?,
+                aggregates: copy_aggregates(alloc, aggregates.as_slice())?,
+                into: copy_into(alloc, into)?,
+                stage: *stage,
+            }),
+            Plan::Return { expr, distinct, .. } => Ok(Plan::Return {
+                below: boxed(alloc, below)?,
+                expr: copy_expr(alloc, expr)?,
+                distinct: *distinct,
+            }),
+            Plan::NoResults { .. } => Ok(Plan::NoResults {
+                below: boxed(alloc, below)?,
+            }),
+            Plan::Scatter { coll, only, .. } => Ok(Plan::Scatter {
+                below: boxed(alloc, below)?,
+                coll: *coll,
+                only: *only,
+            }),
+            Plan::Distribute { coll, exprs, .. } => Ok(Plan::Distribute {
+                below: boxed(alloc, below)?,
+                coll: *coll,
+                exprs: copy_exprs(alloc, exprs.as_slice())?,
+            }),
+            Plan::Remote { .. } => Ok(Plan::Remote {
+                below: boxed(alloc, below)?,
+            }),
+            Plan::Gather { order, .. } => Ok(Plan::Gather {
+                below: boxed(alloc, below)?,
+                order: copy_keys(alloc, order.as_slice())?,
+            }),
+        }
+    }
+
+    /// The node with another body; a node without one stays itself.
+    pub fn with_body(&self, alloc: Global, body: Plan) -> Result<Plan, OutOfMemory>
+        ensures { IfOk result (λ p. plan_tree p ≡ with_body (plan_tree self.now) (plan_tree body)) }
+    {
+        match self {
+            Plan::Subquery { below, var, .. } => {
+                let below = below.copy(alloc)?;
+                Ok(Plan::Subquery {
+                    below: boxed(alloc, below)?,
+                    var: *var,
+                    body: boxed(alloc, body)?,
+                })
+            }
+            _ => self.copy(alloc),
+        }
+    }
+}
