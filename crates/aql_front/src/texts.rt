@@ -20,7 +20,7 @@ pub fn query_fault_text(alloc: Global, fault: &QueryFault) -> Result<Text, OutOf
         QueryFault::TooDeep => limit_text(alloc, LimitKind::Nesting),
         QueryFault::TooManyClauses => limit_text(alloc, LimitKind::Clauses),
         QueryFault::NotInGrammar => Text::new(alloc, "query: not in the grammar"),
-        QueryFault::WalkTooDeep => limit_text(alloc, LimitKind::WalkDepth),
+        QueryFault::TraversalTooDeep => limit_text(alloc, LimitKind::TraversalDepth),
         QueryFault::Scope(fault) => scope_text(alloc, fault),
         QueryFault::Memory => Text::new(alloc, "out of memory"),
     }

@@ -278,7 +278,7 @@ fn write_clause(clause: &Clause, page: &mut Page) {
             write_expr(" in ", list, page);
         }
         Clause::ForDocs { .. } => page.put(" documents"),
-        Clause::Walk(walk) => write_walk(walk, page),
+        Clause::Traversal(walk) => write_walk(walk, page),
         Clause::Filter(expr) => write_expr(" filter ", expr, page),
         Clause::Let { var, expr } => {
             write_ident(" let ", var, page);

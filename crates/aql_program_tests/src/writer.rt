@@ -280,7 +280,7 @@ fn write_clause(clause: &Clause, page: &mut Page) {
             write_ident("for ", var, page);
             page.put_pair(" in ", collection.as_str());
         }
-        Clause::Walk(walk) => write_walk(walk, page),
+        Clause::Traversal(walk) => write_walk(walk, page),
         Clause::Filter(expr) => write_expr("filter ", expr, page),
         Clause::Let { var, expr } => {
             write_ident("let ", var, page);

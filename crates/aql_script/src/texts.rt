@@ -33,7 +33,7 @@ pub fn limit_text(alloc: Global, kind: LimitKind) -> Result<Text, OutOfMemory>
         LimitKind::QueryBytes => Text::new(alloc, "limit: query bytes"),
         LimitKind::Nesting => Text::new(alloc, "limit: nesting"),
         LimitKind::Clauses => Text::new(alloc, "limit: clauses"),
-        LimitKind::WalkDepth => Text::new(alloc, "limit: traversal depth"),
+        LimitKind::TraversalDepth => Text::new(alloc, "limit: traversal depth"),
     }
 }
 
