@@ -284,7 +284,11 @@ fn check_maybe(
 
 // The names that a traversal declares.
 #[tactic(auto, using(crate::proofs::Words::new_append))]
-fn check_traversal_variables(alloc: Global, scope: &Scope, traversal: &Traversal) -> Result<(), ScopeFault>
+fn check_traversal_variables(
+    alloc: Global,
+    scope: &Scope,
+    traversal: &Traversal,
+) -> Result<(), ScopeFault>
     ensures { Judges (fault.new_names (idents scope.now.own ++ idents scope.now.outer) []
         (traversal.now.vertex ∷ (option_to_list traversal.now.edge
         ++ option_to_list traversal.now.path))) result }

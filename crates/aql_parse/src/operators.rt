@@ -75,7 +75,8 @@ impl<F: Fn(Global, &mut Cursor<'_>, usize, bool) -> Result<Expr, ParseFault>> Pa
             result tokens.new }
     {
         let mut found = Seq::new(self.alloc);
-        for _turn in 0..tokens.left() {
+        let most = tokens.left();
+        for _turn in 0..most {
             if !tokens.sees_operator(precedence) {
                 return Ok(found);
             }
