@@ -75,8 +75,7 @@ impl<F: Fn(Global, &mut Cursor<'_>, usize, bool) -> Result<Expr, ParseFault>> Pa
             result tokens.new }
     {
         let mut found = Seq::new(self.alloc);
-        let most = tokens.left();
-        for _turn in 0..most {
+        for _turn in 0..tokens.left() {
             if !tokens.sees_operator(precedence) {
                 return Ok(found);
             }
