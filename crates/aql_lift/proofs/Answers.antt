@@ -441,7 +441,7 @@ module _ (db : Database) where
         let b'' = below_within s.next t.subqueries t.next names (within_aggregates gs names s.next) b' in
         let ms = zip_join (Fits db (s.subqueries ++ (t.subqueries ++ u.subqueries)) names)
         (λ row (m : GroupedRow). IsGroupedRow (EvaluatesAll db s.tree.1 null row)
-            (EvaluatesArguments db t.tree row)
+        (EvaluatesArguments db t.tree row)
         (EvaluatesInto db u.tree vars row) m)
         (λ row (m : GroupedRow). IsGroupedRow (EvaluatesAll db es null row) (EvaluatesArguments db gs row)
         (EvaluatesInto db i (idents own) row) m)

@@ -84,7 +84,7 @@ pub collected_back : (xs : List Ident) (es : ExprTrees) (gs : AggregateTrees) (i
     let t = aggregates (own ++ outer) s.next gs in
     let u = into_part own (own ++ outer) t.next i in
     Collects s.tree.0 (aggregate_vars t.tree) (aggregate_functions t.tree)
-        (into_var u.tree) start' members out
+    (into_var u.tree) start' members out
     → (behind : List Row)
     × Collects xs (aggregate_vars gs) (aggregate_functions gs) (into_var i) start members behind
     × AllZip (Alike (enter (option_to_list (into_var i)) (option_to_list (into_var u.tree))
@@ -109,7 +109,7 @@ collected_back xs es gs i outer own n start' start members out b a k =
     zip_found scoped written
     (Alike (enter (option_to_list (into_var i)) (option_to_list (into_var u.tree)) two ++ outer))
     (λ c row h. into_alike (into_var i) (into_var u.tree) two outer t.next u.next
-        (rows_of_group c members) _ _ row
+    (rows_of_group c members) _ _ row
     w'' b''
     (alike_entered (aggregate_vars gs) (aggregate_vars t.tree)
     (aggregate_values fs 0 (rows_of_group c members))
@@ -118,5 +118,5 @@ collected_back xs es gs i outer own n start' start members out b a k =
     (groups xs members) out
     (subst (λ (cs : List (List Datum)). AllZip scoped cs out) (same_classes xs s.tree.0 n s.next members w)
     (subst
-        (λ (gs' : List (List Datum → Datum)). Collects s.tree.0 (aggregate_vars t.tree) gs' (into_var u.tree)
+    (λ (gs' : List (List Datum → Datum)). Collects s.tree.0 (aggregate_vars t.tree) gs' (into_var u.tree)
     start' members out) (same_functions gs names s.next) k))

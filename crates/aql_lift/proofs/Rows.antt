@@ -64,7 +64,7 @@ module _ (names : Numbering) where
       (zip_pairs (Alike names) keys ss rs a) in
       let rows = map (λ (q : KeyedRow). q.1) p.0 in
       let up = sorted_alike same (comes_before ds)
-          (λ x y z w e f. ap₂ (λ g h. is_lt (keys_cmp ds g h)) e.0 f.0)
+      (λ x y z w e f. ap₂ (λ g h. is_lt (keys_cmp ds g h)) e.0 f.0)
       k.0 p.0 p.2 k.2 in (
         rows,
         (p.0, p.1, up, refl),

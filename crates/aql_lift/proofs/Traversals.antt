@@ -95,7 +95,7 @@ module _ (db : Database) (n : ℕ) (w : TraversalShape) (own outer : Numbering)
         (subst (λ (pruned : Path → Bool). TraversesFrom w es pruned (id_text p.1) paths)
         (fun_ext (λ t. same _ _ (path_alike p.0 q.0 t e.0)))
         (same_traversal n w es (λ t. scoped (path_row db (number_traversal n w) p.0 t))
-            (id_text p.1) paths h)))
+        (id_text p.1) paths h)))
         (zip ss vs) (zip rs vs) k.0 (zip_starts (Alike (own ++ outer)) ss rs vs a) k.1 in
         let rows = each_related (Alike (own ++ outer)) (Alike more) (path_row db (number_traversal n w))
         (path_row db w) (λ s r t h. path_alike s r t h) ss rs (map (long_paths w) k.0) a in

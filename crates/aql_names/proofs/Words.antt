@@ -119,7 +119,7 @@ no_aggregate name = by (Same (codes "LENGTH") name) (Same (codes "COUNT") name) 
           → option_map (λ (entry : List ℕ × Aggregate). entry.1)
           (cond a (Some (codes "LENGTH", count)) (cond b (Some (codes "COUNT", count))
           (cond c (Some (codes "SUM", sum))
-              (cond d (Some (codes "MIN", min)) (cond e (Some (codes "MAX", max))
+          (cond d (Some (codes "MIN", min)) (cond e (Some (codes "MAX", max))
           (cond f (Some (codes "SORTED_UNIQUE", sorted_unique))
           (cond g (Some (codes "COUNT_DISTINCT", count_distinct)) None))))))) ≡ None
       by false false false false false false false _ _ _ _ _ _ _ = refl
@@ -159,9 +159,11 @@ parts_on {A} {B} {C} {R} {S} (Ok q) None m n k = by (m q.1) where
 abbrev pub traversal_done : TraversalShape → ℕ → List (List ℕ) → MemberTrees → Numbering
     → (ExprTree × Option ExprTree × Written)
     → W.Done
-traversal_done w n cs ms more r =
-    (traversal (W.shape_with (W.options_after ms w.options r.2) (number_traversal n w)) r.0 cs
-        (maybe r.1) no_members, more)
+traversal_done w n cs ms more r = (
+  traversal (W.shape_with (W.options_after ms w.options r.2) (number_traversal n w)) r.0 cs
+      (maybe r.1) no_members,
+  more,
+)
 
 pub paths_clause : (s : W.Site) (w : TraversalShape) (e : ExprTree) (cs : List (List ℕ)) (prune : MaybeExpr)
     (ms : MemberTrees) (st : W.State)
@@ -171,15 +173,18 @@ pub paths_clause : (s : W.Site) (w : TraversalShape) (e : ExprTree) (cs : List (
     (W.on (W.traversal_parts s (traversal_names (W.next st.said) w s.own) e cs prune ms
     (W.say_all (traversal_variables w) st))
     (λ r later. Ok
-        (traversal_done w (W.next st.said) cs ms (traversal_names (W.next st.said) w s.own) r, later))))
+    (traversal_done w (W.next st.said) cs ms (traversal_names (W.next st.said) w s.own) r, later))))
 paths_clause s w e cs prune ms st =
     ap (λ o. W.judge (new_names (visible_variables (W.place s)) [] (traversal_variables w))
     (W.judge (unless (nat_le w.min w.max) (BadOption (codes "depth"))) o))
     (parts_on (W.expr s e (W.say_all (traversal_variables w) st)) (edge_collections s.held cs)
     (λ later. W.maybe (W.inline_site (W.with_own (traversal_names (W.next st.said) w s.own) s)) prune later)
     (λ later. W.settings (W.inline_site s) no_settings ms later)
-    (λ f p written later. Ok (traversal_done w (W.next st.said) cs ms
-        (traversal_names (W.next st.said) w s.own) (triple f p written), later)))
+    (λ f p written later. Ok (
+      traversal_done w (W.next st.said) cs ms
+          (traversal_names (W.next st.said) w s.own) (triple f p written),
+      later,
+    )))
 
 pub count_trees : (ts : List ExprTree) → expr_count (trees ts) ≡ length ts
 count_trees [] = refl
@@ -231,15 +236,19 @@ pub lifted_clause : (s : W.Site) (x : Ident) (q : QueryTree) (st : W.State)
     → W.clause s (let_be x (subquery q)) st ≡ W.beside st.lets (W.let_subquery s x q st.said)
 lifted_clause s x q st =
     inner_judged (new_name (visible_variables (W.place s)) [] x)
-        (W.visit_query s.held (W.visible s) q (st.said ++ text_of x ∷ []))
+    (W.visit_query s.held (W.visible s) q (st.said ++ text_of x ∷ []))
     st.lets (λ inner. (let_be (Num (W.next st.said)) (subquery inner), (x, W.next st.said) ∷ s.own))
 
 pub named_into : (s : W.Site) (inner : Numbering) (x : Ident) (keep : List (List ℕ)) (st : W.State)
     → W.visit_into s inner (into x no_expr keep) st ≡ W.beside st.lets (W.into_object s inner x keep st.said)
 named_into s inner x keep st =
     two_judged (new_name (visible_variables (W.place s)) (idents inner) x) (keep_fault (idents s.own) keep) (
-      Some (Num (W.next st.said), Some
-          (object_literal (variable_members (W.visible s) (into_names (idents s.own) keep))), []),
+      Some (
+        Num (W.next st.said),
+        Some
+            (object_literal (variable_members (W.visible s) (into_names (idents s.own) keep))),
+        [],
+      ),
       (x, W.next st.said) ∷ inner,
     ) (st.said ++ text_of x ∷ []) st.lets
 
@@ -248,7 +257,7 @@ name_clause : (s : W.Site) (x : Ident) (c : List ℕ) (st : W.State)
 name_clause s x c st =
     one_judged (new_name (visible_variables (W.place s)) [] x)
     (W.source (W.next st.said) c (number_of (W.visible s) (Name c)) (place_of s.held c))
-        (st.said ++ text_of x ∷ [])
+    (st.said ++ text_of x ∷ [])
     st.lets (λ t. (t, (x, W.next st.said) ∷ s.own))
 
 -- FOR goes by whether its expression is a single name

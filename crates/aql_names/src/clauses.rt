@@ -654,7 +654,7 @@ pub fn into_names(
 ) -> Result<Into, ScopeFault>
     ensures { Visits (λ i. (Some (into_part i), names_after.new))
         (visit.into_object (site_of at.now) names_after.old var.now keep.now said.old) result
-            said.new }
+        said.new }
 {
     let number = enter_new(at, var, names_after, said)?;
     check_kept(at.alloc, &at.scope.own, keep)?;

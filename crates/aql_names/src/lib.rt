@@ -14,7 +14,8 @@ pub use checks::{
 pub use clauses::{
     TraversalHead, TraversalParts, aggregate_item, check_setting, check_settings, computed_setting,
     copy_texts, declare_new, define, define_query, documents_clause, each_step, enter_new,
-    for_each, for_name, into_names, lift_query, open_traversal, single_name, variable, traversal_of,
+    for_each, for_name, into_names, lift_query, open_traversal, single_name, traversal_of,
+    variable,
 };
 pub use faults::ScopeFault;
 pub use names::{At, NameList, Scope, declare, declare_ident, spelling};

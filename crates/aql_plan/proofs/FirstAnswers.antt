@@ -194,7 +194,7 @@ module _ (facts : Facts) (db : Database) (meets : Meets facts db) where
       → AllPlain es → AggregatesPlain gs → IntoPlain i → (vars : List Ident) (rows : List Row)
       → AllZip (λ row (m : GroupedRow).
       IsGroupedRow (EvaluatesAll db es null row) (EvaluatesArguments db gs row)
-          (EvaluatesInto db i vars row) m)
+      (EvaluatesInto db i vars row) m)
       rows
       (map (grouped_row_at Whole xs es gs i) rows)
   plain_members xs es gs i h k l vars [] = tt

@@ -40,12 +40,12 @@ module _ (held : List Held) (outer : Numbering) (with : List (List ℕ)) (all : 
     abbrev pub returned : Numbering → State → Outcome QueryTree (List (List ℕ))
     returned own st =
         on (W.expr (among own) e st)
-            (λ f later. Ok (query with (view.clauses later.lets) distinct f, later.said))
+        (λ f later. Ok (query with (view.clauses later.lets) distinct f, later.said))
 
     goes_on : (s : Site) (i : ℕ) (st : State) → Led s i st → whole ≡ on (clauses_from s i st) returned
     goes_on s i st led =
         ap (λ none. judge none
-            (on (W.clauses (among []) (view.clauses (map clause_tree all)) (state said [])) returned))
+        (on (W.clauses (among []) (view.clauses (map clause_tree all)) (state said [])) returned))
         known
         ∙ ap (λ o. on o returned) led
 

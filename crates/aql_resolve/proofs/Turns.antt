@@ -85,17 +85,17 @@ steps_by_step s found (view.at e) ps st =
     (λ q later. W.steps s (found ++ q ∷ []) (view.steps ps) later))
 steps_by_step s found (view.inline filter gives) ps st =
     by (W.maybe (W.inline_site s) (view.maybe filter) st) where
-  go_on : StepPart → State → Outcome (List StepPart) State
-  go_on q later = W.steps s (found ++ q ∷ []) (view.steps ps) later
+      go_on : StepPart → State → Outcome (List StepPart) State
+      go_on q later = W.steps s (found ++ q ∷ []) (view.steps ps) later
 
-  rest : Option ExprTree → State → Outcome (Option ExprTree) State
-  rest f later = W.maybe (W.inline_site s) (view.maybe gives) later
+      rest : Option ExprTree → State → Outcome (Option ExprTree) State
+      rest f later = W.maybe (W.inline_site s) (view.maybe gives) later
 
-  by : (o : Outcome (Option ExprTree) State)
-      → on o (λ f later. on (rest f later) (λ g last. go_on (view.inline f g) last))
-      ≡ on (on o (λ f later. on (rest f later) (λ g last. Ok (view.inline f g, last)))) go_on
-  by (Err fault) = refl
-  by (Ok p) = sym (on_on (rest p.0 p.1) (λ g last. Ok (view.inline p.0 g, last)) go_on)
+      by : (o : Outcome (Option ExprTree) State)
+          → on o (λ f later. on (rest f later) (λ g last. go_on (view.inline f g) last))
+          ≡ on (on o (λ f later. on (rest f later) (λ g last. Ok (view.inline f g, last)))) go_on
+      by (Err fault) = refl
+      by (Ok p) = sym (on_on (rest p.0 p.1) (λ g last. Ok (view.inline p.0 g, last)) go_on)
 
 -- a list from a place on begins with the element there
 pub from_here : {A : Type 0} (all : List A) (i : ℕ) (x : A) → i < length all → x ≡ get_or all i x
@@ -190,7 +190,7 @@ pub into_given : {A : Type 0} (f : A → Option IntoPart × Numbering) (s : Site
 into_given f s inner x m e keep names st r after is same h =
     subst (λ o. Visits f o r after)
     (ap₂ (λ (n : Option ExprTree) ns. W.visit_into s inner (view.into_tree (Some (x, n, ns))) st)
-        (sym is) same) h
+    (sym is) same) h
 
 -- INTO without one
 pub into_by_names : {A : Type 0} (f : A → Option IntoPart × Numbering) (s : Site) (inner : Numbering)
@@ -228,8 +228,11 @@ traversal_goes_on s w e cs prune ms st new depth =
     ∙ ap₂ (λ f g. judge f
     (judge g (on (W.traversal_parts s (traversal_names (next st.said) w s.own) e cs prune ms
     (W.say_all (traversal_variables w) st))
-    (λ r later. Ok (traversal_done w (next st.said) cs ms
-        (traversal_names (next st.said) w s.own) r, later))))) new depth
+    (λ r later. Ok (
+      traversal_done w (next st.said) cs ms
+          (traversal_names (next st.said) w s.own) r,
+      later,
+    ))))) new depth
 
 first_left : (f g : Option ScopeFault) → first f g ≡ None → f ≡ None
 first_left None g h = refl
@@ -262,7 +265,7 @@ both_judged B k f g o (BadOption n) after h = judged_both f g o _ h
 abbrev pub head_fault : Site → TraversalShape → Option ScopeFault
 head_fault s w =
     first (new_names (visible_variables (W.place s)) [] (traversal_variables w))
-        (unless (nat_le w.min w.max) (BadOption (codes "depth")))
+    (unless (nat_le w.min w.max) (BadOption (codes "depth")))
 
 pub head_new : (s : Site) (w : TraversalShape) → head_fault s w ≡ None
     → new_names (visible_variables (W.place s)) [] (traversal_variables w) ≡ None
@@ -288,7 +291,7 @@ head_has_fault {A} {B} k s w e cs prune ms st r r' fault after is is' h =
         on (W.traversal_parts s (traversal_names (next st.said) w s.own) e cs prune ms
         (W.say_all (traversal_variables w) st))
         (λ r later. Ok
-            (traversal_done w (next st.said) cs ms (traversal_names (next st.said) w s.own) r, later))
+        (traversal_done w (next st.said) cs ms (traversal_names (next st.said) w s.own) r, later))
 
 module _ (s : Site) (w : TraversalShape) (e : ExprTree) (cs : List (List ℕ)) (prune : MaybeExpr)
     (ms : MemberTrees) (said names_after : List (List ℕ)) (lets : List ClauseTree) (more : Numbering)
@@ -334,8 +337,12 @@ pub shape_is : (w : TraversalShape) (n : ℕ) (o : TraversalOptions) (v : Ident)
 shape_is w n o v e p is_v is_e is_p =
     ap₂ (λ x y. let t : TraversalShape = record w { vertex = x; edge = y; path = p; options = o } in t) is_v
     is_e
-    ∙ ap (λ z. let t : TraversalShape = record w { vertex = (number_traversal n w).vertex;
-    edge = (number_traversal n w).edge; path = z; options = o } in t) is_p
+    ∙ ap (λ z. let t : TraversalShape = record w {
+      vertex = (number_traversal n w).vertex;
+      edge = (number_traversal n w).edge;
+      path = z;
+      options = o;
+    } in t) is_p
 
 -- what a traversal of the code says, part by part
 pub traversal_parts_of : (t : Traversal)
@@ -374,7 +381,7 @@ settings_have_fault f g s more e cs prune ms st second third last here inner sta
     ∙ given_on (W.expr s e st) _ start second (subst (λ a. W.expr a e st ≡ Ok (start, second)) here_is found)
     ∙ ap (λ none. judge none (on (W.maybe (W.inline_site (W.with_own more s)) prune second) (λ p later.
     on (W.settings (W.inline_site s) no_settings ms later) (λ written st'. Ok ((start, p, written), st')))))
-        edges
+    edges
     ∙ given_on (W.maybe (W.inline_site (W.with_own more s)) prune second) _ tested third pruned))
     (fault_through g f (W.settings (W.inline_site s) no_settings ms third) _ r r' fault last last is is'
     (subst (λ a. Visits g (W.settings a no_settings ms third) r last) inner_is h))

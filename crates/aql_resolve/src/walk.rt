@@ -17,7 +17,7 @@ use aql_names::{
     check_args, check_collections, check_edges, check_kept, check_setting, check_settings,
     computed_setting, copy_texts, declare, declare_new, define, define_query, documents_clause,
     each_step, enter_new, for_each, for_name, into_names, lift_query, open_traversal, single_name,
-    variable, traversal_of,
+    traversal_of, variable,
 };
 use aql_tree::{
     AggregateItem, Aggregates, Clause, Clauses, Collect, Expr, Exprs, Field, Fields, Ident, Into,
@@ -492,7 +492,7 @@ fn prune_condition(
 ) -> Result<Option<Box<Expr>>, ScopeFault>
     ensures { Visits (option_map (λ b. tree b.value))
         (visit.maybe
-            (visit.inline_site (visit.with_own names_after.now (site_within at.now scope.now)))
+        (visit.inline_site (visit.with_own names_after.now (site_within at.now scope.now)))
         (maybe_tree (option_map tree prune.now)) (state said.old lets.old))
         result (state said.new lets.new) }
 {
@@ -568,7 +568,13 @@ fn collect_clause(
 {
     let mut names_after = NameList::new(at.alloc);
     let site = at.within(scope);
-    let groups = criteria(collect.groups.as_slice(), &site, &mut names_after, said, lets)?;
+    let groups = criteria(
+        collect.groups.as_slice(),
+        &site,
+        &mut names_after,
+        said,
+        lets,
+    )?;
     let found = aggregates(
         collect.aggregates.as_slice(),
         &site,
@@ -595,9 +601,9 @@ fn criteria(
 ) -> Result<Lets, ScopeFault>
     ensures { Visits
         (λ ls.
-            (map (λ l. l.0) (map let_part ls), map (λ l. l.1) (map let_part ls), names_after.new))
+        (map (λ l. l.0) (map let_part ls), map (λ l. l.1) (map let_part ls), names_after.new))
         (visit.criteria (site_of at.now) names_after.old [] []
-            (map (λ l. l.0) (map let_part all.now))
+        (map (λ l. l.0) (map let_part all.now))
         (trees (map (λ l. l.1) (map let_part all.now))) (state said.old lets.old))
         result (state said.new lets.new) }
 {
@@ -647,7 +653,7 @@ fn into_part_of(
 ) -> Result<Option<Into>, ScopeFault>
     ensures { Visits (λ i. (option_map into_part i, names_after.new))
         (visit.visit_into (site_of at.now) names_after.old
-            (into_tree (option_map into_part into.now))
+        (into_tree (option_map into_part into.now))
         (state said.old lets.old)) result (state said.new lets.new) }
 {
     match into {

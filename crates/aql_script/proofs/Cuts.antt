@@ -1,5 +1,5 @@
 -- Pieces cut off one by one are the pieces of the whole, and the lines of a script are read off it in turn.
-use Rattle.std.proofs.Common.{◌≡◌, ◌<◌, ◌≤◌, ℕ, suc, zero, ◌+◌, List, [], ◌∷◌, ◌++◌, true, false, Option, Some, None, Err, refl, sym, ap, ◌∙◌, subst, arith, length, take, drop, get_or, option_map, nat_eq, if◌then◌else◌, length-append, append_assoc}
+use Rattle.std.proofs.Common.{◌≡◌, ◌<◌, ◌≤◌, ℕ, suc, zero, ◌+◌, List, [], ◌∷◌, ◌++◌, true, false, Option, Some, None, Err, refl, sym, ap, ◌∙◌, subst, arith, length, take, drop, get_or, option_map, nat_eq, if◌then◌else◌, length-append}
 use Rattle.std.specs.Prelude.{Result, ◌==◌}
 use Rattle.std.specs.List.{onto_first, join_with_byte}
 use Rattle.std.specs.Str.Lines.{strip_carriage_return}

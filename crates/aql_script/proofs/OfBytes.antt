@@ -154,9 +154,9 @@ of_read n held [] = tt
 of_read n held (l ∷ []) = of_last n held l
 of_read n held (l ∷ m ∷ ls) =
     of_after (n + 1) (step (n + 1) held (strip_carriage_return l)) held
-        (λ more. read step (n + 1) more (m ∷ ls))
+    (λ more. read step (n + 1) more (m ∷ ls))
     (join_with_byte 10 (m ∷ ls)) (of_step (n + 1) held (strip_carriage_return l))
-        (λ more. of_read (n + 1) more (m ∷ ls))
+    (λ more. of_read (n + 1) more (m ∷ ls))
 
 pub fault_of_bytes : (bytes : List ℕ) (e : LoadFault) → HasFault bytes e → IsOfBytes e
 unfolding script

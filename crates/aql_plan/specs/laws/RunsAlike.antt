@@ -178,11 +178,11 @@ module _ (f : ExprTree → ExprTree) (Free : Ident → Type 0) (S : Uses → Row
       Collects xs (aggregate_vars gs) (stage_functions s gs) (into_var i) start members out)
       (map_equal (S (own_uses (Collect xs es gs i s)))
       (grouped_row_at s xs (map_exprs f es) (map_aggregates f gs) (map_into f i))
-          (grouped_row_at s xs es gs i)
+      (grouped_row_at s xs es gs i)
       (member_carried f Free S carry s xs es gs i xs_free ys_free) rows others k)
       (subst (λ (x : Option Ident). Collects xs (aggregate_vars gs) (stage_functions s gs) x start
       (map (grouped_row_at s xs (map_exprs f es) (map_aggregates f gs) (map_into f i)) rows) out)
-          (into_kept f i)
+      (into_kept f i)
       (subst (λ (fs : List (List Datum → Datum)). Collects xs (aggregate_vars gs) fs
       (into_var (map_into f i)) start
       (map (grouped_row_at s xs (map_exprs f es) (map_aggregates f gs) (map_into f i)) rows) out)

@@ -26,7 +26,7 @@ access_steps-returns-in_err-step t c =
     let is' : c.from_residual.result ≡ Err c.in_err-step.field-0.0 = search rules in
     subst (λ o. Visits (map step_part) o c.from_residual.result last) (sym from_here)
     (fault_through step_part (map step_part)
-        (visit.step s (step_part c.item-item.result) before) _ c.step.result
+    (visit.step s (step_part c.item-item.result) before) _ c.step.result
     c.from_residual.result c.in_err-step.field-0.0 last last is is' c.step.ensures)
 
 pub access_steps-loop-item-preserved : goal.access_steps-loop-item-preserved
@@ -57,9 +57,9 @@ step-returns-in_err-project-in-Each t c =
     ap step_part c.in-Each.is ∙ of_each c.in-Each.filter c.in-Each.project in
     let is : c.maybe-in-Each.result ≡ Err c.in_err-project-in-Each.field-0.0 = search rules in
     let is' : c.from_residual-in_err-project-in-Each.result
-        ≡ Err c.in_err-project-in-Each.field-0.0 = search rules in
+    ≡ Err c.in_err-project-in-Each.field-0.0 = search rules in
     subst (λ p. Visits step_part (visit.step s p before) c.from_residual-in_err-project-in-Each.result last)
-        (sym part)
+    (sym part)
     (each_has_fault boxes step_part s here filter gives (boxes c.in_ok-filter-in-Each.filter)
     before second last c.maybe-in-Each.result c.from_residual-in_err-project-in-Each.result
     c.in_err-project-in-Each.field-0.0 c.inline-inner.ensures c.in_ok-filter-in-Each.ensures is is'
@@ -72,10 +72,10 @@ into_some-returns-in-Some t c =
     let before = state c.args.said.now c.args.lets.now in
     let after = state c.into_expr.new.said c.into_expr.new.lets in
     let h = into_given f
-        (site_of c.args.at.now) c.args.names_after.now i.var _ _ _ _ before c.into_expr.result after
+    (site_of c.args.at.now) c.args.names_after.now i.var _ _ _ _ before c.into_expr.result after
     (ap (option_map tree) c.in-Some.is) c.as_slice.ensures c.into_expr.ensures in
     let h' = subst (λ p. Visits f
-        (visit.visit_into (site_of c.args.at.now) c.args.names_after.now (into_tree (Some p)) before)
+    (visit.visit_into (site_of c.args.at.now) c.args.names_after.now (into_tree (Some p)) before)
     c.into_expr.result after) (sym (into_parts_of i)) h in
     search (rules, h')
 
@@ -95,7 +95,7 @@ let_clause-returns-in_default t c =
     let h = let_of_value (λ c'. (clause_tree c', c.let_value.new.scope.own))
     (site_within c.args.at.now c.args.scope.now) c.args.var.now (tree c.args.value.now)
     (state c.args.said.now c.args.lets.now) c.let_value.result
-        (state c.let_value.new.said c.let_value.new.lets)
+    (state c.let_value.new.said c.let_value.new.lets)
     (no_query c.args.value.now c.in_default.not-Sub) c.let_value.ensures.clause in
     record { clause = search (rules, h); outer = c.let_value.ensures.outer }
 
@@ -106,11 +106,11 @@ clause_of_traversal-returns-in_err-head-clause-clause t c =
     let part = traversal_part c.args.traversal.now in
     let by_part = traversal_parts_of c.args.traversal.now in
     let judged = subst (λ p. Judges (head_fault s p.0) c.open_traversal.result)
-        (sym by_part) c.open_traversal.ensures.fault in
+    (sym by_part) c.open_traversal.ensures.fault in
     let is : c.open_traversal.result ≡ Err c.in_err-head.field-0.0 = search rules in
     let is' : c.from_residual.result ≡ Err c.in_err-head.field-0.0 = search rules in
     let h = head_has_fault (λ c'. (clause_tree c', c.args.scope.now.own)) s part.0 part.1 part.2
-        (maybe part.3)
+    (maybe part.3)
     (members part.4) (state c.args.said.now c.args.lets.now) c.open_traversal.result c.from_residual.result
     c.in_err-head.field-0.0 (state c.open_traversal.new.said c.args.lets.now) is is' judged in
     search (rules, h)
@@ -122,13 +122,13 @@ clause_of_traversal-returns-in_err-parts-clause-clause t c =
     let part = traversal_part c.args.traversal.now in
     let by_part = traversal_parts_of c.args.traversal.now in
     let judged : head_fault s part.0 ≡ None = ap (λ p. head_fault s p.0) by_part
-        ∙ c.in_ok-head.ensures.fault in
+    ∙ c.in_ok-head.ensures.fault in
     let is : c.parts_of_traversal.result ≡ Err c.in_err-parts.field-0.0 = search rules in
     let is' : c.from_residual-in_err-parts.result ≡ Err c.in_err-parts.field-0.0 = search rules in
     let last = state c.parts_of_traversal.new.said c.parts_of_traversal.new.lets in
     let h = traversal_has_fault s part.0 part.1 part.2 (maybe part.3) (members part.4) c.args.said.now
     c.open_traversal.new.said (map clause_tree c.args.lets.now) c.in_ok-head.head.names_after
-        (head_new s part.0 judged)
+    (head_new s part.0 judged)
     (head_depth s part.0 judged) c.in_ok-head.ensures.said c.in_ok-head.ensures.names_after
     (λ c'. (clause_tree c', c.args.scope.now.own)) (λ p. (tree p.start.value, boxes p.prune, p.written))
     c.parts_of_traversal.result c.from_residual-in_err-parts.result c.in_err-parts.field-0.0 last last is is'
@@ -141,7 +141,7 @@ clause_of_traversal-returns-clause-clause t c =
     let part = traversal_part c.args.traversal.now in
     let by_part = traversal_parts_of c.args.traversal.now in
     let judged : head_fault s part.0 ≡ None = ap (λ p. head_fault s p.0) by_part
-        ∙ c.in_ok-head.ensures.fault in
+    ∙ c.in_ok-head.ensures.fault in
     let parts = c.in_ok-parts.parts in
     let head = c.in_ok-head.head in
     let last = state c.parts_of_traversal.new.said c.parts_of_traversal.new.lets in
@@ -153,11 +153,15 @@ clause_of_traversal-returns-clause-clause t c =
     ≡ traversal (visit.shape_with options (number_traversal (next c.args.said.now) part.0)) start part.2
     (maybe (boxes parts.prune)) no_members =
     c.traversal_of.ensures.clause
-    ∙ ap (λ cs. traversal (record part.0 { vertex = head.vertex; edge = head.edge; path = head.path;
-    options = options }) start cs (maybe (boxes parts.prune)) no_members) collections
+    ∙ ap (λ cs. traversal (record part.0 {
+      vertex = head.vertex;
+      edge = head.edge;
+      path = head.path;
+      options = options;
+    }) start cs (maybe (boxes parts.prune)) no_members) collections
     ∙ ap (λ w. traversal w start part.2 (maybe (boxes parts.prune)) no_members)
     (shape_is part.0
-        (next c.args.said.now) options head.vertex head.edge head.path c.in_ok-head.ensures.vars.0
+    (next c.args.said.now) options head.vertex head.edge head.path c.in_ok-head.ensures.vars.0
     c.in_ok-head.ensures.vars.1 c.in_ok-head.ensures.vars.2) in
     let h : visit.clause s (traversal_clause part) (state c.args.said.now c.args.lets.now)
     ≡ Ok ((clause_tree c.traversal_of.result, c.traversal_of.new.scope.own), last) =
@@ -192,17 +196,17 @@ parts_of_traversal-returns-in_err-written t c =
     let is : c.written_options.result ≡ Err c.in_err-written.field-0.0 = search rules in
     let is' : c.from_residual-in_err-written.result ≡ Err c.in_err-written.field-0.0 = search rules in
     let written : Visits (λ w. w)
-        (visit.settings inner no_settings (members part.4) third) c.written_options.result last =
+    (visit.settings inner no_settings (members part.4) third) c.written_options.result last =
     subst (λ p. Visits (λ w. w)
-        (visit.settings inner no_settings (members p.4) third) c.written_options.result last)
+    (visit.settings inner no_settings (members p.4) third) c.written_options.result last)
     (sym by_part) c.written_options.ensures in
     let h = settings_have_fault (λ p. (tree p.start.value, boxes p.prune, p.written))
-        (λ w. w) s c.args.names_after.now
+    (λ w. w) s c.args.names_after.now
     part.1 part.2 (maybe part.3) (members part.4) first second third last here inner
-        (tree c.in_ok-start.start.value)
+    (tree c.in_ok-start.start.value)
     (boxes c.in_ok-prune.prune) c.written_options.result c.from_residual-in_err-written.result
     c.in_err-written.field-0.0 c.within.ensures
-        (c.inline.ensures ∙ ap inline_site c.within-2.ensures) found edges
+    (c.inline.ensures ∙ ap inline_site c.within-2.ensures) found edges
     pruned is is' written in
     search (rules, h)
 
@@ -223,7 +227,7 @@ query_within-returns-in_err-scoped t c =
     (site_within c.args.at.now c.loop-item.scope) c.loop-item.item-index c.item-item.result
     (state c.loop-item.said c.loop-item.done) (state c.clause.new.said c.clause.new.lets) c.clause.result
     c.from_residual-in_err-scoped.result c.in_err-scoped.field-0.0 c.clause.new.said c.loop-item.invariant.0 h
-        at is is'
+    at is is'
     c.clause.ensures.clause)
 
 pub query_within-returns-in_err-result : goal.query_within-returns-in_err-result
@@ -243,19 +247,19 @@ query_within-returns-in_err-result t c =
     let before = state c.loop-item.said c.loop-item.done in
     let last = state c.boxed_expr.new.said c.boxed_expr.new.lets in
     let fails : Visits (λ b. tree b.value)
-        (visit.expr (site_of c.within-inner.result) (tree q.result.value) before)
+    (visit.expr (site_of c.within-inner.result) (tree q.result.value) before)
     c.boxed_expr.result last =
     subst (λ b. Visits (λ b. tree b.value)
-        (visit.expr (site_of c.within-inner.result) (tree b) before) c.boxed_expr.result last)
+    (visit.expr (site_of c.within-inner.result) (tree b) before) c.boxed_expr.result last)
     c.deref.ensures c.boxed_expr.ensures in
     subst (λ p. Visits query_tree
-        (visit.visit_query held outer p c.args.said.now) c.from_residual-in_err-result.result
+    (visit.visit_query held outer p c.args.said.now) c.from_residual-in_err-result.result
     c.boxed_expr.new.said) (sym (query_parts_of q))
     (result_has_fault held outer q.with q.clauses q.distinct (tree q.result.value) c.args.said.now known
     (λ b. tree b.value) query_tree s
-        (site_of c.within-inner.result) c.loop-item.item-index before last c.boxed_expr.result
+    (site_of c.within-inner.result) c.loop-item.item-index before last c.boxed_expr.result
     c.from_residual-in_err-result.result c.in_err-result.field-0.0 c.boxed_expr.new.said
-        c.loop-item.invariant.0 done inner
+    c.loop-item.invariant.0 done inner
     is is' fails)
 
 pub query_within-returns : goal.query_within-returns
@@ -273,7 +277,7 @@ query_within-returns t c =
     let last = state c.boxed_expr.new.said c.boxed_expr.new.lets in
     let found = tree c.in_ok-result.result.value in
     let h : visit.expr (site_of c.within-inner.result) (tree q.result.value)
-        (state c.loop-item.said c.loop-item.done)
+    (state c.loop-item.said c.loop-item.done)
     ≡ Ok (found, last) =
     ap (λ b. visit.expr (site_of c.within-inner.result) (tree b) (state c.loop-item.said c.loop-item.done))
     (sym c.deref.ensures) ∙ c.in_ok-result.ensures in
@@ -281,10 +285,13 @@ query_within-returns t c =
     ap (λ p. visit.visit_query held outer p c.args.said.now) (query_parts_of q)
     ∙ gives_query held outer q.with q.clauses q.distinct (tree q.result.value) c.args.said.now known s
     (site_of c.within-inner.result) c.loop-item.item-index
-        (state c.loop-item.said c.loop-item.done) last found
+    (state c.loop-item.said c.loop-item.done) last found
     c.loop-item.invariant.0 done inner h
-    ∙ ap (λ ws. Ok (query ws
-    (clauses (map clause_tree c.boxed_expr.new.lets)) q.distinct found, c.boxed_expr.new.said)) with
+    ∙ ap (λ ws. Ok (
+      query ws
+          (clauses (map clause_tree c.boxed_expr.new.lets)) q.distinct found,
+      c.boxed_expr.new.said,
+    )) with
     ∙ ap (λ p. Ok (p, c.boxed_expr.new.said)) (sym (query_parts_of (roll-Query record {
       with = c.in_ok-with.with;
       clauses = c.boxed_expr.new.lets;
@@ -297,13 +304,13 @@ into_some-returns-in-None t c =
     let i = c.args.into.now in
     let f : Into → Option IntoPart × Numbering = λ x. (Some (into_part x), c.into_names.new.names_after) in
     let h = into_by_names f (site_of c.args.at.now) c.args.names_after.now i.var
-        (option_map tree i.what) i.keep
+    (option_map tree i.what) i.keep
     c.as_slice-in-None.result.now c.args.said.now (map clause_tree c.args.lets.now) c.into_names.result
     c.into_names.new.said
-        (ap (option_map tree) c.in-None.is) c.as_slice-in-None.ensures c.into_names.ensures in
+    (ap (option_map tree) c.in-None.is) c.as_slice-in-None.ensures c.into_names.ensures in
     let h' = subst
-        (λ p. Visits f (visit.visit_into (site_of c.args.at.now) c.args.names_after.now (into_tree (Some p))
+    (λ p. Visits f (visit.visit_into (site_of c.args.at.now) c.args.names_after.now (into_tree (Some p))
     (state c.args.said.now c.args.lets.now)) c.into_names.result
-        (state c.into_names.new.said c.args.lets.now))
+    (state c.into_names.new.said c.args.lets.now))
     (sym (into_parts_of i)) h in
     search (rules, h')

@@ -21,7 +21,7 @@ pub lines-preserved : goal.lines-preserved
 lines-preserved c =
     let shorter = cut_length 10 c.lines.rest.now c.in-Some.piece.now c.in-Some.after.now c.in-Some.ensures in
     let dropped : c.without_cr.result.now
-        ≡ strip_carriage_return c.in-Some.piece.now = c.without_cr.ensures in
+    ≡ strip_carriage_return c.in-Some.piece.now = c.without_cr.ensures in
     let did : step (c.lines.line + 1) c.lines.catalog (strip_carriage_return c.in-Some.piece.now)
     ≡ next c.take_line.new.catalog =
     rw (c.in-Ok-true.field-0-test, dropped) at c.in-Ok-true.ensures in (
@@ -33,7 +33,7 @@ lines-preserved c =
 pub returns-in-Ok-false : goal.returns-in-Ok-false
 returns-in-Ok-false c =
     let dropped : c.without_cr.result.now
-        ≡ strip_carriage_return c.in-Some.piece.now = c.without_cr.ensures in
+    ≡ strip_carriage_return c.in-Some.piece.now = c.without_cr.ensures in
     let did : (step (c.lines.line + 1) c.lines.catalog (strip_carriage_return c.in-Some.piece.now) ≡ query)
     × (c.take_line.new.catalog ≡ c.lines.catalog) =
     rw (c.in-Ok-false.field-0-test, dropped) at c.in-Ok-false.ensures in
@@ -46,7 +46,7 @@ returns-in-Ok-false c =
 pub returns-in-Err : goal.returns-in-Err
 returns-in-Err c =
     let dropped : c.without_cr.result.now
-        ≡ strip_carriage_return c.in-Some.piece.now = c.without_cr.ensures in
+    ≡ strip_carriage_return c.in-Some.piece.now = c.without_cr.ensures in
     elim (c.in-Err.ensures) [
       | inl m ↦ inl m
       | inr e ↦ inr (sym (goes step c.lines.line c.lines.catalog c.lines.rest.now _ _ _ (fault c.in-Err.fault)

@@ -54,7 +54,7 @@ pub level-returns-in-Range : goal.level-returns-in-Range
 unfolding span
 level-returns-in-Range g t c =
     rw (ap
-        (λ p. level_at (expr c.args.self.now.depth) c.args.self.now.inside p c.args.tokens.now) c.in-Range.is)
+    (λ p. level_at (expr c.args.self.now.depth) c.args.self.now.inside p c.args.tokens.now) c.in-Range.is)
     c.range.ensures
 
 pub level-returns-in-ArrayComparison : goal.level-returns-in-ArrayComparison
