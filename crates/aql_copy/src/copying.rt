@@ -281,20 +281,20 @@ pub fn copy_into(alloc: Global, into: &Option<Into>) -> Result<Option<Into>, Out
 }
 
 #[cycle(copying)]
-fn copy_traversal(alloc: Global, walk: &Traversal) -> Result<Traversal, OutOfMemory>
-    ensures { IfOk result (λ out. traversal_part out ≡ traversal_part walk.now) }
+fn copy_traversal(alloc: Global, traversal: &Traversal) -> Result<Traversal, OutOfMemory>
+    ensures { IfOk result (λ out. traversal_part out ≡ traversal_part traversal.now) }
 {
     Ok(Traversal {
-        vertex: copy_ident(alloc, &walk.vertex)?,
-        edge: copy_maybe_ident(alloc, &walk.edge)?,
-        path: copy_maybe_ident(alloc, &walk.path)?,
-        min: walk.min,
-        max: walk.max,
-        direction: walk.direction,
-        start: copy_expr(alloc, &walk.start)?,
-        collections: copy_texts(alloc, walk.collections.as_slice())?,
-        prune: copy_maybe(alloc, &walk.prune)?,
-        options: copy_options(alloc, &walk.options)?,
+        vertex: copy_ident(alloc, &traversal.vertex)?,
+        edge: copy_maybe_ident(alloc, &traversal.edge)?,
+        path: copy_maybe_ident(alloc, &traversal.path)?,
+        min: traversal.min,
+        max: traversal.max,
+        direction: traversal.direction,
+        start: copy_expr(alloc, &traversal.start)?,
+        collections: copy_texts(alloc, traversal.collections.as_slice())?,
+        prune: copy_maybe(alloc, &traversal.prune)?,
+        options: copy_options(alloc, &traversal.options)?,
     })
 }
 
@@ -324,7 +324,7 @@ fn copy_clause(alloc: Global, clause: &Clause) -> Result<Clause, OutOfMemory>
             var: copy_ident(alloc, var)?,
             collection: collection.copy(alloc)?,
         }),
-        Clause::Walk(t) => Ok(Clause::Walk(copy_traversal(alloc, t)?)),
+        Clause::Traversal(t) => Ok(Clause::Traversal(copy_traversal(alloc, t)?)),
         Clause::Filter(e) => Ok(Clause::Filter(copy_expr(alloc, e)?)),
         Clause::Let { var, expr } => Ok(Clause::Let {
             var: copy_ident(alloc, var)?,

@@ -23,7 +23,7 @@ use Rattle.aql_names.specs.declared.faults.ScopeFault.{ScopeFault}
 use Rattle.aql_names.specs.declared.faults.ScopeFault.TheVariants as scope
 use Rattle.aql_names.specs.Faults.{first_fault}
 use Rattle.aql_front.specs.declared.faults.QueryFault.{QueryFault}
-use Rattle.aql_front.specs.declared.faults.QueryFault.TheVariants.{TooLong, Lexical, TooDeep, TooManyClauses, NotInGrammar, WalkTooDeep, Scope, Memory}
+use Rattle.aql_front.specs.declared.faults.QueryFault.TheVariants.{TooLong, Lexical, TooDeep, TooManyClauses, NotInGrammar, TraversalTooDeep, Scope, Memory}
 use Rattle.aql_front.specs.Causes.{of_parse}
 use Rattle.aql_front.specs.Reading.{IsWritten, Misspells, Refuses, IsScoped}
 
@@ -51,7 +51,7 @@ within_or_refused : (ts : Tokens) (q : QueryTree) (b : ParseFault) → WithinLim
 within_or_refused ts q parse.TooDeep w t s n h = let a = w.0 in absurd (omega arith)
 within_or_refused ts q parse.TooManyClauses w t s n h = let a = w.1 in let b = h.1 in absurd (omega arith)
 within_or_refused ts q parse.NotInGrammar w t s n h = h.1 q t
-within_or_refused ts q parse.WalkTooDeep w t s n h =
+within_or_refused ts q parse.TraversalTooDeep w t s n h =
     let e = ap (traversals_within 32) (one_tree ts h.1.0 q h.1.1.0 t) in let deep = h.1.1.1 in absurd (cc)
 within_or_refused ts q parse.Memory w t s n h = n refl
 
@@ -69,23 +69,23 @@ one_refusal : (ts : Tokens) (a b : ParseFault) → a ≢ parse.Memory → b ≢ 
 one_refusal ts parse.TooDeep parse.TooDeep m n h k = refl
 one_refusal ts parse.TooDeep parse.TooManyClauses m n h k = flat_or_deep ts _ _ k.0 h
 one_refusal ts parse.TooDeep parse.NotInGrammar m n h k = within_or_limit ts _ _ k.0 h
-one_refusal ts parse.TooDeep parse.WalkTooDeep m n h k = within_or_limit ts _ _ k.0 h
+one_refusal ts parse.TooDeep parse.TraversalTooDeep m n h k = within_or_limit ts _ _ k.0 h
 one_refusal ts parse.TooDeep parse.Memory m n h k = absurd (n refl)
 one_refusal ts parse.TooManyClauses parse.TooDeep m n h k = flat_or_deep ts _ _ h.0 k
 one_refusal ts parse.TooManyClauses parse.TooManyClauses m n h k = refl
 one_refusal ts parse.TooManyClauses parse.NotInGrammar m n h k = few_or_many ts _ _ k.0 h.1
-one_refusal ts parse.TooManyClauses parse.WalkTooDeep m n h k = few_or_many ts _ _ k.0 h.1
+one_refusal ts parse.TooManyClauses parse.TraversalTooDeep m n h k = few_or_many ts _ _ k.0 h.1
 one_refusal ts parse.TooManyClauses parse.Memory m n h k = absurd (n refl)
 one_refusal ts parse.NotInGrammar parse.TooDeep m n h k = within_or_limit ts _ _ h.0 k
 one_refusal ts parse.NotInGrammar parse.TooManyClauses m n h k = few_or_many ts _ _ h.0 k.1
 one_refusal ts parse.NotInGrammar parse.NotInGrammar m n h k = refl
-one_refusal ts parse.NotInGrammar parse.WalkTooDeep m n h k = absurd (h.1 k.1.0 k.1.1.0)
+one_refusal ts parse.NotInGrammar parse.TraversalTooDeep m n h k = absurd (h.1 k.1.0 k.1.1.0)
 one_refusal ts parse.NotInGrammar parse.Memory m n h k = absurd (n refl)
-one_refusal ts parse.WalkTooDeep parse.TooDeep m n h k = within_or_limit ts _ _ h.0 k
-one_refusal ts parse.WalkTooDeep parse.TooManyClauses m n h k = few_or_many ts _ _ h.0 k.1
-one_refusal ts parse.WalkTooDeep parse.NotInGrammar m n h k = absurd (k.1 h.1.0 h.1.1.0)
-one_refusal ts parse.WalkTooDeep parse.WalkTooDeep m n h k = refl
-one_refusal ts parse.WalkTooDeep parse.Memory m n h k = absurd (n refl)
+one_refusal ts parse.TraversalTooDeep parse.TooDeep m n h k = within_or_limit ts _ _ h.0 k
+one_refusal ts parse.TraversalTooDeep parse.TooManyClauses m n h k = few_or_many ts _ _ h.0 k.1
+one_refusal ts parse.TraversalTooDeep parse.NotInGrammar m n h k = absurd (k.1 h.1.0 h.1.1.0)
+one_refusal ts parse.TraversalTooDeep parse.TraversalTooDeep m n h k = refl
+one_refusal ts parse.TraversalTooDeep parse.Memory m n h k = absurd (n refl)
 one_refusal ts parse.Memory b m n h k = absurd (m refl)
 
 -- ---- whole texts
@@ -139,7 +139,7 @@ cause held text (Lexical p k) h = at p k refl h.0 h.1
 cause held text TooDeep h = spelled parse.TooDeep refl (λ x. absurd (cc)) h
 cause held text TooManyClauses h = spelled parse.TooManyClauses refl (λ x. absurd (cc)) h
 cause held text NotInGrammar h = spelled parse.NotInGrammar refl (λ x. absurd (cc)) h
-cause held text WalkTooDeep h = spelled parse.WalkTooDeep refl (λ x. absurd (cc)) h
+cause held text TraversalTooDeep h = spelled parse.TraversalTooDeep refl (λ x. absurd (cc)) h
 cause held text (Scope f) h = cause_named held text f h
 cause held text Memory h = absurd h
 

@@ -6,7 +6,7 @@ use Rattle.aql_grammar.specs.declared.faults.ParseFault.TheVariants as parse
 use Rattle.aql_names.specs.declared.faults.ScopeFault.{ScopeFault}
 use Rattle.aql_names.specs.declared.faults.ScopeFault.TheVariants as scope
 use Rattle.aql_front.specs.declared.faults.QueryFault.{QueryFault}
-use Rattle.aql_front.specs.declared.faults.QueryFault.TheVariants.{Lexical, TooDeep, TooManyClauses, NotInGrammar, WalkTooDeep, Scope, Memory}
+use Rattle.aql_front.specs.declared.faults.QueryFault.TheVariants.{Lexical, TooDeep, TooManyClauses, NotInGrammar, TraversalTooDeep, Scope, Memory}
 
 abbrev pub of_lex : LexFault → QueryFault
 of_lex (lex.At place kind) = Lexical place kind
@@ -16,7 +16,7 @@ abbrev pub of_parse : ParseFault → QueryFault
 of_parse parse.TooDeep = TooDeep
 of_parse parse.TooManyClauses = TooManyClauses
 of_parse parse.NotInGrammar = NotInGrammar
-of_parse parse.WalkTooDeep = WalkTooDeep
+of_parse parse.TraversalTooDeep = TraversalTooDeep
 of_parse parse.Memory = Memory
 
 abbrev pub of_scope : ScopeFault → QueryFault

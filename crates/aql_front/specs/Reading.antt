@@ -15,7 +15,7 @@ use Rattle.aql_doc.specs.Held.{Held}
 use Rattle.aql_names.specs.declared.faults.ScopeFault.TheVariants as scope
 use Rattle.aql_names.specs.Faults.{first_fault}
 use Rattle.aql_front.specs.declared.faults.QueryFault.{QueryFault}
-use Rattle.aql_front.specs.declared.faults.QueryFault.TheVariants.{TooLong, Lexical, TooDeep, TooManyClauses, NotInGrammar, WalkTooDeep, Scope, Memory}
+use Rattle.aql_front.specs.declared.faults.QueryFault.TheVariants.{TooLong, Lexical, TooDeep, TooManyClauses, NotInGrammar, TraversalTooDeep, Scope, Memory}
 
 -- a text of at most 65,536 bytes with these tokens
 abbrev pub HasTokens : List ℕ → List Token → Type 0
@@ -40,7 +40,7 @@ IsRefused text (Lexical place kind) = (length text ≤ 65536) × Stops text plac
 IsRefused text TooDeep = Misspells text parse.TooDeep
 IsRefused text TooManyClauses = Misspells text parse.TooManyClauses
 IsRefused text NotInGrammar = Misspells text parse.NotInGrammar
-IsRefused text WalkTooDeep = Misspells text parse.WalkTooDeep
+IsRefused text TraversalTooDeep = Misspells text parse.TraversalTooDeep
 IsRefused text (Scope fault) = ⊥
 IsRefused text Memory = ⊥
 

@@ -3,11 +3,11 @@ use Rattle.std.specs.Prelude.{ℕ, List, ◌++◌, codes}
 use Rattle.std.specs.Fmt.{decimal}
 use Rattle.aql_lex.specs.Faults.{lex_text}
 use Rattle.aql_script.specs.Texts.{limit_text}
-use Rattle.aql_script.specs.declared.faults.LimitKind.TheVariants.{QueryBytes, Nesting, Clauses, WalkDepth}
+use Rattle.aql_script.specs.declared.faults.LimitKind.TheVariants.{QueryBytes, Nesting, Clauses, TraversalDepth}
 use Rattle.aql_names.specs.declared.faults.ScopeFault.{ScopeFault}
 use Rattle.aql_names.specs.declared.faults.ScopeFault.TheVariants as scope
 use Rattle.aql_front.specs.declared.faults.QueryFault.{QueryFault}
-use Rattle.aql_front.specs.declared.faults.QueryFault.TheVariants.{TooLong, Lexical, TooDeep, TooManyClauses, NotInGrammar, WalkTooDeep, Scope, Memory}
+use Rattle.aql_front.specs.declared.faults.QueryFault.TheVariants.{TooLong, Lexical, TooDeep, TooManyClauses, NotInGrammar, TraversalTooDeep, Scope, Memory}
 
 abbrev pub at_byte : ℕ → List ℕ → List ℕ
 at_byte place text = codes "query: byte " ++ (decimal place ++ (codes ": " ++ text))
@@ -35,6 +35,6 @@ query_fault_text (Lexical place kind) = at_byte place (lex_text kind)
 query_fault_text TooDeep = limit_text Nesting
 query_fault_text TooManyClauses = limit_text Clauses
 query_fault_text NotInGrammar = codes "query: not in the grammar"
-query_fault_text WalkTooDeep = limit_text WalkDepth
+query_fault_text TraversalTooDeep = limit_text TraversalDepth
 query_fault_text (Scope fault) = scope_text fault
 query_fault_text Memory = codes "out of memory"

@@ -15,7 +15,7 @@ pub enum QueryFault {
     /// The grammar has no query with these tokens.
     NotInGrammar,
     /// A traversal goes deeper than 32 edges.
-    WalkTooDeep,
+    TraversalTooDeep,
     /// A name, a number of arguments, a subquery or a setting that may not stand where it does; the
     /// first in the order of the text.
     Scope(ScopeFault),
@@ -31,7 +31,7 @@ impl Drop for QueryFault {
             | QueryFault::TooDeep
             | QueryFault::TooManyClauses
             | QueryFault::NotInGrammar
-            | QueryFault::WalkTooDeep
+            | QueryFault::TraversalTooDeep
             | QueryFault::Scope(_)
             | QueryFault::Memory => {}
         }
@@ -63,7 +63,7 @@ impl From<ParseFault> for QueryFault {
             ParseFault::TooDeep => QueryFault::TooDeep,
             ParseFault::TooManyClauses => QueryFault::TooManyClauses,
             ParseFault::NotInGrammar => QueryFault::NotInGrammar,
-            ParseFault::WalkTooDeep => QueryFault::WalkTooDeep,
+            ParseFault::TraversalTooDeep => QueryFault::TraversalTooDeep,
             ParseFault::Memory => QueryFault::Memory,
         }
     }

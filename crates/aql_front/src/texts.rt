@@ -20,7 +20,7 @@ pub fn query_fault_text(alloc: Global, fault: &QueryFault) -> Result<Text, OutOf
         QueryFault::TooDeep => limit_text(alloc, LimitKind::Nesting),
         QueryFault::TooManyClauses => limit_text(alloc, LimitKind::Clauses),
         QueryFault::NotInGrammar => Text::new(alloc, "query: not in the grammar"),
-        QueryFault::WalkTooDeep => limit_text(alloc, LimitKind::WalkDepth),
+        QueryFault::TraversalTooDeep => limit_text(alloc, LimitKind::TraversalDepth),
         QueryFault::Scope(fault) => scope_text(alloc, fault),
         QueryFault::Memory => Text::new(alloc, "out of memory"),
     }
@@ -29,8 +29,8 @@ pub fn query_fault_text(alloc: Global, fault: &QueryFault) -> Result<Text, OutOf
 fn at_byte(alloc: Global, place: u32, kind: LexKind) -> Result<Text, OutOfMemory>
     ensures { IfOk result (λ t. t ≡ at_byte place (lex_text kind)) }
 {
-    let whole = format!(in alloc; "query: byte {place}: {kind}")?;
-    Text::new(alloc, whole.as_str())
+    let text = format!(in alloc; "query: byte {place}: {kind}")?;
+    Ok(Text::from(text))
 }
 
 fn scope_text(alloc: Global, fault: &ScopeFault) -> Result<Text, OutOfMemory>
@@ -53,14 +53,14 @@ fn of_name(alloc: Global, what: &str, name: &Text) -> Result<Text, OutOfMemory>
     ensures { IfOk result (λ t. t ≡ of_name what.now name.now) }
 {
     let name = name.as_str();
-    let whole = format!(in alloc; "query: {what} {name}")?;
-    Text::new(alloc, whole.as_str())
+    let text = format!(in alloc; "query: {what} {name}")?;
+    Ok(Text::from(text))
 }
 
 fn wrong_arity(alloc: Global, name: &Text, given: u32) -> Result<Text, OutOfMemory>
     ensures { IfOk result (λ t. t ≡ wrong_arity name.now given) }
 {
     let name = name.as_str();
-    let whole = format!(in alloc; "query: wrong number of arguments {name} {given}")?;
-    Text::new(alloc, whole.as_str())
+    let text = format!(in alloc; "query: wrong number of arguments {name} {given}")?;
+    Ok(Text::from(text))
 }

@@ -30,7 +30,7 @@ pub(crate) fn text_of(alloc: Global, characters: &[char]) -> Result<Text, OutOfM
     for c in characters {
         out.push(*c)?;
     }
-    Ok(Text::new(alloc, &out)?)
+    Ok(Text::from(out))
 }
 
 pub(crate) fn substring(alloc: Global, args: &Items) -> Result<Value, OutOfMemory>
@@ -213,7 +213,7 @@ fn join(alloc: Global, separator: &str, values: &[Value]) -> Result<Value, OutOf
             started = true;
         }
     }
-    Text::new(alloc, &out).map(Value::Text)
+    Ok(Value::Text(Text::from(out)))
 }
 
 // Puts a text at the end, after the separator where something was put before.

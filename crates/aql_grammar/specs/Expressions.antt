@@ -3,6 +3,7 @@
 -- and `inside` says whether the place is in the FILTER or RETURN of an inline expression.
 use Rattle.std.specs.Prelude.{ℕ, ℤ, Bool, true, false, List, [], ◌∷◌, Option, Some, None}
 use Rattle.aql_lex.specs.declared.kinds.TokenKind.TheVariants as k
+use Rattle.aql_lex.specs.declared.vocabulary.Keyword.{Keyword}
 use Rattle.aql_lex.specs.declared.vocabulary.Keyword.TheVariants as w
 use Rattle.aql_lex.specs.declared.vocabulary.Symbol.TheVariants as s
 use Rattle.aql_func.specs.declared.operators.BinOp.{BinOp}
@@ -44,25 +45,19 @@ module _ (E : Bool → ExprTree → Tokens → Tokens → Type 0) (inside : Bool
     parentheses : {x : ExprTree} {a b : Tokens} → IsArgument x a (k.Symbol s.CloseParen ∷ b)
         → IsPrimary x (k.Symbol s.OpenParen ∷ a) b
 
-  -- ["FILTER" Expr]
-  pub data IsElementFilter : Option ExprTree → Tokens → Tokens → Type 0 where
-    none : {a : Tokens} → IsElementFilter None a a
-    some : {x : ExprTree} {a b : Tokens} → E true x a b → IsElementFilter (Some x) (k.Keyword w.Filter ∷ a)
-        b
-
-  -- ["RETURN" Expr]
-  pub data IsElementReturn : Option ExprTree → Tokens → Tokens → Type 0 where
-    none : {a : Tokens} → IsElementReturn None a a
-    some : {x : ExprTree} {a b : Tokens} → E true x a b → IsElementReturn (Some x) (k.Keyword w.Return ∷ a)
-        b
+  -- [word Expr], for the word "FILTER" or "RETURN"
+  pub data IsElementPart : Keyword → Option ExprTree → Tokens → Tokens → Type 0 where
+    none : {word : Keyword} {a : Tokens} → IsElementPart word None a a
+    some : {word : Keyword} {x : ExprTree} {a b : Tokens} → E true x a b
+        → IsElementPart word (Some x) (k.Keyword word ∷ a) b
 
   -- "." Name | "[" Expr "]" | "[" "*" ["FILTER" Expr] ["RETURN" Expr] "]"
   pub data IsStep : StepPart → Tokens → Tokens → Type 0 where
     name : {v : List ℕ} {a b : Tokens} → IsName v a b → IsStep (part.name v) (k.Symbol s.Dot ∷ a) b
     at : {x : ExprTree} {a b : Tokens} → E inside x a (k.Symbol s.CloseBracket ∷ b)
         → IsStep (part.at x) (k.Symbol s.OpenBracket ∷ a) b
-    inline : {f p : Option ExprTree} {a b c : Tokens} → IsElementFilter f a b
-        → IsElementReturn p b (k.Symbol s.CloseBracket ∷ c)
+    inline : {f p : Option ExprTree} {a b c : Tokens} → IsElementPart w.Filter f a b
+        → IsElementPart w.Return p b (k.Symbol s.CloseBracket ∷ c)
         → IsStep (part.inline f p) (k.Symbol s.OpenBracket ∷ k.Symbol s.Star ∷ a) c
 
   -- Primary {Step}

@@ -16,7 +16,7 @@ pub enum ParseFault {
     NotInGrammar,
     /// A traversal goes deeper than 32 edges.
     #[error("a traversal goes too deep")]
-    WalkTooDeep,
+    TraversalTooDeep,
     #[error("out of memory")]
     Memory,
 }

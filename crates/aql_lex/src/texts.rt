@@ -128,8 +128,7 @@ pub(crate) fn text_step<'a>(
     let mut left = inner;
     while let Some((character, after)) = first_character(left) {
         if character == quote {
-            let value = Text::new(alloc, value.as_str())?;
-            return Ok(Step::Token(TokenKind::Text(value), after));
+            return Ok(Step::Token(TokenKind::Text(Text::from(value)), after));
         }
         if character == '\\' {
             match escape(after) {

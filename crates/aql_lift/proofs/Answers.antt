@@ -13,7 +13,7 @@ use Rattle.aql_meaning.specs.Row.{Row, empty_row, value_at}
 use Rattle.aql_meaning.specs.Expressions.{object_value}
 use Rattle.aql_meaning.specs.Value.{value_or}
 use Rattle.aql_meaning.specs.Clauses.{with_elements, with_documents, filter_true, with_values, limit_rows}
-use Rattle.aql_meaning.specs.Groups.{Member, IsMember, into_names}
+use Rattle.aql_meaning.specs.Groups.{GroupedRow, IsGroupedRow, into_names}
 use Rattle.aql_meaning.specs.Options.{with_settings}
 use Rattle.aql_meaning.specs.Visible.{sees, aggregate_vars, into_var, edges_named}
 use Rattle.aql_meaning.specs.Meaning.{Evaluates, EvaluatesAll, EvaluatesOr, EvaluatesMembers, EvaluatesSteps, EvaluatesLinks, EvaluatesArguments, EvaluatesInto, Changes, Through, IsAnswer}
@@ -27,11 +27,11 @@ use Rattle.aql_lift.proofs.Within.{within_le, within, within_exprs, within_maybe
 use Rattle.aql_lift.proofs.Lists.{zip_join, zip_take, zip_drop}
 use Rattle.aql_lift.proofs.Lets.{Fits, fits_split, rans_fit, through_lets, through_followed}
 use Rattle.aql_lift.proofs.SameValues.{or_same}
-use Rattle.aql_lift.proofs.Traversals.{below_walk, walked_back}
+use Rattle.aql_lift.proofs.Traversals.{below_traversal, traversal_back}
 use Rattle.aql_lift.proofs.Rows.{elements_alike, documents_alike, kept_alike, bound_alike, sorted_back, meant_none, meant_some}
 use Rattle.aql_lift.proofs.Groups.{below_entered, collected_back}
 
--- the next number behind a clause is above those of the names that are visible there
+-- the next number after a clause is above those of the names that are visible there
 below_clause : (c : ClauseTree) (outer own : Numbering) (n : ℕ) → Below n outer → Below n (own ++ outer)
     → Below (clause outer own n c).clause.next ((clause outer own n c).own ++ outer)
 below_clause (for_each x (variable c)) outer own n o b = below_bind n (suc n) (own ++ outer) x (omega arith) b
@@ -43,7 +43,7 @@ below_clause (for_documents x name) outer own n o b = below_bind n (suc n) (own 
 below_clause (traversal w e names prune settings) outer own n o b =
     let s = expr (own ++ outer) (after_traversal n w) e in
     below_within (after_traversal n w) s.subqueries s.next (traversal_names n w own ++ outer)
-    (within e (own ++ outer) (after_traversal n w)) (below_walk n w own outer b)
+    (within e (own ++ outer) (after_traversal n w)) (below_traversal n w own outer b)
 below_clause (filter_by e) outer own n o b = below_within n _ _ (own ++ outer) (within e (own ++ outer) n) b
 below_clause (let_be x (subquery q)) outer own n o b =
     let k = grows q (own ++ outer) (suc n) in
@@ -129,8 +129,10 @@ module _ (db : Database) where
           expr_back e c.0 names n t r cur k.0 b g.0 k.1,
           steps_back ss c.1 names s.next t r cur k.0 v b' g.1 k.2,
         )
-    expr_back (function_call name es) c names n t r cur v b f k = (k.0, all_back es c names n t r cur k.0 b f k.1, k.2)
-    expr_back (unary_of op e) c names n t r cur v b f k = (k.0, expr_back e c names n t r cur k.0 b f k.1, k.2)
+    expr_back (function_call name es) c names n t r cur v b f k =
+        (k.0, all_back es c names n t r cur k.0 b f k.1, k.2)
+    expr_back (unary_of op e) c names n t r cur v b f k =
+        (k.0, expr_back e c names n t r cur k.0 b f k.1, k.2)
     expr_back (chain e ls) c names n t r cur v b f k =
         let s = expr names n e in
         let g = fits_split db s.subqueries (links names s.next ls).subqueries names t r f in
@@ -159,7 +161,8 @@ module _ (db : Database) where
         let b'' = below_within s.next u.subqueries u.next names (within_maybe first names s.next) b' in (
           k.0,
           expr_back test c.0 names n t r cur k.0 b g.0 k.1,
-          either_map (truth k.0) (EvaluatesOr db u.tree cur t k.0 v) (Evaluates db w.tree cur t v) (EvaluatesOr db first cur r k.0 v)
+          either_map (truth k.0) (EvaluatesOr db u.tree cur t k.0 v) (Evaluates db w.tree cur t v)
+              (EvaluatesOr db first cur r k.0 v)
               (Evaluates db other cur r v) (maybe_back first c.1 names s.next t r cur k.0 v b' g'.0)
               (expr_back other c.2 names u.next t r cur v b'' g'.1) k.2,
         )
@@ -384,7 +387,7 @@ module _ (db : Database) where
         (Evaluates db e null)
         (λ t r v f h. expr_back e c.0 (own ++ outer) m t r null v b' f h) ts rs k.0 a k.1 in
         let more = traversal_names n w own ++ outer in
-        let p = walked_back db n (with_settings settings w) own outer b (edges_named db names)
+        let p = traversal_back db n (with_settings settings w) own outer b (edges_named db names)
         (λ row. truth (value_or (maybe more s.next prune).tree null row (boolean false)))
         (λ row. truth (value_or prune null row (boolean false)))
         (λ t r f. ap truth (or_same more t r f prune c.1 s.next null (boolean false)))
@@ -437,9 +440,10 @@ module _ (db : Database) where
         let b' = below_within n s.subqueries s.next names (within_criteria es xs names n) b in
         let b'' = below_within s.next t.subqueries t.next names (within_aggregates gs names s.next) b' in
         let ms = zip_join (Fits db (s.subqueries ++ (t.subqueries ++ u.subqueries)) names)
-        (λ row (m : Member). IsMember (EvaluatesAll db s.tree.1 null row) (EvaluatesArguments db t.tree row)
+        (λ row (m : GroupedRow). IsGroupedRow (EvaluatesAll db s.tree.1 null row)
+        (EvaluatesArguments db t.tree row)
         (EvaluatesInto db u.tree vars row) m)
-        (λ row (m : Member). IsMember (EvaluatesAll db es null row) (EvaluatesArguments db gs row)
+        (λ row (m : GroupedRow). IsGroupedRow (EvaluatesAll db es null row) (EvaluatesArguments db gs row)
         (EvaluatesInto db i (idents own) row) m)
         (λ q r m f h.
         let g = fits_split db s.subqueries (t.subqueries ++ u.subqueries) names q r f in

@@ -8,7 +8,7 @@ use Rattle.aql_tree.specs.declared.syntax.Ident.{Ident}
 use Rattle.aql_tree.specs.declared.syntax.Ident.TheVariants.{Name, Num}
 use Rattle.aql_tree.specs.Tree.{ExprTrees, AggregateTrees, no_aggregates, aggregate_then, IntoTree}
 use Rattle.aql_meaning.specs.Row.{Row, bind, bind_all}
-use Rattle.aql_meaning.specs.Groups.{Member, groups, group_members, aggregate_of, aggregate_values, group_row, WithInto, Collects}
+use Rattle.aql_meaning.specs.Groups.{GroupedRow, groups, rows_of_group, aggregate_of, aggregate_values, group_row, WithInto, Collects}
 use Rattle.aql_meaning.specs.Visible.{aggregate_vars, aggregate_functions, into_var}
 use Rattle.aql_lift.specs.Numbering.{Numbering, enter}
 use Rattle.aql_lift.specs.Lifting.{criteria, aggregates, into_part}
@@ -49,7 +49,7 @@ same_functions no_aggregates names n = refl
 same_functions (aggregate_then x name e gs) names n =
     ap (λ fs. aggregate_of name ∷ fs) (same_functions gs names _)
 
-same_classes : (xs ys : List Ident) (n m : ℕ) (members : List Member) → Named n xs ys m
+same_classes : (xs ys : List Ident) (n m : ℕ) (members : List GroupedRow) → Named n xs ys m
     → groups ys members ≡ groups xs members
 same_classes [] [] n m members w = refl
 same_classes (x ∷ xs) (Num k ∷ ys) n m members w = refl
@@ -57,7 +57,8 @@ same_classes [] (y ∷ ys) n m members w = absurd w
 same_classes (x ∷ xs) [] n m members w = absurd w
 same_classes (x ∷ xs) (Name y ∷ ys) n m members w = absurd w
 
-into_alike : (x y : Option Ident) (own outer : Numbering) (n m : ℕ) (members : List Member) (s r row : Row)
+into_alike : (x y : Option Ident) (own outer : Numbering) (n m : ℕ) (members : List GroupedRow)
+    (s r row : Row)
     → Named n (option_to_list x) (option_to_list y) m → Below n (own ++ outer) → Alike (own ++ outer) s r
     → WithInto y members s row
     → (out : Row) × WithInto x members r out
@@ -75,13 +76,15 @@ into_alike (Some x) None own outer n m members s r row w b a h = absurd w
 into_alike (Some x) (Some (Name y)) own outer n m members s r row w b a h = absurd w
 
 -- the rows of a COLLECT, over members that are the same
-pub collected_back : (xs : List Ident) (es : ExprTrees) (gs : AggregateTrees) (i : IntoTree) (outer own : Numbering)
-    (n : ℕ) (start' start : Row) (members : List Member) (out : List Row) → Below n outer
+pub collected_back : (xs : List Ident) (es : ExprTrees) (gs : AggregateTrees) (i : IntoTree)
+    (outer own : Numbering)
+    (n : ℕ) (start' start : Row) (members : List GroupedRow) (out : List Row) → Below n outer
     → Alike outer start' start
     → let s = criteria (own ++ outer) n xs es in
     let t = aggregates (own ++ outer) s.next gs in
     let u = into_part own (own ++ outer) t.next i in
-    Collects s.tree.0 (aggregate_vars t.tree) (aggregate_functions t.tree) (into_var u.tree) start' members out
+    Collects s.tree.0 (aggregate_vars t.tree) (aggregate_functions t.tree)
+    (into_var u.tree) start' members out
     → (behind : List Row)
     × Collects xs (aggregate_vars gs) (aggregate_functions gs) (into_var i) start members behind
     × AllZip (Alike (enter (option_to_list (into_var i)) (option_to_list (into_var u.tree))
@@ -99,19 +102,21 @@ collected_back xs es gs i outer own n start' start members out b a k =
     let fs = aggregate_functions gs in
     let b' = below_entered xs s.tree.0 [] outer n s.next w b in
     let b'' = below_entered (aggregate_vars gs) (aggregate_vars t.tree) one outer s.next t.next w' b' in
-    let scoped = λ (c : List Datum) (row : Row). WithInto (into_var u.tree) (group_members c members)
+    let scoped = λ (c : List Datum) (row : Row). WithInto (into_var u.tree) (rows_of_group c members)
     (group_row s.tree.0 (aggregate_vars t.tree) fs start' members c) row in
-    let written = λ (c : List Datum) (row : Row). WithInto (into_var i) (group_members c members)
+    let written = λ (c : List Datum) (row : Row). WithInto (into_var i) (rows_of_group c members)
     (group_row xs (aggregate_vars gs) fs start members c) row in
     zip_found scoped written
     (Alike (enter (option_to_list (into_var i)) (option_to_list (into_var u.tree)) two ++ outer))
-    (λ c row h. into_alike (into_var i) (into_var u.tree) two outer t.next u.next (group_members c members) _ _ row
+    (λ c row h. into_alike (into_var i) (into_var u.tree) two outer t.next u.next
+    (rows_of_group c members) _ _ row
     w'' b''
     (alike_entered (aggregate_vars gs) (aggregate_vars t.tree)
-    (aggregate_values fs 0 (group_members c members))
+    (aggregate_values fs 0 (rows_of_group c members))
     one outer s.next t.next _ _ w' b'
     (alike_entered xs s.tree.0 c [] outer n s.next start' start w b a)) h)
     (groups xs members) out
     (subst (λ (cs : List (List Datum)). AllZip scoped cs out) (same_classes xs s.tree.0 n s.next members w)
-    (subst (λ (gs' : List (List Datum → Datum)). Collects s.tree.0 (aggregate_vars t.tree) gs' (into_var u.tree)
+    (subst
+    (λ (gs' : List (List Datum → Datum)). Collects s.tree.0 (aggregate_vars t.tree) gs' (into_var u.tree)
     start' members out) (same_functions gs names s.next) k))

@@ -66,7 +66,7 @@ module _ (db : Database) where
       let kept = ran_keeps us (suc u.0) m u.0 mid t w.1 (omega arith) h.2 in
       (k.0, ((h.0, s, a, h.1, kept ∙ bind_self u.0 s (list h.0)), k.1))
 
-  -- rows behind the LETs fit those that the rows before them are like
+  -- rows after the LETs fit those that the rows before them are like
   pub rans_fit : (us : List NumberedSubquery) (names : Numbering) (n m : ℕ) (ss ts rs : List Row)
       → Below n names
       → Within n us m → AllZip (Ran us) ss ts → AllZip (Alike names) ss rs → AllZip (Fits us names) ts rs
@@ -93,7 +93,7 @@ module _ (db : Database) where
     ran_first u us rows vs mids h.1 k.1,
   )
 
-  -- the rows behind the LETs
+  -- the rows after the LETs
   pub through_lets : (us : List NumberedSubquery) (cs : ClauseTrees) (start : Row) (vars : List Ident)
       (rows out : List Row) → Through db (with_lets us cs) start vars rows out
       → (behind : List Ident) × (mids : List Row) × AllZip (Ran us) rows mids

@@ -63,7 +63,8 @@ sorted_alike R lt f xs ys h up = λ k d l m.
     let j = b.0 in
     sym (f (get_or xs (k + 1) d) (get_or ys (k + 1) d) (get_or xs k d) (get_or ys k d) b.1 a.1) ∙ up k d l j
 
-pub zip_pairs : {K A B : Type 0} (R : A → B → Type 0) (ks : List K) (xs : List A) (ys : List B) → AllZip R xs ys
+pub zip_pairs : {K A B : Type 0} (R : A → B → Type 0) (ks : List K) (xs : List A) (ys : List B)
+    → AllZip R xs ys
     → AllZip (λ (p : K × A) (q : K × B). (p.0 ≡ q.0) × R p.1 q.1) (zip ks xs) (zip ks ys)
 zip_pairs R [] xs ys h = tt
 zip_pairs R (k ∷ ks) [] [] h = tt

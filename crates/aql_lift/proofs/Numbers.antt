@@ -129,9 +129,9 @@ followed_fine : (cs ds : ClauseTrees) → ClausesNumbered cs → ClausesNumbered
 followed_fine no_clauses ds h k = k
 followed_fine (clause_then c cs) ds h k = (h.0, followed_fine cs ds h.1 k)
 
-walk_fine : (n : ℕ) (w : TraversalShape) (own : Numbering) → IsNumber (Num n) → AreNumbers own
+traversal_fine : (n : ℕ) (w : TraversalShape) (own : Numbering) → IsNumber (Num n) → AreNumbers own
     → AreNumbers (traversal_names n w own)
-walk_fine n w own h k =
+traversal_fine n w own h k =
     entered_numbers (option_to_list w.path) _ _
     (given_is_number w.path _ (counted_is_number (option_to_list w.edge) (suc n) tt))
     (entered_numbers (option_to_list w.edge) _ ((w.vertex, n) ∷ own) (given_is_number w.edge (suc n) tt)
@@ -263,7 +263,7 @@ mutual
       let after = counted_is_number (option_to_list w.edge) (suc n) tt in
       let next = counted_is_number (option_to_list w.path) _ after in
       let one = expr_fine (own ++ outer) (names_append own outer a o) e (after_traversal n w) next in
-      let more = walk_fine n w own h a in
+      let more = traversal_fine n w own h a in
       let two = maybe_fine (traversal_names n w own ++ outer)
       (names_append (traversal_names n w own) outer more o) prune _ one.2 in
       let edge = given_is_number w.edge (suc n) tt in

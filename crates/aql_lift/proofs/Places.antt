@@ -33,10 +33,10 @@ counted_append : (xs ys : List Ident) (n : ℕ)
 counted_append [] ys n = refl
 counted_append (x ∷ xs) ys n = counted_append xs ys (suc n)
 
-placed_walk : (n : ℕ) (w : TraversalShape)
+placed_traversal : (n : ℕ) (w : TraversalShape)
     → Placed n (map text_of (w.vertex ∷ (option_to_list w.edge ++ option_to_list w.path)))
     (after_traversal n w)
-placed_walk n w =
+placed_traversal n w =
     placed_all (w.vertex ∷ (option_to_list w.edge ++ option_to_list w.path)) n
     ∙ counted_append (option_to_list w.edge) (option_to_list w.path) (suc n)
 
@@ -129,7 +129,7 @@ mutual
       placed_next n (text_of x) [] (suc n) (placed_none (suc n))
   placed_clause (traversal w e names prune settings) outer own n =
       placed_append n (map text_of (w.vertex ∷ (option_to_list w.edge ++ option_to_list w.path))) _
-      (after_traversal n w) _ (placed_walk n w) (placed e (own ++ outer) (after_traversal n w))
+      (after_traversal n w) _ (placed_traversal n w) (placed e (own ++ outer) (after_traversal n w))
   placed_clause (filter_by e) outer own n = placed e (own ++ outer) n
   placed_clause (let_be x (subquery q)) outer own n =
       placed_next n (text_of x) (scope_query (own ++ outer) (suc n) q).said

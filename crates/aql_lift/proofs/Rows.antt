@@ -1,5 +1,5 @@
--- What the clauses make of like rows is alike: FOR, FILTER, LET and SORT, where the values at the rows are the
--- same.
+-- What the clauses make of like rows is alike: FOR, FILTER, LET and SORT, where the values at the rows are
+-- the same.
 use Rattle.std.proofs.Common.{◌≡◌, ℕ, List, [], ◌∷◌, map, Bool, true, false, cond, refl, ap, ap₂, sym, subst}
 use Rattle.std.specs.Prelude.{Some, None, zip}
 use Rattle.std.specs.Ordering.{is_lt}
@@ -63,7 +63,8 @@ module _ (names : Numbering) where
       let p = alike_permutation same (zip keys ss) k.0 (zip keys rs) k.1
       (zip_pairs (Alike names) keys ss rs a) in
       let rows = map (λ (q : KeyedRow). q.1) p.0 in
-      let up = sorted_alike same (comes_before ds) (λ x y z w e f. ap₂ (λ g h. is_lt (keys_cmp ds g h)) e.0 f.0)
+      let up = sorted_alike same (comes_before ds)
+      (λ x y z w e f. ap₂ (λ g h. is_lt (keys_cmp ds g h)) e.0 f.0)
       k.0 p.0 p.2 k.2 in (
         rows,
         (p.0, p.1, up, refl),

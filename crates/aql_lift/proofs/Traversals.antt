@@ -18,24 +18,25 @@ use Rattle.aql_lift.specs.Numbering.{Numbering, number_traversal, traversal_name
 use Rattle.aql_lift.proofs.Alike.{Alike, Below, below_bind, alike_bind}
 use Rattle.aql_lift.proofs.Lists.{zip_join, zip_starts}
 
-same_walk_by : (n : ℕ) (w : TraversalShape) (es : List Datum) (pruned : Path → Bool) (id : List ℕ) (paths : List Path)
+same_traversal_by : (n : ℕ) (w : TraversalShape) (es : List Datum) (pruned : Path → Bool) (id : List ℕ)
+    (paths : List Path)
     (u : UniqueVertices) → TraversesBy (number_traversal n w) es pruned id u paths
     → TraversesBy w es pruned id u paths
-same_walk_by n w es pruned id paths vertices.Global h = record {
+same_traversal_by n w es pruned id paths vertices.Global h = record {
   holds_empty = h.holds_empty;
   built = h.built;
   short = h.short;
   apart = h.apart;
   reaches = h.reaches;
 }
-same_walk_by n w es pruned id paths vertices.None h = h
-same_walk_by n w es pruned id paths vertices.Path h = h
+same_traversal_by n w es pruned id paths vertices.None h = h
+same_traversal_by n w es pruned id paths vertices.Path h = h
 
-same_walk : (n : ℕ) (w : TraversalShape) (es : List Datum) (pruned : Path → Bool) (id : Option (List ℕ))
+same_traversal : (n : ℕ) (w : TraversalShape) (es : List Datum) (pruned : Path → Bool) (id : Option (List ℕ))
     (paths : List Path) → TraversesFrom (number_traversal n w) es pruned id paths
     → TraversesFrom w es pruned id paths
-same_walk n w es pruned None paths h = h
-same_walk n w es pruned (Some id) paths h = same_walk_by n w es pruned id paths w.options.vertices h
+same_traversal n w es pruned None paths h = h
+same_traversal n w es pruned (Some id) paths h = same_traversal_by n w es pruned id paths w.options.vertices h
 
 -- ---- the names of a traversal
 
@@ -53,9 +54,9 @@ alike_given : (o : Option Ident) (k : ℕ) (own outer : Numbering) (s r : Row) (
 alike_given None k own outer s r v b a = a
 alike_given (Some x) k own outer s r v b a = alike_bind (own ++ outer) k x s r v b a
 
-pub below_walk : (n : ℕ) (w : TraversalShape) (own outer : Numbering) → Below n (own ++ outer)
+pub below_traversal : (n : ℕ) (w : TraversalShape) (own outer : Numbering) → Below n (own ++ outer)
     → Below (after_traversal n w) (traversal_names n w own ++ outer)
-below_walk n w own outer b =
+below_traversal n w own outer b =
     below_given w.path (number_after (option_to_list w.edge) (suc n)) _ outer
     (below_given w.edge (suc n) ((w.vertex, n) ∷ own) outer
     (below_bind n (suc n) (own ++ outer) w.vertex (omega arith) b))
@@ -74,11 +75,12 @@ module _ (db : Database) (n : ℕ) (w : TraversalShape) (own outer : Numbering)
   -- `scoped` and `written` are the tests of PRUNE
   module _ (es : List Datum) (scoped written : Row → Bool)
       (same : (t r : Row) → Alike (traversal_names n w own ++ outer) t r → scoped t ≡ written r) where
-    pub walked_back : (ss rs : List Row) (vs : List Datum) (out : List Row) → AllZip (Alike (own ++ outer)) ss rs
+    pub traversal_back : (ss rs : List Row) (vs : List Datum) (out : List Row)
+        → AllZip (Alike (own ++ outer)) ss rs
         → Traverses db (number_traversal n w) es scoped ss vs out
         → (behind : List Row) × Traverses db w es written rs vs behind
         × AllZip (Alike (traversal_names n w own ++ outer)) out behind
-    walked_back ss rs vs out a k =
+    traversal_back ss rs vs out a k =
         let more = traversal_names n w own ++ outer in
         let walked = zip_join
         (λ (p q : Row × Datum). Alike (own ++ outer) p.0 q.0 × (p.1 ≡ q.1))
@@ -92,7 +94,8 @@ module _ (db : Database) (n : ℕ) (w : TraversalShape) (own outer : Numbering)
         subst (λ (v : Datum). TraversesFrom w es (λ t. written (path_row db w q.0 t)) (id_text v) paths) e.1
         (subst (λ (pruned : Path → Bool). TraversesFrom w es pruned (id_text p.1) paths)
         (fun_ext (λ t. same _ _ (path_alike p.0 q.0 t e.0)))
-        (same_walk n w es (λ t. scoped (path_row db (number_traversal n w) p.0 t)) (id_text p.1) paths h)))
+        (same_traversal n w es (λ t. scoped (path_row db (number_traversal n w) p.0 t))
+        (id_text p.1) paths h)))
         (zip ss vs) (zip rs vs) k.0 (zip_starts (Alike (own ++ outer)) ss rs vs a) k.1 in
         let rows = each_related (Alike (own ++ outer)) (Alike more) (path_row db (number_traversal n w))
         (path_row db w) (λ s r t h. path_alike s r t h) ss rs (map (long_paths w) k.0) a in

@@ -35,7 +35,7 @@ within_none n = omega arith
 within_next : (n : ℕ) → Within n [] (suc n)
 within_next n = omega arith
 
--- behind a declared variable
+-- after a declared variable
 within_behind : (n : ℕ) (ts : List NumberedSubquery) (m : ℕ) → Within (suc n) ts m → Within n ts m
 within_behind n ts m w = within_from n (suc n) ts m (omega arith) w
 
@@ -153,7 +153,7 @@ within_clause (collect xs es gs i) outer own n =
     within_append n _ _ _ _ (within_criteria es xs (own ++ outer) n)
     (within_append _ _ _ _ _ (within_aggregates gs (own ++ outer) _) (within_into i own (own ++ outer) _))
 
--- behind a part the bound is greater
+-- after a part the bound is greater
 pub below_within : (n : ℕ) (ts : List NumberedSubquery) (m : ℕ) (names : Numbering) → Within n ts m
     → Below n names
     → Below m names
@@ -174,8 +174,9 @@ named_from n o [] (y ∷ ys) m h w = absurd w
 named_from n o (x ∷ xs) [] m h w = absurd w
 named_from n o (x ∷ xs) (Name y ∷ ys) m h w = absurd w
 
--- behind an expression
-named_behind : (n : ℕ) (ts : List NumberedSubquery) (o : ℕ) (xs ys : List Ident) (m : ℕ) → Within n ts o → Named o xs ys m
+-- after an expression
+named_behind : (n : ℕ) (ts : List NumberedSubquery) (o : ℕ) (xs ys : List Ident) (m : ℕ) → Within n ts o
+    → Named o xs ys m
     → Named n xs ys m
 named_behind n ts o xs ys m w h = named_from n o xs ys m (within_le n ts o w) h
 
@@ -191,7 +192,8 @@ named_criteria (expr_then e es) [] names n =
     (named_criteria es [] names (expr names n e).next)
 named_criteria (expr_then e es) (x ∷ xs) names n = (
   omega arith,
-  named_behind (suc n) (expr names (suc n) e).subqueries (expr names (suc n) e).next xs _ _ (within e names (suc n))
+  named_behind (suc n) (expr names (suc n) e).subqueries (expr names (suc n) e).next xs _ _
+      (within e names (suc n))
       (named_criteria es xs names (expr names (suc n) e).next),
 )
 

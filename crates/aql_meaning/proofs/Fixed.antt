@@ -1,5 +1,5 @@
 -- What a query answers where little is free: one list where all its clauses keep an order, and one list up
--- to its order behind a traversal from one row.
+-- to its order after a traversal from one row.
 use Rattle.std.proofs.Common.{◌≡◌, ◌∙◌, refl, sym, ap, subst, inl, inr, ℕ, List, [], ◌∷◌, map, Bool, true, false}
 use Rattle.std.specs.Prelude.{cond, Option, None, MatchOption, filter, IsPermutation}
 use Rattle.std.specs.List.{AllZip}
@@ -136,14 +136,14 @@ from_map f y (x ∷ xs) (inl e) = (x, inl refl, e)
 from_map f y (x ∷ xs) (inr i) = let r = from_map f y xs i in (r.0, inr r.1, r.2)
 
 -- the rows of a traversal from one row alone
-pub single_walk : (db : Database) (w : TraversalShape) (e : ExprTree) (names : List (List ℕ))
+pub single_traversal : (db : Database) (w : TraversalShape) (e : ExprTree) (names : List (List ℕ))
     (prune : MaybeExpr)
     (settings : MemberTrees) → IsPlain e → (start : Row) (rows : List Row)
     → Through db (clause_then (traversal w e names prune settings) no_clauses) start [] (start ∷ []) rows
     → (T : List Path) × TraversesFrom (with_settings settings w) (edges_named db names)
     (λ t. truth (value_or prune null (path_row db (with_settings settings w) start t) (boolean false)))
     (id_text (value e null start)) T × IsPermutation (path_rows db (with_settings settings w) start T) rows
-single_walk db w e names prune settings p start rows h =
+single_traversal db w e names prune settings p start rows h =
     let s = values_at db e p (start ∷ []) h.1.0 h.1.1 in
     let k = subst (λ vs. Traverses db (with_settings settings w) (edges_named db names)
     (λ row. truth (value_or prune null row (boolean false))) (start ∷ []) vs h.0) s h.1.2 in

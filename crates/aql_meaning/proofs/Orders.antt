@@ -1,4 +1,4 @@
--- Answers in another order than the computed one: the first clause may make another list, and behind a
+-- Answers in another order than the computed one: the first clause may make another list, and after a
 -- clause that leaves the order free all orders are answers.
 use Rattle.std.proofs.Common.{◌≡◌, refl, sym, subst, List, [], ◌∷◌, Bool, true, false, true≢false}
 use Rattle.std.specs.Prelude.{ℕ, Option, Some, None, MatchOption, is_some, IsPermutation}
@@ -15,7 +15,7 @@ use Rattle.aql_meaning.specs.Meaning.{Evaluates, Changes, Through, IsAnswer}
 use Rattle.aql_meaning.specs.laws.SomeAnswer.{all_some, some_value, some_rows}
 use Rattle.aql_meaning.specs.laws.Shuffles.{alike_permutation}
 
--- the computed answer behind a list that the first clause may make
+-- the computed answer after a list that the first clause may make
 abbrev pub answer_behind : (db : Database) (with_list : List (List ℕ)) (c : ClauseTree) (cs : ClauseTrees)
     (distinct : Bool)
     (e : ExprTree) (start : Row) (mid : List Row) → Changes db c start [] (start ∷ []) mid

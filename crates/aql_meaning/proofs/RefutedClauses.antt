@@ -17,7 +17,7 @@ use Rattle.aql_tree.specs.View.{clauses}
 use Rattle.aql_tree.specs.Build as build
 use Rattle.aql_meaning.specs.Row.{Row, empty_row, bind}
 use Rattle.aql_meaning.specs.Clauses.{KeyedRow, comes_before, with_elements, with_values}
-use Rattle.aql_meaning.specs.Groups.{Member, group_members, Collects}
+use Rattle.aql_meaning.specs.Groups.{GroupedRow, rows_of_group, Collects}
 use Rattle.aql_meaning.specs.Value.{value, values}
 use Rattle.aql_meaning.specs.Paths.{IsIn}
 use Rattle.aql_meaning.specs.Plain.{AllPlain}
@@ -97,13 +97,14 @@ document_left_out h = absent (str "b") (str "a" ∷ []) refl refl (b_given _ h)
 
 -- ---- a member that INTO leaves out
 
-one_class : {P : Row → Member → Type 0} → ((row : Row) (m : Member) → P row m → m.criteria ≡ [])
-    → (rows : List Row) (members : List Member) → AllZip P rows members → group_members [] members ≡ members
+one_class : {P : Row → GroupedRow → Type 0} → ((row : Row) (m : GroupedRow) → P row m → m.criteria ≡ [])
+    → (rows : List Row) (members : List GroupedRow) → AllZip P rows members
+    → rows_of_group [] members ≡ members
 one_class f [] [] h = refl
 one_class f [] (m ∷ members) h = absurd h
 one_class f (row ∷ rows) [] h = absurd h
 one_class f (row ∷ rows) (m ∷ members) h =
-    subst (λ (b : Bool). cond b (m ∷ group_members [] members) (group_members [] members) ≡ m ∷ members)
+    subst (λ (b : Bool). cond b (m ∷ rows_of_group [] members) (rows_of_group [] members) ≡ m ∷ members)
     (sym (ap (λ criteria. same (list []) (list criteria)) (f row m h.0)))
     (ap (λ ms. m ∷ ms) (one_class f rows members h.1))
 
@@ -121,13 +122,13 @@ member_left_out h =
     by members (ap length all ∙ count) h.2.2.0 h.2.2.1.2
     (h.4 ∙ values_at [] length_of_g (tt, tt) h.0 h.1 h.3 ∙ ap (map (value length_of_g null)) h.2.2.2)
   where
-    by : (members : List Member) → length (group_members [] members) ≡ 2 → (out : List Row)
+    by : (members : List GroupedRow) → length (rows_of_group [] members) ≡ 2 → (out : List Row)
         → Collects [] [] [] (Some (Name (codes "g"))) empty_row members out
         → num 1 ∷ [] ≡ map (value length_of_g null) out → ⊥
     by members count [] k e = absurd k
     by members count (row ∷ []) k e =
         let size = ap length (datum_list-array_of k.0.0) ∙ length_permutation _ k.0.0 k.0.1
-        ∙ length-map (group_members [] members) (λ (m : Member). m.into_value) ∙ count in
+        ∙ length-map (rows_of_group [] members) (λ (m : GroupedRow). m.into_value) ∙ count in
         differ (num 1) (num 2) refl refl (ap (λ vs. argument vs 0) e
         ∙ ap (value length_of_g null) k.0.2 ∙ ap (λ n. number_or_null (pos n)) size)
     by members count (row ∷ more ∷ out) k e = absurd k.1

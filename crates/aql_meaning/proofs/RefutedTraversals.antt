@@ -18,7 +18,7 @@ use Rattle.aql_meaning.specs.Meaning.{IsAnswer}
 use Rattle.aql_meaning.specs.worked.Words.{str, edge, txt, returning}
 use Rattle.aql_meaning.specs.worked.Traversals.{traversal, vertex_alone, global, key, at_key, keys_of_path, ring, shortcut, diamond, chosen_paths, path_ab, path_ac, path_abc, path_abd, path_acd}
 use Rattle.aql_meaning.proofs.Absent.{differ, absent}
-use Rattle.aql_meaning.proofs.Fixed.{values_at, single_walk, in_permuted, in_map, in_filter, from_filter, from_map}
+use Rattle.aql_meaning.proofs.Fixed.{values_at, single_traversal, in_permuted, in_map, in_filter, from_filter, from_map}
 use Rattle.aql_meaning.proofs.Traversals.{raw_shape, shape, edges, holds, pruned, from_a, by, ab, ac, bd, cd}
 
 -- ---- paths after a pruned one
@@ -30,7 +30,7 @@ pub beyond_prune : IsAnswer ring
     (returning (traversal vertex_alone 1 4 Outbound "n/a" (at_key "c") [] ∷ []) key) empty_row
     (str "b" ∷ str "c" ∷ str "a" ∷ []) → ⊥
 beyond_prune h =
-    let w = single_walk ring ring_shape (txt "n/a") (codes "e" ∷ []) (maybe (at_key "c"))
+    let w = single_traversal ring ring_shape (txt "n/a") (codes "e" ∷ []) (maybe (at_key "c"))
     (members []) tt empty_row h.0 h.2 in
     let vs = h.4 ∙ values_at ring key (tt, tt) h.0 h.1 h.3 in
     let a : IsIn (str "a") (map (value key null) h.0) =
@@ -63,7 +63,7 @@ record Chosen (db : Database) (prune : Option ExprTree) (values : List Datum) : 
 chosen_in : (db : Database) (prune : Option ExprTree) (values : List Datum)
     → IsAnswer db (chosen_paths prune) empty_row values → Chosen db prune values
 chosen_in db prune values h =
-    let w = single_walk db raw_shape (txt "n/a") (codes "e" ∷ []) (maybe prune)
+    let w = single_traversal db raw_shape (txt "n/a") (codes "e" ∷ []) (maybe prune)
     (members global) tt empty_row h.0 h.2 in
     let vs = h.4 ∙ values_at db keys_of_path (tt, (tt, tt, tt)) h.0 h.1 h.3 in
     record {

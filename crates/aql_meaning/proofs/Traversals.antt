@@ -111,8 +111,8 @@ in_order prune values turned p h = record {
       turned out refl h (IsPermutation-trans _ _ _ p q);
 }
 
-pub worked_walks : WorkedTraversals
-worked_walks = record {
+pub worked_traversals : WorkedTraversals
+worked_traversals = record {
   round = in_all_orders ring (traversal vertex_alone 1 4 Outbound "n/a" None []) key _ refl
       (some_answer ring (returning (traversal vertex_alone 1 4 Outbound "n/a" None [] ∷ []) key) empty_row).1;
   pruned = in_all_orders ring (traversal vertex_alone 1 4 Outbound "n/a" (at_key "c") []) key _ refl

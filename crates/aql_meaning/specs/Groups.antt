@@ -13,55 +13,58 @@ use Rattle.aql_meaning.specs.Row.{Row, bind, bind_all, value_at}
 use Rattle.aql_meaning.specs.Expressions.{object_value}
 
 -- a row as COLLECT sees it: its criteria, the argument of each aggregate, and what INTO takes of it
-pub record Member : Type 0 where
+pub record GroupedRow : Type 0 where
   pub criteria : List Datum
   pub arguments : List Datum
   pub into_value : Datum
 
--- a member as it is asked for: by its criteria, its arguments and what INTO takes
-pub record IsMember (Criteria Arguments : List Datum → Type 0) (Taken : Datum → Type 0) (member : Member)
+-- a grouped row as it is asked for: by its criteria, its arguments and what INTO takes
+pub record IsGroupedRow (Criteria Arguments : List Datum → Type 0) (Taken : Datum → Type 0) (row : GroupedRow)
     : Type 0 where
-  pub criteria : Criteria member.criteria
-  pub arguments : Arguments member.arguments
-  pub into_value : Taken member.into_value
+  pub criteria : Criteria row.criteria
+  pub arguments : Arguments row.arguments
+  pub into_value : Taken row.into_value
 
--- the lists of criteria that some member has, each once, ascending as arrays; without criteria one group
-abbrev pub groups : List Ident → List Member → List (List Datum)
-groups [] members = [] ∷ []
-groups (x ∷ xs) members = map elements (distinct (map (λ (m : Member). list m.criteria) members))
+-- the lists of criteria that some row has, each once, ascending as arrays; without criteria one group
+abbrev pub groups : List Ident → List GroupedRow → List (List Datum)
+groups [] grouped = [] ∷ []
+groups (x ∷ xs) grouped = map elements (distinct (map (λ (row : GroupedRow). list row.criteria) grouped))
 
-abbrev pub group_members : List Datum → List Member → List Member
-group_members criteria members = filter (λ (m : Member). same (list criteria) (list m.criteria)) members
+abbrev pub rows_of_group : List Datum → List GroupedRow → List GroupedRow
+rows_of_group criteria grouped =
+    filter (λ (row : GroupedRow). same (list criteria) (list row.criteria)) grouped
 
--- the aggregate of this name over the values of all members; null for a name that is none
+-- the aggregate of this name over the values of all rows of a group; null for a name that is none
 abbrev pub aggregate_of : List ℕ → List Datum → Datum
 aggregate_of name values = unwrap_or (option_map (λ kind. aggregate kind values) (aggregate_named name)) null
 
 -- the aggregates in order, each over its arguments, from the place n of the arguments on
-abbrev pub aggregate_values : List (List Datum → Datum) → ℕ → List Member → List Datum
-aggregate_values [] n members = []
-aggregate_values (f ∷ fs) n members =
-    f (map (λ (m : Member). argument m.arguments n) members) ∷ aggregate_values fs (n + 1) members
+abbrev pub aggregate_values : List (List Datum → Datum) → ℕ → List GroupedRow → List Datum
+aggregate_values [] n grouped = []
+aggregate_values (f ∷ fs) n grouped =
+    f (map (λ (row : GroupedRow). argument row.arguments n) grouped) ∷ aggregate_values fs (n + 1) grouped
 
 -- the row of a group without its INTO variable: the start row's variables, the criteria and the aggregates
-abbrev pub group_row : List Ident → List Ident → List (List Datum → Datum) → Row → List Member → List Datum
+abbrev pub group_row : List Ident → List Ident → List (List Datum → Datum) → Row → List GroupedRow
+    → List Datum
     → Row
-group_row xs ys fs start members criteria =
-    bind_all ys (aggregate_values fs 0 (group_members criteria members)) (bind_all xs criteria start)
+group_row xs ys fs start grouped criteria =
+    bind_all ys (aggregate_values fs 0 (rows_of_group criteria grouped)) (bind_all xs criteria start)
 
--- the row with the array of what INTO takes of the members, in any order
-abbrev pub WithInto : Option Ident → List Member → Row → Row → Type 0
-WithInto None members row out = out ≡ row
-WithInto (Some x) members row out = (taken : List Datum)
-    × IsPermutation (map (λ (m : Member). m.into_value) members) taken × (out ≡ bind x row (list taken))
+-- the row with the array of what INTO takes of the rows of the group, in any order
+abbrev pub WithInto : Option Ident → List GroupedRow → Row → Row → Type 0
+WithInto None grouped row out = out ≡ row
+WithInto (Some x) grouped row out = (taken : List Datum)
+    × IsPermutation (map (λ (from : GroupedRow). from.into_value) grouped) taken
+    × (out ≡ bind x row (list taken))
 
 -- COLLECT: a row for each group in turn; xs are the variables of the criteria, ys those of the aggregates fs
 abbrev pub Collects : List Ident → List Ident → List (List Datum → Datum) → Option Ident
-    → Row → List Member → List Row → Type 0
-Collects xs ys fs into start members out = AllZip
+    → Row → List GroupedRow → List Row → Type 0
+Collects xs ys fs into start grouped out = AllZip
     (λ criteria row.
-    WithInto into (group_members criteria members) (group_row xs ys fs start members criteria) row)
-    (groups xs members) out
+    WithInto into (rows_of_group criteria grouped) (group_row xs ys fs start grouped criteria) row)
+    (groups xs grouped) out
 
 -- the variables that have a name
 abbrev pub names_of : List Ident → List (List ℕ)

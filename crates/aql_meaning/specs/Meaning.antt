@@ -17,7 +17,7 @@ use Rattle.aql_meaning.specs.Row.{Row, value_at}
 use Rattle.aql_meaning.specs.Expressions.{quantify, object_value, LinkGives}
 use Rattle.aql_meaning.specs.AtRows.{stops}
 use Rattle.aql_meaning.specs.Clauses.{with_elements, with_documents, filter_true, with_values, limit_rows, return_values, Sorts}
-use Rattle.aql_meaning.specs.Groups.{Member, IsMember, Collects, variables_object}
+use Rattle.aql_meaning.specs.Groups.{GroupedRow, IsGroupedRow, Collects, variables_object}
 use Rattle.aql_meaning.specs.Paths.{Traverses}
 use Rattle.aql_meaning.specs.Options.{with_settings}
 use Rattle.aql_meaning.specs.Visible.{aggregate_vars, aggregate_functions, into_var, vars_after, collection_meant, edges_named}
@@ -120,12 +120,12 @@ module _ (db : Database) where
         (keys : List (List Datum)) × AllZip (EvaluatesAll es null) rows keys × Sorts directions keys rows out
     Changes (limit offset count) start vars rows out = out ≡ limit_rows offset count rows
     Changes (collect xs es gs i) start vars rows out =
-        (members : List Member)
-        × AllZip (λ row member. IsMember (EvaluatesAll es null row) (EvaluatesArguments gs row)
-        (EvaluatesInto i vars row) member)
-        rows members
+        (grouped : List GroupedRow)
+        × AllZip (λ row one. IsGroupedRow (EvaluatesAll es null row) (EvaluatesArguments gs row)
+        (EvaluatesInto i vars row) one)
+        rows grouped
         × Collects xs (aggregate_vars gs) (aggregate_functions gs) (into_var i)
-        start members out
+        start grouped out
 
     -- the clauses, one after another
     pub Through : ClauseTrees → Row → List Ident → List Row → List Row → Type 0

@@ -10,7 +10,7 @@ use Rattle.aql_meaning.specs.declared.grouping.Stage.{Stage}
 use Rattle.aql_meaning.specs.declared.grouping.Stage.TheVariants as stage
 use Rattle.aql_meaning.specs.Row.{Row, value_at}
 use Rattle.aql_meaning.specs.Value.{values, value_or}
-use Rattle.aql_meaning.specs.Groups.{Member, Collects}
+use Rattle.aql_meaning.specs.Groups.{GroupedRow, Collects}
 use Rattle.aql_meaning.specs.Visible.{aggregate_vars, functions_by, aggregate_functions, into_var}
 
 -- the state of the aggregate of this name, and the aggregate of such states; null for a name that is none
@@ -37,13 +37,13 @@ taken_at no_into row = null
 taken_at (into x what keep) row = value_or what null row null
 
 -- a row as a stage sees it: the final one finds the criteria and the states under their variables
-abbrev pub member_at : Stage → List Ident → ExprTrees → AggregateTrees → IntoTree → Row → Member
-member_at stage.Final xs es aggregates i row = record {
+abbrev pub grouped_row_at : Stage → List Ident → ExprTrees → AggregateTrees → IntoTree → Row → GroupedRow
+grouped_row_at stage.Final xs es aggregates i row = record {
   criteria = map (value_at row) xs;
   arguments = map (value_at row) (aggregate_vars aggregates);
   into_value = null;
 }
-member_at early xs es aggregates i row = record {
+grouped_row_at early xs es aggregates i row = record {
   criteria = values es null row;
   arguments = arguments_at aggregates row;
   into_value = taken_at i row;
@@ -54,4 +54,4 @@ abbrev pub Grouped : List Ident → ExprTrees → AggregateTrees → IntoTree �
     → Row → List Row → List Row → Type 0
 Grouped xs es aggregates i s start rows out =
     Collects xs (aggregate_vars aggregates) (stage_functions s aggregates) (into_var i) start
-    (map (member_at s xs es aggregates i) rows) out
+    (map (grouped_row_at s xs es aggregates i) rows) out

@@ -6,7 +6,7 @@ use Rattle.aql_tree.specs.View as view
 use Rattle.aql_meaning.specs.declared.nodes.Edge.{Edge}
 use Rattle.aql_meaning.specs.declared.nodes.Last.{Last}
 use Rattle.aql_meaning.specs.declared.nodes.Last.TheVariants as code
-use Rattle.aql_meaning.specs.declared.nodes.WalkOptions.{WalkOptions}
+use Rattle.aql_meaning.specs.declared.nodes.TraversalOptions.{TraversalOptions}
 use Rattle.aql_meaning.specs.Documents as bounds
 
 abbrev pub end_tree : Edge → bounds.End ExprTree
@@ -17,5 +17,5 @@ last_tree code.None = bounds.no_last
 last_tree (code.OneOf e) = bounds.one_of (view.tree e)
 last_tree (code.Range low high) = bounds.between (option_map end_tree low) (option_map end_tree high)
 
-abbrev pub options_tree : WalkOptions → tree.TraversalOptions
+abbrev pub options_tree : TraversalOptions → tree.TraversalOptions
 options_tree o = record { edges = o.edges; vertices = o.vertices; bfs = o.bfs }

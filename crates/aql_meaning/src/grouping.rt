@@ -2,10 +2,10 @@
 /// own rows first, and one final COLLECT joins what the shards hand on.
 #[derive(Clone, Copy, Debug, PartialEq, Eq)]
 pub enum Stage {
-    /// All of it: from rows to the row of each class.
+    /// All of it: from rows to the row of each group.
     Whole,
-    /// For each class of a part of the rows its criteria, and a state of each aggregate.
+    /// For each group of a part of the rows its criteria, and a state of each aggregate.
     Partial,
-    /// From such rows to the row of each class.
+    /// From such rows to the row of each group.
     Final,
 }

@@ -12,4 +12,4 @@ pub use aql_tree::{
     Traversal, UniqueEdges, UniqueVertices,
 };
 pub use grouping::Stage;
-pub use nodes::{Edge, Last, WalkOptions};
+pub use nodes::{Edge, Last, TraversalOptions};

@@ -23,7 +23,7 @@ pub enum Last {
 
 /// The options of a traversal, once they are read.
 #[derive(Clone, Copy, Debug, PartialEq, Eq)]
-pub struct WalkOptions {
+pub struct TraversalOptions {
     pub edges: UniqueEdges,
     pub vertices: UniqueVertices,
     /// Breadth first in place of depth first.

@@ -17,7 +17,7 @@ pub fn worked_clauses()
 {}
 
 /// Traversals.
-pub fn worked_walks()
+pub fn worked_traversals()
     ensures { WorkedTraversals }
 {}
 

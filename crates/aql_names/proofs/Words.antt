@@ -25,10 +25,10 @@ use Rattle.aql_names.specs.Visit as W
 use Rattle.aql_names.specs.Visit.{options_in, options_after}
 
 -- a name that has no number among the first ones has that of the others
-pub number_behind : (own outer : Numbering) (x : Ident) → number_of own x ≡ None
+pub number_outer : (own outer : Numbering) (x : Ident) → number_of own x ≡ None
     → number_of (own ++ outer) x ≡ number_of outer x
-number_behind [] outer x none = refl
-number_behind (v ∷ own) outer x none = by (same_ident v.0 x) none (number_behind own outer x) where
+number_outer [] outer x none = refl
+number_outer (v ∷ own) outer x none = by (same_ident v.0 x) none (number_outer own outer x) where
   by : (same : Bool) → cond same (Some v.1) (number_of own x) ≡ None
       → (number_of own x ≡ None → number_of (own ++ outer) x ≡ number_of outer x)
       → cond same (Some v.1) (number_of (own ++ outer) x) ≡ number_of outer x
@@ -65,7 +65,8 @@ new_append visible earlier (x ∷ xs) ys =
           → new_names visible (x ∷ earlier) (xs ++ ys)
           ≡ first (new_names visible (x ∷ earlier) xs) (new_names visible (onto xs (x ∷ earlier)) ys)
           → first fault (new_names visible (x ∷ earlier) (xs ++ ys))
-          ≡ first (first fault (new_names visible (x ∷ earlier) xs)) (new_names visible (onto xs (x ∷ earlier)) ys)
+          ≡ first (first fault (new_names visible (x ∷ earlier) xs))
+          (new_names visible (onto xs (x ∷ earlier)) ys)
       by (Some fault) e = refl
       by None e = e
 
@@ -113,10 +114,12 @@ pub no_aggregate : (name : List ℕ) → Same (codes "LENGTH") name ≡ false �
 no_aggregate name = by (Same (codes "LENGTH") name) (Same (codes "COUNT") name) (Same (codes "SUM") name)
     (Same (codes "MIN") name) (Same (codes "MAX") name) (Same (codes "SORTED_UNIQUE") name)
     (Same (codes "COUNT_DISTINCT") name) where
-      by : (a b c d e f g : Bool) → a ≡ false → b ≡ false → c ≡ false → d ≡ false → e ≡ false → f ≡ false → g ≡ false
+      by : (a b c d e f g : Bool) → a ≡ false → b ≡ false → c ≡ false → d ≡ false → e ≡ false → f ≡ false
+          → g ≡ false
           → option_map (λ (entry : List ℕ × Aggregate). entry.1)
           (cond a (Some (codes "LENGTH", count)) (cond b (Some (codes "COUNT", count))
-          (cond c (Some (codes "SUM", sum)) (cond d (Some (codes "MIN", min)) (cond e (Some (codes "MAX", max))
+          (cond c (Some (codes "SUM", sum))
+          (cond d (Some (codes "MIN", min)) (cond e (Some (codes "MAX", max))
           (cond f (Some (codes "SORTED_UNIQUE", sorted_unique))
           (cond g (Some (codes "COUNT_DISTINCT", count_distinct)) None))))))) ≡ None
       by false false false false false false false _ _ _ _ _ _ _ = refl
@@ -131,11 +134,12 @@ no_aggregate name = by (Same (codes "LENGTH") name) (Same (codes "COUNT") name) 
 abbrev triple : {A B C : Type 0} → A → B → C → A × B × C
 triple a b c = (a, b, c)
 
--- what follows the parts of a traversal may stand behind the last of them
+-- what follows the parts of a traversal may stand names_after the last of them
 parts_on : {A B C R S : Type 0} (o : W.Outcome A S) (fault : Option ScopeFault) (m : S → W.Outcome B S)
     (n : S → W.Outcome C S) (k : A → B → C → S → W.Outcome R S)
     → W.on o (λ f st. W.judge fault (W.on (m st) (λ p st. W.on (n st) (λ w st. k f p w st))))
-    ≡ W.on (W.on o (λ f st. W.judge fault (W.on (m st) (λ p st. W.on (n st) (λ w st. Ok (triple f p w, st))))))
+    ≡ W.on
+    (W.on o (λ f st. W.judge fault (W.on (m st) (λ p st. W.on (n st) (λ w st. Ok (triple f p w, st))))))
     (λ r st. k r.0 r.1 r.2 st)
 parts_on (Err e) fault m n k = refl
 parts_on (Ok q) (Some e) m n k = refl
@@ -146,15 +150,20 @@ parts_on {A} {B} {C} {R} {S} (Ok q) None m n k = by (m q.1) where
   by_last f p (Ok r) = refl
 
   by : (o : W.Outcome B S) → W.on o (λ p st. W.on (n st) (λ w st. k q.0 p w st))
-      ≡ W.on (W.on o (λ p st. W.on (n st) (λ w st. Ok (triple q.0 p w, st)))) (λ (r : A × B × C) st. k r.0 r.1 r.2 st)
+      ≡ W.on (W.on o (λ p st. W.on (n st) (λ w st. Ok (triple q.0 p w, st))))
+      (λ (r : A × B × C) st. k r.0 r.1 r.2 st)
   by (Err e) = refl
   by (Ok r) = by_last q.0 r.0 (n r.1)
 
 -- the clause of a traversal from its parts
-abbrev pub walk_done : TraversalShape → ℕ → List (List ℕ) → MemberTrees → Numbering → (ExprTree × Option ExprTree × Written)
+abbrev pub traversal_done : TraversalShape → ℕ → List (List ℕ) → MemberTrees → Numbering
+    → (ExprTree × Option ExprTree × Written)
     → W.Done
-walk_done w n cs ms more r =
-    (traversal (W.shape_with (W.options_after ms w.options r.2) (number_traversal n w)) r.0 cs (maybe r.1) no_members, more)
+traversal_done w n cs ms more r = (
+  traversal (W.shape_with (W.options_after ms w.options r.2) (number_traversal n w)) r.0 cs
+      (maybe r.1) no_members,
+  more,
+)
 
 pub paths_clause : (s : W.Site) (w : TraversalShape) (e : ExprTree) (cs : List (List ℕ)) (prune : MaybeExpr)
     (ms : MemberTrees) (st : W.State)
@@ -163,14 +172,19 @@ pub paths_clause : (s : W.Site) (w : TraversalShape) (e : ExprTree) (cs : List (
     (W.judge (unless (nat_le w.min w.max) (BadOption (codes "depth")))
     (W.on (W.traversal_parts s (traversal_names (W.next st.said) w s.own) e cs prune ms
     (W.say_all (traversal_variables w) st))
-    (λ r later. Ok (walk_done w (W.next st.said) cs ms (traversal_names (W.next st.said) w s.own) r, later))))
+    (λ r later. Ok
+    (traversal_done w (W.next st.said) cs ms (traversal_names (W.next st.said) w s.own) r, later))))
 paths_clause s w e cs prune ms st =
     ap (λ o. W.judge (new_names (visible_variables (W.place s)) [] (traversal_variables w))
     (W.judge (unless (nat_le w.min w.max) (BadOption (codes "depth"))) o))
     (parts_on (W.expr s e (W.say_all (traversal_variables w) st)) (edge_collections s.held cs)
     (λ later. W.maybe (W.inline_site (W.with_own (traversal_names (W.next st.said) w s.own) s)) prune later)
     (λ later. W.settings (W.inline_site s) no_settings ms later)
-    (λ f p written later. Ok (walk_done w (W.next st.said) cs ms (traversal_names (W.next st.said) w s.own) (triple f p written), later)))
+    (λ f p written later. Ok (
+      traversal_done w (W.next st.said) cs ms
+          (traversal_names (W.next st.said) w s.own) (triple f p written),
+      later,
+    )))
 
 pub count_trees : (ts : List ExprTree) → expr_count (trees ts) ≡ length ts
 count_trees [] = refl
@@ -195,14 +209,16 @@ one_judged (Some e) r said lets g = refl
 one_judged None (Ok t) said lets g = refl
 one_judged None (Err e) said lets g = refl
 
-two_judged : {A : Type 0} (fault other : Option ScopeFault) (a : A) (said : List (List ℕ)) (lets : List ClauseTree)
+two_judged : {A : Type 0} (fault other : Option ScopeFault) (a : A) (said : List (List ℕ))
+    (lets : List ClauseTree)
     → W.judge fault (W.judge other (Ok (a, record { said = said; lets = lets })))
     ≡ W.beside lets (W.judge fault (W.judge other (Ok (a, said))))
 two_judged (Some e) other a said lets = refl
 two_judged None (Some e) a said lets = refl
 two_judged None None a said lets = refl
 
-inner_judged : {A T : Type 0} (fault : Option ScopeFault) (o : W.Outcome T (List (List ℕ))) (lets : List ClauseTree)
+inner_judged : {A T : Type 0} (fault : Option ScopeFault) (o : W.Outcome T (List (List ℕ)))
+    (lets : List ClauseTree)
     (g : T → A)
     → W.judge fault (W.on o (λ t said. Ok (g t, record { said = said; lets = lets })))
     ≡ W.beside lets (W.judge fault (W.on o (λ t said. Ok (g t, said))))
@@ -219,14 +235,20 @@ collection_clause s x c st =
 pub lifted_clause : (s : W.Site) (x : Ident) (q : QueryTree) (st : W.State)
     → W.clause s (let_be x (subquery q)) st ≡ W.beside st.lets (W.let_subquery s x q st.said)
 lifted_clause s x q st =
-    inner_judged (new_name (visible_variables (W.place s)) [] x) (W.visit_query s.held (W.visible s) q (st.said ++ text_of x ∷ []))
+    inner_judged (new_name (visible_variables (W.place s)) [] x)
+    (W.visit_query s.held (W.visible s) q (st.said ++ text_of x ∷ []))
     st.lets (λ inner. (let_be (Num (W.next st.said)) (subquery inner), (x, W.next st.said) ∷ s.own))
 
 pub named_into : (s : W.Site) (inner : Numbering) (x : Ident) (keep : List (List ℕ)) (st : W.State)
     → W.visit_into s inner (into x no_expr keep) st ≡ W.beside st.lets (W.into_object s inner x keep st.said)
 named_into s inner x keep st =
     two_judged (new_name (visible_variables (W.place s)) (idents inner) x) (keep_fault (idents s.own) keep) (
-      Some (Num (W.next st.said), Some (object_literal (variable_members (W.visible s) (into_names (idents s.own) keep))), []),
+      Some (
+        Num (W.next st.said),
+        Some
+            (object_literal (variable_members (W.visible s) (into_names (idents s.own) keep))),
+        [],
+      ),
       (x, W.next st.said) ∷ inner,
     ) (st.said ++ text_of x ∷ []) st.lets
 
@@ -234,11 +256,13 @@ name_clause : (s : W.Site) (x : Ident) (c : List ℕ) (st : W.State)
     → W.clause s (for_each x (variable (Name c))) st ≡ W.beside st.lets (W.for_name s x c st.said)
 name_clause s x c st =
     one_judged (new_name (visible_variables (W.place s)) [] x)
-    (W.source (W.next st.said) c (number_of (W.visible s) (Name c)) (place_of s.held c)) (st.said ++ text_of x ∷ [])
+    (W.source (W.next st.said) c (number_of (W.visible s) (Name c)) (place_of s.held c))
+    (st.said ++ text_of x ∷ [])
     st.lets (λ t. (t, (x, W.next st.said) ∷ s.own))
 
 -- FOR goes by whether its expression is a single name
-pub for_by_name : (s : W.Site) (x : Ident) (e : ExprTree) (c : List ℕ) (st : W.State) → W.single_name e ≡ Some c
+pub for_by_name : (s : W.Site) (x : Ident) (e : ExprTree) (c : List ℕ) (st : W.State)
+    → W.single_name e ≡ Some c
     → W.clause s (for_each x e) st ≡ W.beside st.lets (W.for_name s x c st.said)
 for_by_name s x (variable (Name n)) c st h =
     name_clause s x n st ∙ ap (λ m. W.beside st.lets (W.for_name s x m st.said)) (some_same n c h)

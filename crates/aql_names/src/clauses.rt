@@ -105,19 +105,20 @@ pub fn declare_new(
 pub fn enter_new(
     at: &At<'_>,
     ident: &Ident,
-    behind: &mut NameList,
+    names_after: &mut NameList,
     said: &mut Names,
 ) -> Result<u32, ScopeFault>
     ensures fault { Judges
         (fault.new_name (idents at.now.scope.now.own ++ idents at.now.scope.now.outer)
-        (idents behind.old) ident.now) result }
+        (idents names_after.old) ident.now) result }
     ensures number { IfOk result (λ n. n ≡ suc (length said.old)) }
-    ensures behind { OnOk result (behind.new ≡ (ident.now, suc (length said.old)) ∷ behind.old) }
+    ensures names_after { OnOk result
+        (names_after.new ≡ (ident.now, suc (length said.old)) ∷ names_after.old) }
     ensures said { OnOk result (said.new ≡ said.old ++ text_of ident.now ∷ []) }
 {
-    check_new(at.alloc, at.scope, behind, ident)?;
+    check_new(at.alloc, at.scope, names_after, ident)?;
     let number = declare_ident(at.alloc, said, ident)?;
-    behind.enter(at.alloc, ident, number)?;
+    names_after.enter(at.alloc, ident, number)?;
     Ok(number)
 }
 
@@ -246,17 +247,17 @@ pub fn documents_clause(
 
 /// The names of a traversal, numbered, the query's own names after it, and its edge collections.
 #[derive(Drop)]
-pub struct WalkHead {
+pub struct TraversalHead {
     pub vertex: Ident,
     pub edge: Option<Ident>,
     pub path: Option<Ident>,
-    pub behind: NameList,
+    pub names_after: NameList,
     pub collections: Names,
 }
 
 /// The start of a traversal, its PRUNE, and what its settings write.
 #[derive(Drop)]
-pub struct WalkParts {
+pub struct TraversalParts {
     pub start: Box<Expr>,
     pub prune: Option<Box<Expr>>,
     pub written: Written,
@@ -283,7 +284,11 @@ fn check_maybe(
 
 // The names that a traversal declares.
 #[tactic(auto, using(crate::proofs::Words::new_append))]
-fn check_walk_vars(alloc: Global, scope: &Scope, traversal: &Traversal) -> Result<(), ScopeFault>
+fn check_traversal_variables(
+    alloc: Global,
+    scope: &Scope,
+    traversal: &Traversal,
+) -> Result<(), ScopeFault>
     ensures { Judges (fault.new_names (idents scope.now.own ++ idents scope.now.outer) []
         (traversal.now.vertex ∷ (option_to_list traversal.now.edge
         ++ option_to_list traversal.now.path))) result }
@@ -299,18 +304,18 @@ fn check_walk_vars(alloc: Global, scope: &Scope, traversal: &Traversal) -> Resul
 fn declare_maybe(
     alloc: Global,
     ident: &Option<Ident>,
-    behind: &mut NameList,
+    names_after: &mut NameList,
     said: &mut Names,
 ) -> Result<Option<Ident>, OutOfMemory>
     ensures number { IfOk result (λ x. x ≡ maybe_number (suc (length said.old)) ident.now) }
-    ensures behind { OnOk result (behind.new ≡ enter (option_to_list ident.now)
-        (option_to_list (maybe_number (suc (length said.old)) ident.now)) behind.old) }
+    ensures names_after { OnOk result (names_after.new ≡ enter (option_to_list ident.now)
+        (option_to_list (maybe_number (suc (length said.old)) ident.now)) names_after.old) }
     ensures said { OnOk result (said.new ≡ said.old ++ map text_of (option_to_list ident.now)) }
 {
     match ident {
         Some(ident) => {
             let number = declare_ident(alloc, said, ident)?;
-            behind.enter(alloc, ident, number)?;
+            names_after.enter(alloc, ident, number)?;
             Ok(Some(Ident::Num(number)))
         }
         None => Ok(None),
@@ -318,32 +323,32 @@ fn declare_maybe(
 }
 
 // Numbers for the names of a traversal, which are then visible.
-fn declare_walk(
+fn declare_traversal(
     alloc: Global,
     traversal: &Traversal,
     own: &NameList,
     said: &mut Names,
-) -> Result<WalkHead, OutOfMemory>
+) -> Result<TraversalHead, OutOfMemory>
     ensures vars { IfOk result (λ v.
         let w = number_traversal (suc (length said.old)) (traversal_part traversal.now).0 in
         (v.vertex ≡ w.vertex) × (v.edge ≡ w.edge) × (v.path ≡ w.path)) }
-    ensures behind { IfOk result (λ v. v.behind
+    ensures names_after { IfOk result (λ v. v.names_after
         ≡ traversal_names (suc (length said.old)) (traversal_part traversal.now).0 own.now) }
     ensures collections { IfOk result (λ v. v.collections ≡ traversal.now.collections) }
     ensures said { OnOk result (said.new
         ≡ said.old ++ map text_of (fault.traversal_variables (traversal_part traversal.now).0)) }
 {
     let collections = copy_texts(alloc, traversal.collections.as_slice())?;
-    let mut behind = own.copy(alloc)?;
+    let mut names_after = own.copy(alloc)?;
     let number = declare_ident(alloc, said, &traversal.vertex)?;
-    behind.enter(alloc, &traversal.vertex, number)?;
-    let edge = declare_maybe(alloc, &traversal.edge, &mut behind, said)?;
-    let path = declare_maybe(alloc, &traversal.path, &mut behind, said)?;
-    Ok(WalkHead {
+    names_after.enter(alloc, &traversal.vertex, number)?;
+    let edge = declare_maybe(alloc, &traversal.edge, &mut names_after, said)?;
+    let path = declare_maybe(alloc, &traversal.path, &mut names_after, said)?;
+    Ok(TraversalHead {
         vertex: Ident::Num(number),
         edge,
         path,
-        behind,
+        names_after,
         collections,
     })
 }
@@ -362,12 +367,12 @@ fn check_depth(alloc: Global, traversal: &Traversal) -> Result<(), ScopeFault>
 }
 
 /// What is judged of a traversal before its parts, and its numbered names.
-pub fn open_walk(
+pub fn open_traversal(
     alloc: Global,
     traversal: &Traversal,
     scope: &Scope,
     said: &mut Names,
-) -> Result<WalkHead, ScopeFault>
+) -> Result<TraversalHead, ScopeFault>
     ensures fault { Judges (fault.first
         (fault.new_names (idents scope.now.own ++ idents scope.now.outer) []
         (traversal.now.vertex
@@ -377,15 +382,15 @@ pub fn open_walk(
     ensures vars { IfOk result (λ v.
         let w = number_traversal (suc (length said.old)) (traversal_part traversal.now).0 in
         (v.vertex ≡ w.vertex) × (v.edge ≡ w.edge) × (v.path ≡ w.path)) }
-    ensures behind { IfOk result (λ v. v.behind
+    ensures names_after { IfOk result (λ v. v.names_after
         ≡ traversal_names (suc (length said.old)) (traversal_part traversal.now).0 scope.now.own) }
     ensures collections { IfOk result (λ v. v.collections ≡ traversal.now.collections) }
     ensures said { OnOk result (said.new
         ≡ said.old ++ map text_of (fault.traversal_variables (traversal_part traversal.now).0)) }
 {
-    check_walk_vars(alloc, scope, traversal)?;
+    check_traversal_variables(alloc, scope, traversal)?;
     check_depth(alloc, traversal)?;
-    Ok(declare_walk(alloc, traversal, &scope.own, said)?)
+    Ok(declare_traversal(alloc, traversal, &scope.own, said)?)
 }
 
 /// The settings of a traversal with one more.
@@ -473,7 +478,7 @@ fn options_from(alloc: Global, options: &Options, found: Written) -> Options
 }
 
 // A traversal of the depth and direction of another.
-fn walk_like(
+fn traversal_like(
     traversal: &Traversal,
     vertex: Ident,
     edge: Option<Ident>,
@@ -524,11 +529,11 @@ fn unbox(found: Option<Box<Expr>>) -> Option<Expr>
 }
 
 /// The clause of a traversal, from its numbered names and its parts; its names are then visible.
-pub fn walk_of(
+pub fn traversal_of(
     alloc: Global,
     traversal: &Traversal,
-    head: WalkHead,
-    parts: WalkParts,
+    head: TraversalHead,
+    parts: TraversalParts,
     scope: &mut Scope,
 ) -> Clause
     ensures clause { clause_tree result ≡ traversal_clause (
@@ -544,12 +549,12 @@ pub fn walk_of(
       option_map (λ b. tree b.value) parts.prune,
       [],
     ) }
-    ensures own { scope.new.own ≡ head.behind }
+    ensures own { scope.new.own ≡ head.names_after }
     ensures outer { scope.new.outer ≡ scope.old.outer }
 {
-    scope.replace_own(head.behind);
+    scope.replace_own(head.names_after);
     let options = options_from(alloc, &traversal.options, parts.written);
-    Clause::Walk(walk_like(
+    Clause::Traversal(traversal_like(
         traversal,
         head.vertex,
         head.edge,
@@ -644,13 +649,14 @@ pub fn into_names(
     var: &Ident,
     keep: &[Text],
     at: &At<'_>,
-    behind: &mut NameList,
+    names_after: &mut NameList,
     said: &mut Names,
 ) -> Result<Into, ScopeFault>
-    ensures { Visits (λ i. (Some (into_part i), behind.new))
-        (visit.into_object (site_of at.now) behind.old var.now keep.now said.old) result said.new }
+    ensures { Visits (λ i. (Some (into_part i), names_after.new))
+        (visit.into_object (site_of at.now) names_after.old var.now keep.now said.old) result
+        said.new }
 {
-    let number = enter_new(at, var, behind, said)?;
+    let number = enter_new(at, var, names_after, said)?;
     check_kept(at.alloc, &at.scope.own, keep)?;
     let what = variables_object(at, keep)?;
     Ok(Into::new(Ident::Num(number), Some(what), Seq::new(at.alloc)))

@@ -12,9 +12,10 @@ pub use checks::{
     check_aggregate, check_args, check_collections, check_edges, check_kept, check_new,
 };
 pub use clauses::{
-    WalkHead, WalkParts, aggregate_item, check_setting, check_settings, computed_setting,
+    TraversalHead, TraversalParts, aggregate_item, check_setting, check_settings, computed_setting,
     copy_texts, declare_new, define, define_query, documents_clause, each_step, enter_new,
-    for_each, for_name, into_names, lift_query, open_walk, single_name, variable, walk_of,
+    for_each, for_name, into_names, lift_query, open_traversal, single_name, traversal_of,
+    variable,
 };
 pub use faults::ScopeFault;
 pub use names::{At, NameList, Scope, declare, declare_ident, spelling};

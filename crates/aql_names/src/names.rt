@@ -224,7 +224,7 @@ impl Scope {
         self.own = own;
     }
 
-    #[tactic(auto, using(crate::proofs::Words::number_before, crate::proofs::Words::number_behind))]
+    #[tactic(auto, using(crate::proofs::Words::number_before, crate::proofs::Words::number_outer))]
     pub fn find(&self, ident: &Ident) -> Option<u32>
         ensures { result ≡ number_of (self.now.own ++ self.now.outer) ident.now }
     {

@@ -10,7 +10,8 @@ use Rattle.aql_grammar.specs.Reader.{level_at, operand, chain, product, sum, rel
 use Rattle.aql_grammar.specs.Reader.{conjunction, disjunction}
 
 -- a level whose operators form chains
-pub chain_level : (E : Bool → Parser ExprTree) (inside : Bool) (p : Precedence) (ts : Tokens) → p ≢ level.Range
+pub chain_level : (E : Bool → Parser ExprTree) (inside : Bool) (p : Precedence) (ts : Tokens)
+    → p ≢ level.Range
     → p ≢ level.ArrayComparison → level_at E inside p ts ≡ chain p (operand E inside p) ts
 unfolding product sum relation membership equality conjunction disjunction
 chain_level E inside level.Product ts range comparison = refl

@@ -12,7 +12,7 @@ use Rattle.aql_grammar.specs.Limits.{nesting, marks}
 use Rattle.aql_grammar.specs.Reader.{whole_query}
 use Rattle.aql_grammar.specs.declared.faults.ParseFault.{ParseFault}
 use Rattle.aql_grammar.specs.declared.faults.ParseFault.TheVariants.{TooDeep, TooManyClauses, NotInGrammar}
-use Rattle.aql_grammar.specs.declared.faults.ParseFault.TheVariants.{WalkTooDeep, Memory}
+use Rattle.aql_grammar.specs.declared.faults.ParseFault.TheVariants.{TraversalTooDeep, Memory}
 use Rattle.aql_grammar.specs.laws.TreeLaws.{tree_whole, one_tree}
 use Rattle.aql_parse.specs.Parses.{WithinLimits, IsShallow, HasNoTree, TraversesTooDeep, Gives, Parses}
 use Rattle.aql_parse.specs.Parses.{ReadsWhole}
@@ -27,7 +27,7 @@ pub refused : (ts : Tokens) (e : ParseFault) → ReadsWhole (whole_query ts) (Er
 refused ts TooDeep h deep many = absurd h
 refused ts TooManyClauses h deep many = absurd h
 refused ts NotInGrammar h deep many = ((deep, many), no_tree ts h)
-refused ts WalkTooDeep h deep many = absurd h
+refused ts TraversalTooDeep h deep many = absurd h
 refused ts Memory h deep many = tt
 
 pub gives_tree : (ts : Tokens) (r : Result Query ParseFault) → Parses ts r
@@ -47,7 +47,7 @@ gives_only ts (Err TooDeep) h q a within shallow = let w = within.0 in absurd (o
 gives_only ts (Err TooManyClauses) h q a within shallow = let w = within.1 in let m = h.1 in absurd
     (omega arith)
 gives_only ts (Err NotInGrammar) h q a within shallow = absurd (h.1 q a)
-gives_only ts (Err WalkTooDeep) h q a within shallow =
+gives_only ts (Err TraversalTooDeep) h q a within shallow =
     let same = one_tree ts h.1.0 q h.1.1.0 a in
     let e = ap (traversals_within 32) same in
     let deep = h.1.1.1 in
@@ -60,7 +60,7 @@ gives_too_deep ts (Ok q) h is = absurd (cc)
 gives_too_deep ts (Err TooDeep) h is = h
 gives_too_deep ts (Err TooManyClauses) h is = absurd (cc)
 gives_too_deep ts (Err NotInGrammar) h is = absurd (cc)
-gives_too_deep ts (Err WalkTooDeep) h is = absurd (cc)
+gives_too_deep ts (Err TraversalTooDeep) h is = absurd (cc)
 gives_too_deep ts (Err Memory) h is = absurd (cc)
 
 pub gives_too_many : (ts : Tokens) (r : Result Query ParseFault) → Parses ts r → IsErrOf r TooManyClauses
@@ -69,7 +69,7 @@ gives_too_many ts (Ok q) h is = absurd (cc)
 gives_too_many ts (Err TooDeep) h is = absurd (cc)
 gives_too_many ts (Err TooManyClauses) h is = h
 gives_too_many ts (Err NotInGrammar) h is = absurd (cc)
-gives_too_many ts (Err WalkTooDeep) h is = absurd (cc)
+gives_too_many ts (Err TraversalTooDeep) h is = absurd (cc)
 gives_too_many ts (Err Memory) h is = absurd (cc)
 
 pub gives_none : (ts : Tokens) (r : Result Query ParseFault) → Parses ts r → IsErrOf r NotInGrammar
@@ -78,14 +78,14 @@ gives_none ts (Ok q) h is = absurd (cc)
 gives_none ts (Err TooDeep) h is = absurd (cc)
 gives_none ts (Err TooManyClauses) h is = absurd (cc)
 gives_none ts (Err NotInGrammar) h is = h
-gives_none ts (Err WalkTooDeep) h is = absurd (cc)
+gives_none ts (Err TraversalTooDeep) h is = absurd (cc)
 gives_none ts (Err Memory) h is = absurd (cc)
 
-pub gives_walk : (ts : Tokens) (r : Result Query ParseFault) → Parses ts r → IsErrOf r WalkTooDeep
+pub gives_traversal : (ts : Tokens) (r : Result Query ParseFault) → Parses ts r → IsErrOf r TraversalTooDeep
     → WithinLimits ts × TraversesTooDeep ts
-gives_walk ts (Ok q) h is = absurd (cc)
-gives_walk ts (Err TooDeep) h is = absurd (cc)
-gives_walk ts (Err TooManyClauses) h is = absurd (cc)
-gives_walk ts (Err NotInGrammar) h is = absurd (cc)
-gives_walk ts (Err WalkTooDeep) h is = h
-gives_walk ts (Err Memory) h is = absurd (cc)
+gives_traversal ts (Ok q) h is = absurd (cc)
+gives_traversal ts (Err TooDeep) h is = absurd (cc)
+gives_traversal ts (Err TooManyClauses) h is = absurd (cc)
+gives_traversal ts (Err NotInGrammar) h is = absurd (cc)
+gives_traversal ts (Err TraversalTooDeep) h is = h
+gives_traversal ts (Err Memory) h is = absurd (cc)

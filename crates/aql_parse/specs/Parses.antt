@@ -39,7 +39,7 @@ Parses tokens (Ok q) = WithinLimits tokens × (Tree tokens (query_tree q) × IsS
 Parses tokens (Err fault.TooDeep) = 64 < nesting tokens
 Parses tokens (Err fault.TooManyClauses) = (nesting tokens ≤ 64) × (256 < marks tokens)
 Parses tokens (Err fault.NotInGrammar) = WithinLimits tokens × HasNoTree tokens
-Parses tokens (Err fault.WalkTooDeep) = WithinLimits tokens × TraversesTooDeep tokens
+Parses tokens (Err fault.TraversalTooDeep) = WithinLimits tokens × TraversesTooDeep tokens
 Parses tokens (Err fault.Memory) = Unit {0}
 
 -- the reader's answer over all the tokens

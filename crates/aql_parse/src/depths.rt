@@ -165,11 +165,11 @@ fn clause_within(clause: &Clause, most: u32) -> bool
     match clause {
         Clause::For { list, .. } => expr_within(list, most),
         Clause::ForDocs { .. } => true,
-        Clause::Walk(walk) => {
-            walk.max <= most
-                && expr_within(&walk.start, most)
-                && maybe_within(&walk.prune, most)
-                && members_within(walk.options.settings.as_slice(), most)
+        Clause::Traversal(traversal) => {
+            traversal.max <= most
+                && expr_within(&traversal.start, most)
+                && maybe_within(&traversal.prune, most)
+                && members_within(traversal.options.settings.as_slice(), most)
         }
         Clause::Filter(expr) => expr_within(expr, most),
         Clause::Let { expr, .. } => expr_within(expr, most),

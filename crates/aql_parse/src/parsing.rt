@@ -97,7 +97,7 @@ fn judge(alloc: Global, tokens: &Tokens) -> Result<Query, ParseFault>
     if traversals_within(&query, TRAVERSAL_DEPTH) {
         Ok(query)
     } else {
-        Err(ParseFault::WalkTooDeep)
+        Err(ParseFault::TraversalTooDeep)
     }
 }
 
@@ -120,7 +120,7 @@ pub fn parse(alloc: Global, tokens: &Tokens) -> Result<Query, ParseFault>
         → (nesting (kinds_of tokens.now) ≤ 64) × (256 < marks (kinds_of tokens.now)) }
     ensures none { IsErrOf result ParseFault.NotInGrammar → WithinLimits (kinds_of tokens.now)
         × HasNoTree (kinds_of tokens.now) }
-    ensures walk_too_deep { IsErrOf result ParseFault.WalkTooDeep
+    ensures traversal_too_deep { IsErrOf result ParseFault.TraversalTooDeep
         → WithinLimits (kinds_of tokens.now) × TraversesTooDeep (kinds_of tokens.now) }
 {
     judge(alloc, tokens)

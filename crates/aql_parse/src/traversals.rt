@@ -83,7 +83,7 @@ fn traversal_of(
 fn traversal_node(traversal: Traversal) -> Clause
     ensures { clause_tree result ≡ traversal_clause (traversal_part traversal) }
 {
-    Clause::Walk(traversal)
+    Clause::Traversal(traversal)
 }
 
 fn traversal_clause(

@@ -1,5 +1,5 @@
 // What `lex` gives for texts whose tokens were worked out by hand from the chapter on tokens.
-use crate::pages::Page;
+use crate::pages::{Page, expect_page};
 use aql_lex::{LexFault, Token, TokenKind, lex, text_has_one_reading};
 use std::alloc::Global;
 use std::process::Abort;
@@ -265,7 +265,7 @@ fn check(rt: &impl Abort, alloc: Global, rows: &[(&str, &str)]) {
     for (text, want) in rows {
         let mut page = Page::new(alloc);
         write_lexed(alloc, text, &mut page);
-        page.judge(rt, want, text);
+        expect_page(rt, &page, want, text);
     }
 }
 

@@ -14,7 +14,7 @@ use Rattle.aql_tree.specs.Tree.{ExprTree, variable, chain, subquery, ExprTrees, 
 use Rattle.aql_meaning.specs.Row.{Row, bind}
 use Rattle.aql_meaning.specs.Value.{value, value_or, links_value}
 use Rattle.aql_meaning.specs.Clauses.{with_each, with_elements, with_documents, filter_true, with_values, return_values, Sorts}
-use Rattle.aql_meaning.specs.Groups.{Member, IsMember}
+use Rattle.aql_meaning.specs.Groups.{GroupedRow, IsGroupedRow}
 use Rattle.aql_meaning.specs.Paths.{Traverses}
 use Rattle.aql_meaning.specs.Visible.{vars_after, collection_meant, edges_named, each_once}
 use Rattle.aql_meaning.specs.Plain.{IsPlain, AllPlain, MaybePlain}
@@ -23,7 +23,7 @@ use Rattle.aql_meaning.specs.Meaning.{Evaluates, EvaluatesAll, EvaluatesOr, Eval
 use Rattle.aql_meaning.specs.laws.OneValue.{has_value}
 use Rattle.aql_meaning.specs.declared.grouping.Stage.TheVariants.{Whole}
 use Rattle.aql_meaning.specs.Documents.{projection, documents_kept}
-use Rattle.aql_meaning.specs.Stages.{arguments_at, taken_at, member_at}
+use Rattle.aql_meaning.specs.Stages.{arguments_at, taken_at, grouped_row_at}
 use Rattle.aql_plan.specs.declared.facts.Facts.{Facts}
 use Rattle.aql_plan.specs.declared.facts.CollFact.{CollFact}
 use Rattle.aql_plan.specs.Facts.{MeetsCollection, Meets}
@@ -192,10 +192,11 @@ module _ (facts : Facts) (db : Database) (meets : Meets facts db) where
 
   plain_members : (xs : List Ident) (es : ExprTrees) (gs : AggregateTrees) (i : IntoTree)
       → AllPlain es → AggregatesPlain gs → IntoPlain i → (vars : List Ident) (rows : List Row)
-      → AllZip (λ row (m : Member).
-      IsMember (EvaluatesAll db es null row) (EvaluatesArguments db gs row) (EvaluatesInto db i vars row) m)
+      → AllZip (λ row (m : GroupedRow).
+      IsGroupedRow (EvaluatesAll db es null row) (EvaluatesArguments db gs row)
+      (EvaluatesInto db i vars row) m)
       rows
-      (map (member_at Whole xs es gs i) rows)
+      (map (grouped_row_at Whole xs es gs i) rows)
   plain_members xs es gs i h k l vars [] = tt
   plain_members xs es gs i h k l vars (row ∷ rows) = (
     record {
@@ -293,7 +294,7 @@ module _ (facts : Facts) (db : Database) (meets : Meets facts db) where
     clause_law (collect xs es gs i) h b start vars out g = (
       g.0,
       g.1,
-      (map (member_at Whole xs es gs i) g.0, plain_members xs es gs i h.0 h.1 h.2 vars g.0, g.2),
+      (map (grouped_row_at Whole xs es gs i) g.0, plain_members xs es gs i h.0 h.1 h.2 vars g.0, g.2),
     )
 
     clauses_law : (cs : ClauseTrees) → ClausesLifted cs

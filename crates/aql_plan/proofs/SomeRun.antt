@@ -10,7 +10,7 @@ use Rattle.aql_meaning.specs.Visible.{aggregate_vars, into_var}
 use Rattle.aql_meaning.specs.laws.SomeAnswer.{all_some, some_collect, some_sort, some_traversal}
 use Rattle.aql_meaning.specs.laws.SomeOrder.{keyed_order, some_order}
 use Rattle.aql_meaning.specs.Documents.{Last, index_keys, InIndexOrder, documents_kept}
-use Rattle.aql_meaning.specs.Stages.{stage_functions, member_at}
+use Rattle.aql_meaning.specs.Stages.{stage_functions, grouped_row_at}
 use Rattle.aql_plan.specs.Facts.{attributes_in}
 use Rattle.aql_plan.specs.Plan.{Reading, Plan, Singleton, Over, Node, EnumerateCollection, Index, EnumerateList, Traversal, Calculation, Subquery, Filter, Sort, Limit, Collect, Return, NoResults, Scatter, Distribute, Remote, Gather}
 use Rattle.aql_plan.specs.Runs.{World, Place, Outside, Inside, read_in_bounds, Indexed, edges_in, result_of, targets, part_of, came, Runs, Feeds, Gives}
@@ -80,7 +80,7 @@ abbrev mutual
       (first_rows n sorted.0, (sorted.0, sorted.1, refl))
   some_given (Limit offset count) w place start rows = (_, refl)
   some_given (Collect xs es gs i s) w place start rows = some_collect xs (aggregate_vars gs)
-      (stage_functions s gs) (into_var i) start (map (member_at s xs es gs i) rows)
+      (stage_functions s gs) (into_var i) start (map (grouped_row_at s xs es gs i) rows)
   some_given (Return distinct e) w place start rows = (_, refl)
   some_given NoResults w place start rows = (_, refl)
   some_given (Scatter coll only) w place start rows = (_, refl)

@@ -12,7 +12,7 @@ mod uses;
 mod variables;
 pub mod worked;
 
-pub use aql_meaning::{Edge, Last, Stage, WalkOptions};
+pub use aql_meaning::{Edge, Last, Stage, TraversalOptions};
 pub use facts::{CollFact, CollFacts, Facts, IndexFact, IndexFacts, IndexKind, Widths};
 pub use node_uses::add_own_uses;
 pub use plan::{Passed, Plan, Plans};

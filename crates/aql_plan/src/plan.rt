@@ -4,7 +4,7 @@ ghost use Rattle.std.specs.Prelude.{◌≡◌, MatchOption};
 ghost use Rattle.aql_plan.specs.Plan as spec;
 ghost use Rattle.aql_plan.specs.View.{plan_tree};
 
-use aql_meaning::{Edge, Last, Stage, WalkOptions};
+use aql_meaning::{Edge, Last, Stage, TraversalOptions};
 use aql_tree::{Aggregates, Direction, Expr, Exprs, Into, Keys, Lets};
 use aql_value::{CollNo, CollNos, Names, Seq};
 
@@ -58,7 +58,7 @@ pub enum Plan {
         start: Expr,
         collections: CollNos,
         prune: Option<Expr>,
-        options: WalkOptions,
+        options: TraversalOptions,
         filter: Option<Expr>,
     },
     /// Each row with the value of an expression: LET.

@@ -17,5 +17,3 @@ mod scripts;
 mod shell;
 #[cfg(test)]
 mod streams;
-#[cfg(test)]
-mod writer;

@@ -1,6 +1,6 @@
 // What `read_query` gives for texts that were judged by hand from the chapter on names and scopes.
 use crate::catalogs::declare;
-use crate::pages::{Page, expect};
+use crate::pages::{Page, expect, expect_page};
 use crate::scoping_rows::{
     AGGREGATES, ARGUMENTS, COLLECTION_NAMES, COLLECTIONS, COLLECTS, COLLECTS_WITHIN,
     COMPUTED_OPTIONS, DECLARED_TWICE, EDGE_COLLECTIONS, GROUPED_VARIABLES, GROUPS, OTHER_OPTIONS,
@@ -8,9 +8,10 @@ use crate::scoping_rows::{
     TEXTS, UNKNOWN_FUNCTIONS, UNKNOWN_NAMES, UNKNOWN_NAMES_WITHIN, WALK_OPTIONS, WALK_VARIABLES,
     WALKS,
 };
-use crate::writer::write_scoped;
 use aql_doc::Catalog;
 use aql_front::{query_fault_text, read_query};
+use aql_scope::Scoped;
+use aql_test_support::{Notation, write_names, write_query};
 use aql_value::{OutOfMemory, Text};
 use std::alloc::Global;
 use std::process::Abort;
@@ -25,6 +26,13 @@ fn collections(rt: &impl Abort, alloc: Global) -> Catalog {
         expect(rt, declared.is_ok(), name, "");
     }
     catalog
+}
+
+// The query, and after a bar the names of its variables.
+fn write_scoped(scoped: &Scoped, page: &mut Page) {
+    write_query(&scoped.query, Notation::Spelled, page);
+    page.put(" |");
+    write_names(scoped.names.as_slice(), page);
 }
 
 fn write_fault(text: &Result<Text, OutOfMemory>, page: &mut Page) {
@@ -48,7 +56,7 @@ fn shown(alloc: Global, text: &str, catalog: &Catalog) -> Page {
 fn judge(rt: &impl Abort, alloc: Global, rows: &[(&str, &str)]) {
     let catalog = collections(rt, alloc);
     for (text, want) in rows {
-        shown(alloc, text, &catalog).judge(rt, want, text);
+        expect_page(rt, &shown(alloc, text, &catalog), want, text);
     }
 }
 
@@ -134,6 +142,6 @@ fn limits(rt: HostRuntime) {
         text.put(before);
         text.put_times(part, *times);
         text.put(after);
-        shown(alloc, text.as_str(), &catalog).judge(&rt, expected, part);
+        expect_page(&rt, &shown(alloc, text.as_str(), &catalog), expected, part);
     }
 }

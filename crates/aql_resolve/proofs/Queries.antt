@@ -34,15 +34,18 @@ module _ (held : List Held) (outer : Numbering) (with : List (List ℕ)) (all : 
 
     -- the clauses before the place i lead to this site and this state
     abbrev pub Led : Site → ℕ → State → Type 0
-    Led s i st = W.clauses (among []) (view.clauses (map clause_tree all)) (state said []) ≡ clauses_from s i st
+    Led s i st =
+        W.clauses (among []) (view.clauses (map clause_tree all)) (state said []) ≡ clauses_from s i st
 
     abbrev pub returned : Numbering → State → Outcome QueryTree (List (List ℕ))
     returned own st =
-        on (W.expr (among own) e st) (λ f later. Ok (query with (view.clauses later.lets) distinct f, later.said))
+        on (W.expr (among own) e st)
+        (λ f later. Ok (query with (view.clauses later.lets) distinct f, later.said))
 
     goes_on : (s : Site) (i : ℕ) (st : State) → Led s i st → whole ≡ on (clauses_from s i st) returned
     goes_on s i st led =
-        ap (λ none. judge none (on (W.clauses (among []) (view.clauses (map clause_tree all)) (state said [])) returned))
+        ap (λ none. judge none
+        (on (W.clauses (among []) (view.clauses (map clause_tree all)) (state said [])) returned))
         known
         ∙ ap (λ o. on o returned) led
 
@@ -54,7 +57,8 @@ module _ (held : List Held) (outer : Numbering) (with : List (List ℕ)) (all : 
     -- a clause has a fault
     pub clause_has_fault : {A B : Type 0} (f : A → W.Done) (g : B → QueryTree) (s : Site) (i : ℕ) (x : Clause)
         (st before : State) (r : Result A ScopeFault) (r' : Result B ScopeFault) (fault : ScopeFault)
-        (after : List (List ℕ)) → Led s i st → i < length all → x ≡ get_or all i x → r ≡ Err fault → r' ≡ Err fault
+        (after : List (List ℕ)) → Led s i st → i < length all → x ≡ get_or all i x → r ≡ Err fault
+        → r' ≡ Err fault
         → Visits f (W.clause s (clause_tree x) st) r before → Visits g whole r' after
     clause_has_fault f g s i x st before r r' fault after led h at is is' fails =
         subst (λ o. Visits g o r' after)
@@ -66,7 +70,8 @@ module _ (held : List Held) (outer : Numbering) (with : List (List ℕ)) (all : 
     -- the expression of RETURN has a fault
     pub result_has_fault : {A B : Type 0} (f : A → ExprTree) (g : B → QueryTree) (s here : Site) (i : ℕ)
         (st before : State) (r : Result A ScopeFault) (r' : Result B ScopeFault) (fault : ScopeFault)
-        (after : List (List ℕ)) → Led s i st → drop i all ≡ [] → here ≡ among s.own → r ≡ Err fault → r' ≡ Err fault
+        (after : List (List ℕ)) → Led s i st → drop i all ≡ [] → here ≡ among s.own → r ≡ Err fault
+        → r' ≡ Err fault
         → Visits f (W.expr here e st) r before → Visits g whole r' after
     result_has_fault f g s here i st before r r' fault after led done inner is is' fails =
         subst (λ o. Visits g o r' after) (sym (ends s i st led done))
@@ -74,7 +79,8 @@ module _ (held : List Held) (outer : Numbering) (with : List (List ℕ)) (all : 
         (subst (λ a. Visits f (W.expr a e st) r before) inner fails))
 
     -- the query, with its expression
-    pub gives_query : (s here : Site) (i : ℕ) (st last : State) (found : ExprTree) → Led s i st → drop i all ≡ []
+    pub gives_query : (s here : Site) (i : ℕ) (st last : State) (found : ExprTree) → Led s i st
+        → drop i all ≡ []
         → here ≡ among s.own → W.expr here e st ≡ Ok (found, last)
         → whole ≡ Ok (query with (view.clauses last.lets) distinct found, last.said)
     gives_query s here i st last found led done inner h =

@@ -20,7 +20,7 @@ use Rattle.aql_names.specs.Options.{no_settings}
 use Rattle.aql_names.specs.Faults.{first, new_names, visible_variables, unless, traversal_variables, edge_collections}
 use Rattle.aql_names.specs.Visit as W
 use Rattle.aql_names.specs.Visit.{Site, State, Outcome, Visits, Judges, on, judge, beside, next}
-use Rattle.aql_names.proofs.Words.{lifted_clause, named_into, paths_clause, walk_done}
+use Rattle.aql_names.proofs.Words.{lifted_clause, named_into, paths_clause, traversal_done}
 
 -- where a part gives something, what follows goes on with it
 pub given_on : {A B R S : Type 0} (o : Outcome A R) (k : A → R → Outcome B S) (a : A) (r : R)
@@ -42,19 +42,19 @@ fault_on f g o k SubqueryNotAllowed before after h = ap (λ p. on p k) h
 fault_on f g o k (BadOption n) before after h = ap (λ p. on p k) h
 
 -- what is said of the names alone holds of the state with the clauses so far
-pub beside_walks : {A T : Type 0} (f : A → T) (lets : List ClauseTree) (o : Outcome T (List (List ℕ)))
+pub beside_visits : {A T : Type 0} (f : A → T) (lets : List ClauseTree) (o : Outcome T (List (List ℕ)))
     (r : Result A ScopeFault) (said : List (List ℕ))
     → Visits f o r said → Visits f (beside lets o) r (record { said = said; lets = lets })
-beside_walks f lets o (Ok a) said h = ap (beside lets) h
-beside_walks f lets o (Err Memory) said h = tt
-beside_walks f lets o (Err (UnknownName n)) said h = ap (beside lets) h
-beside_walks f lets o (Err (Redeclared n)) said h = ap (beside lets) h
-beside_walks f lets o (Err (UnknownCollection n)) said h = ap (beside lets) h
-beside_walks f lets o (Err (UnknownFunction n)) said h = ap (beside lets) h
-beside_walks f lets o (Err (WrongArity n given)) said h = ap (beside lets) h
-beside_walks f lets o (Err (NotEdge n)) said h = ap (beside lets) h
-beside_walks f lets o (Err SubqueryNotAllowed) said h = ap (beside lets) h
-beside_walks f lets o (Err (BadOption n)) said h = ap (beside lets) h
+beside_visits f lets o (Ok a) said h = ap (beside lets) h
+beside_visits f lets o (Err Memory) said h = tt
+beside_visits f lets o (Err (UnknownName n)) said h = ap (beside lets) h
+beside_visits f lets o (Err (Redeclared n)) said h = ap (beside lets) h
+beside_visits f lets o (Err (UnknownCollection n)) said h = ap (beside lets) h
+beside_visits f lets o (Err (UnknownFunction n)) said h = ap (beside lets) h
+beside_visits f lets o (Err (WrongArity n given)) said h = ap (beside lets) h
+beside_visits f lets o (Err (NotEdge n)) said h = ap (beside lets) h
+beside_visits f lets o (Err SubqueryNotAllowed) said h = ap (beside lets) h
+beside_visits f lets o (Err (BadOption n)) said h = ap (beside lets) h
 
 -- a fault of a part, by the answers of the two functions
 pub fault_through : {A B T U R S : Type 0} (f : A → T) (g : B → U) (o : Outcome T R)
@@ -83,18 +83,19 @@ steps_by_step s found (view.name n) ps st = refl
 steps_by_step s found (view.at e) ps st =
     sym (on_on (W.expr s e st) (λ f later. Ok (view.at f, later))
     (λ q later. W.steps s (found ++ q ∷ []) (view.steps ps) later))
-steps_by_step s found (view.inline filter gives) ps st = by (W.maybe (W.inline_site s) (view.maybe filter) st) where
-  go_on : StepPart → State → Outcome (List StepPart) State
-  go_on q later = W.steps s (found ++ q ∷ []) (view.steps ps) later
+steps_by_step s found (view.inline filter gives) ps st =
+    by (W.maybe (W.inline_site s) (view.maybe filter) st) where
+      go_on : StepPart → State → Outcome (List StepPart) State
+      go_on q later = W.steps s (found ++ q ∷ []) (view.steps ps) later
 
-  rest : Option ExprTree → State → Outcome (Option ExprTree) State
-  rest f later = W.maybe (W.inline_site s) (view.maybe gives) later
+      rest : Option ExprTree → State → Outcome (Option ExprTree) State
+      rest f later = W.maybe (W.inline_site s) (view.maybe gives) later
 
-  by : (o : Outcome (Option ExprTree) State)
-      → on o (λ f later. on (rest f later) (λ g last. go_on (view.inline f g) last))
-      ≡ on (on o (λ f later. on (rest f later) (λ g last. Ok (view.inline f g, last)))) go_on
-  by (Err fault) = refl
-  by (Ok p) = sym (on_on (rest p.0 p.1) (λ g last. Ok (view.inline p.0 g, last)) go_on)
+      by : (o : Outcome (Option ExprTree) State)
+          → on o (λ f later. on (rest f later) (λ g last. go_on (view.inline f g) last))
+          ≡ on (on o (λ f later. on (rest f later) (λ g last. Ok (view.inline f g, last)))) go_on
+      by (Err fault) = refl
+      by (Ok p) = sym (on_on (rest p.0 p.1) (λ g last. Ok (view.inline p.0 g, last)) go_on)
 
 -- a list from a place on begins with the element there
 pub from_here : {A : Type 0} (all : List A) (i : ℕ) (x : A) → i < length all → x ≡ get_or all i x
@@ -143,7 +144,7 @@ let_of_query f s x e q said lets r after is h =
     subst (λ o. Visits f o r (record { said = after; lets = lets }))
     (sym (ap (λ (t : ExprTree). W.clause s (let_be x t) (record { said = said; lets = lets })) is
     ∙ lifted_clause s x q (record { said = said; lets = lets })))
-    (beside_walks f lets (W.let_subquery s x q said) r after h)
+    (beside_visits f lets (W.let_subquery s x q said) r after h)
 
 abbrev pub is_subquery : ExprTree → Bool
 is_subquery (subquery q) = true
@@ -188,21 +189,23 @@ pub into_given : {A : Type 0} (f : A → Option IntoPart × Numbering) (s : Site
     → Visits f (W.visit_into s inner (view.into_tree (Some (x, m, keep))) st) r after
 into_given f s inner x m e keep names st r after is same h =
     subst (λ o. Visits f o r after)
-    (ap₂ (λ (n : Option ExprTree) ns. W.visit_into s inner (view.into_tree (Some (x, n, ns))) st) (sym is) same) h
+    (ap₂ (λ (n : Option ExprTree) ns. W.visit_into s inner (view.into_tree (Some (x, n, ns))) st)
+    (sym is) same) h
 
 -- INTO without one
 pub into_by_names : {A : Type 0} (f : A → Option IntoPart × Numbering) (s : Site) (inner : Numbering)
     (x : Ident)
     (m : Option ExprTree) (keep names said : List (List ℕ)) (lets : List ClauseTree) (r : Result A ScopeFault)
     (after : List (List ℕ)) → m ≡ None → names ≡ keep → Visits f (W.into_object s inner x names said) r after
-    → Visits f (W.visit_into s inner (view.into_tree (Some (x, m, keep))) (record { said = said; lets = lets })) r
+    → Visits f
+    (W.visit_into s inner (view.into_tree (Some (x, m, keep))) (record { said = said; lets = lets })) r
     (record { said = after; lets = lets })
 into_by_names f s inner x m keep names said lets r after is same h =
     subst (λ o. Visits f o r (record { said = after; lets = lets }))
     (sym (named_into s inner x names (record { said = said; lets = lets }))
     ∙ ap₂ (λ (n : Option ExprTree) ns. W.visit_into s inner (view.into_tree (Some (x, n, ns)))
     (record { said = said; lets = lets })) (sym is) same)
-    (beside_walks f lets (W.into_object s inner x names said) r after h)
+    (beside_visits f lets (W.into_object s inner x names said) r after h)
 
 -- what INTO of the code says, part by part
 pub into_parts_of : (i : Into) → into_part i ≡ (i.var, option_map tree i.what, i.keep)
@@ -211,20 +214,25 @@ into_parts_of i = search (rules, into_lemmas)
 -- ---- traversals
 
 -- where names and depth are in order, the clause of a traversal goes on with its parts
-pub walk_goes_on : (s : Site) (w : TraversalShape) (e : ExprTree) (cs : List (List ℕ)) (prune : MaybeExpr)
+pub traversal_goes_on : (s : Site) (w : TraversalShape) (e : ExprTree) (cs : List (List ℕ))
+    (prune : MaybeExpr)
     (ms : MemberTrees) (st : State)
     → new_names (visible_variables (W.place s)) [] (traversal_variables w) ≡ None
     → unless (nat_le w.min w.max) (BadOption (codes "depth")) ≡ None
     → W.clause s (traversal w e cs prune ms) st
     ≡ on (W.traversal_parts s (traversal_names (next st.said) w s.own) e cs prune ms
     (W.say_all (traversal_variables w) st))
-    (λ r later. Ok (walk_done w (next st.said) cs ms (traversal_names (next st.said) w s.own) r, later))
-walk_goes_on s w e cs prune ms st new depth =
+    (λ r later. Ok (traversal_done w (next st.said) cs ms (traversal_names (next st.said) w s.own) r, later))
+traversal_goes_on s w e cs prune ms st new depth =
     paths_clause s w e cs prune ms st
     ∙ ap₂ (λ f g. judge f
     (judge g (on (W.traversal_parts s (traversal_names (next st.said) w s.own) e cs prune ms
     (W.say_all (traversal_variables w) st))
-    (λ r later. Ok (walk_done w (next st.said) cs ms (traversal_names (next st.said) w s.own) r, later))))) new depth
+    (λ r later. Ok (
+      traversal_done w (next st.said) cs ms
+          (traversal_names (next st.said) w s.own) r,
+      later,
+    ))))) new depth
 
 first_left : (f g : Option ScopeFault) → first f g ≡ None → f ≡ None
 first_left None g h = refl
@@ -240,7 +248,8 @@ judged_both (Some x) g o fault h = cc
 judged_both None (Some x) o fault h = cc
 judged_both None None o fault h = absurd (cc)
 
-both_judged : {A T S : Type 0} (B : Type 0) (k : A → T) (f g : Option ScopeFault) (o : Outcome T S) (fault : ScopeFault)
+both_judged : {A T S : Type 0} (B : Type 0) (k : A → T) (f g : Option ScopeFault) (o : Outcome T S)
+    (fault : ScopeFault)
     (after : S) → Judges {A = B} (first f g) (Err fault) → Visits k (judge f (judge g o)) (Err fault) after
 both_judged B k f g o Memory after h = tt
 both_judged B k f g o (UnknownName n) after h = judged_both f g o _ h
@@ -255,7 +264,8 @@ both_judged B k f g o (BadOption n) after h = judged_both f g o _ h
 -- what is judged of a traversal before its parts
 abbrev pub head_fault : Site → TraversalShape → Option ScopeFault
 head_fault s w =
-    first (new_names (visible_variables (W.place s)) [] (traversal_variables w)) (unless (nat_le w.min w.max) (BadOption (codes "depth")))
+    first (new_names (visible_variables (W.place s)) [] (traversal_variables w))
+    (unless (nat_le w.min w.max) (BadOption (codes "depth")))
 
 pub head_new : (s : Site) (w : TraversalShape) → head_fault s w ≡ None
     → new_names (visible_variables (W.place s)) [] (traversal_variables w) ≡ None
@@ -280,13 +290,14 @@ head_has_fault {A} {B} k s w e cs prune ms st r r' fault after is is' h =
     rest =
         on (W.traversal_parts s (traversal_names (next st.said) w s.own) e cs prune ms
         (W.say_all (traversal_variables w) st))
-        (λ r later. Ok (walk_done w (next st.said) cs ms (traversal_names (next st.said) w s.own) r, later))
+        (λ r later. Ok
+        (traversal_done w (next st.said) cs ms (traversal_names (next st.said) w s.own) r, later))
 
 module _ (s : Site) (w : TraversalShape) (e : ExprTree) (cs : List (List ℕ)) (prune : MaybeExpr)
-    (ms : MemberTrees) (said behind : List (List ℕ)) (lets : List ClauseTree) (more : Numbering)
+    (ms : MemberTrees) (said names_after : List (List ℕ)) (lets : List ClauseTree) (more : Numbering)
     (new : new_names (visible_variables (W.place s)) [] (traversal_variables w) ≡ None)
     (depth : unless (nat_le w.min w.max) (BadOption (codes "depth")) ≡ None)
-    (said_is : behind ≡ said ++ map text_of (traversal_variables w))
+    (said_is : names_after ≡ said ++ map text_of (traversal_variables w))
     (more_is : more ≡ traversal_names (next said) w s.own)
   where
     start : State
@@ -295,38 +306,46 @@ module _ (s : Site) (w : TraversalShape) (e : ExprTree) (cs : List (List ℕ)) (
     parts_of : List (List ℕ) → Numbering → Outcome (ExprTree × Option ExprTree × Written) State
     parts_of names all = W.traversal_parts s all e cs prune ms (record { said = names; lets = lets })
 
-    pub walk_has_fault : {A B : Type 0} (f : A → W.Done) (g : B → ExprTree × Option ExprTree × Written)
+    pub traversal_has_fault : {A B : Type 0} (f : A → W.Done) (g : B → ExprTree × Option ExprTree × Written)
         (r : Result B ScopeFault) (r' : Result A ScopeFault) (fault : ScopeFault) (before after : State)
         → r ≡ Err fault → r' ≡ Err fault
-        → Visits g (W.traversal_parts s more e cs prune ms (record { said = behind; lets = lets })) r before
+        → Visits g
+        (W.traversal_parts s more e cs prune ms (record { said = names_after; lets = lets })) r before
         → Visits f (W.clause s (traversal w e cs prune ms) (record { said = said; lets = lets })) r' after
     unfolding start parts_of
-    walk_has_fault f g r r' fault before after is is' h =
-        subst (λ o. Visits f o r' after) (sym (walk_goes_on s w e cs prune ms start new depth))
+    traversal_has_fault f g r r' fault before after is is' h =
+        subst (λ o. Visits f o r' after) (sym (traversal_goes_on s w e cs prune ms start new depth))
         (fault_through g f _ _ r r' fault before after is is'
         (subst (λ o. Visits g o r before) (ap₂ parts_of said_is more_is) h))
 
-    pub walk_has_parts : (parts : ExprTree × Option ExprTree × Written) (after : State)
-        → W.traversal_parts s more e cs prune ms (record { said = behind; lets = lets }) ≡ Ok (parts, after)
+    pub traversal_has_parts : (parts : ExprTree × Option ExprTree × Written) (after : State)
+        → W.traversal_parts s more e cs prune ms (record { said = names_after; lets = lets })
+        ≡ Ok (parts, after)
         → W.clause s (traversal w e cs prune ms) (record { said = said; lets = lets })
-        ≡ Ok (walk_done w (next said) cs ms more parts, after)
+        ≡ Ok (traversal_done w (next said) cs ms more parts, after)
     unfolding start parts_of
-    walk_has_parts parts after h =
-        walk_goes_on s w e cs prune ms start new depth
+    traversal_has_parts parts after h =
+        traversal_goes_on s w e cs prune ms start new depth
         ∙ given_on _ _ parts after (sym (ap₂ parts_of said_is more_is) ∙ h)
-        ∙ ap (λ all. Ok (walk_done w (next said) cs ms all parts, after)) (sym more_is)
+        ∙ ap (λ all. Ok (traversal_done w (next said) cs ms all parts, after)) (sym more_is)
 
 -- the shape with numbers, by its parts
 pub shape_is : (w : TraversalShape) (n : ℕ) (o : TraversalOptions) (v : Ident) (e p : Option Ident)
     → v ≡ (number_traversal n w).vertex → e ≡ (number_traversal n w).edge → p ≡ (number_traversal n w).path
-    → ◌≡◌ {A = TraversalShape} (record w { vertex = v; edge = e; path = p; options = o }) (W.shape_with o (number_traversal n w))
+    → ◌≡◌ {A = TraversalShape} (record w { vertex = v; edge = e; path = p; options = o })
+    (W.shape_with o (number_traversal n w))
 shape_is w n o v e p is_v is_e is_p =
     ap₂ (λ x y. let t : TraversalShape = record w { vertex = x; edge = y; path = p; options = o } in t) is_v
     is_e
-    ∙ ap (λ z. let t : TraversalShape = record w { vertex = (number_traversal n w).vertex; edge = (number_traversal n w).edge; path = z; options = o } in t) is_p
+    ∙ ap (λ z. let t : TraversalShape = record w {
+      vertex = (number_traversal n w).vertex;
+      edge = (number_traversal n w).edge;
+      path = z;
+      options = o;
+    } in t) is_p
 
 -- what a traversal of the code says, part by part
-pub walk_parts_of : (t : Traversal)
+pub traversal_parts_of : (t : Traversal)
     → traversal_part t ≡ (
       record {
         vertex = t.vertex;
@@ -342,7 +361,7 @@ pub walk_parts_of : (t : Traversal)
       option_map tree t.prune,
       (options_part t.options).0,
     )
-walk_parts_of t = search (rules, traversal_lemmas)
+traversal_parts_of t = search (rules, traversal_lemmas)
 
 -- where the settings of a traversal have a fault, so has the traversal
 pub settings_have_fault : {A B : Type 0} (f : A → ExprTree × Option ExprTree × Written) (g : B → Written)
@@ -354,13 +373,15 @@ pub settings_have_fault : {A B : Type 0} (f : A → ExprTree × Option ExprTree 
     → W.maybe (W.inline_site (W.with_own more s)) prune second ≡ Ok (tested, third)
     → r ≡ Err fault → r' ≡ Err fault → Visits g (W.settings inner no_settings ms third) r last
     → Visits f (W.traversal_parts s more e cs prune ms st) r' last
-settings_have_fault f g s more e cs prune ms st second third last here inner start tested r r' fault here_is inner_is
+settings_have_fault f g s more e cs prune ms st second third last here inner start tested r r' fault here_is
+    inner_is
     found edges pruned is is' h =
     subst (λ o. Visits f o r' last)
     (sym (ap (λ a. W.traversal_parts a more e cs prune ms st) refl
     ∙ given_on (W.expr s e st) _ start second (subst (λ a. W.expr a e st ≡ Ok (start, second)) here_is found)
     ∙ ap (λ none. judge none (on (W.maybe (W.inline_site (W.with_own more s)) prune second) (λ p later.
-    on (W.settings (W.inline_site s) no_settings ms later) (λ written st'. Ok ((start, p, written), st'))))) edges
+    on (W.settings (W.inline_site s) no_settings ms later) (λ written st'. Ok ((start, p, written), st')))))
+    edges
     ∙ given_on (W.maybe (W.inline_site (W.with_own more s)) prune second) _ tested third pruned))
     (fault_through g f (W.settings (W.inline_site s) no_settings ms third) _ r r' fault last last is is'
     (subst (λ a. Visits g (W.settings a no_settings ms third) r last) inner_is h))

@@ -13,11 +13,11 @@ ghost use Rattle.aql_names.specs.Visit.{Visits, site_of, site_within, state};
 ghost use Rattle.aql_names.specs.Options.{no_settings};
 
 use aql_names::{
-    At, NameList, Scope, ScopeFault, WalkParts, Written, aggregate_item, check_aggregate,
+    At, NameList, Scope, ScopeFault, TraversalParts, Written, aggregate_item, check_aggregate,
     check_args, check_collections, check_edges, check_kept, check_setting, check_settings,
     computed_setting, copy_texts, declare, declare_new, define, define_query, documents_clause,
-    each_step, enter_new, for_each, for_name, into_names, lift_query, open_walk, single_name,
-    variable, walk_of,
+    each_step, enter_new, for_each, for_name, into_names, lift_query, open_traversal, single_name,
+    traversal_of, variable,
 };
 use aql_tree::{
     AggregateItem, Aggregates, Clause, Clauses, Collect, Expr, Exprs, Field, Fields, Ident, Into,
@@ -301,7 +301,7 @@ fn clause(
     match item {
         Clause::For { var, list } => for_clause(list, var, at, scope, said, lets),
         Clause::ForDocs { var, collection } => documents_clause(var, collection, at, scope, said),
-        Clause::Walk(traversal) => walk_clause(traversal, at, scope, said, lets),
+        Clause::Traversal(traversal) => clause_of_traversal(traversal, at, scope, said, lets),
         Clause::Filter(test) => Ok(Clause::Filter(expr(test, &at.within(scope), said, lets)?)),
         Clause::Let { var, expr } => let_clause(expr, var, at, scope, said, lets),
         Clause::Sort(keys) => {
@@ -420,7 +420,7 @@ fn let_value(
 
 // A traversal: its names are visible in its PRUNE, and not in its OPTIONS.
 #[cycle(walk)]
-fn walk_clause(
+fn clause_of_traversal(
     traversal: &Traversal,
     at: &At<'_>,
     scope: &mut Scope,
@@ -433,23 +433,23 @@ fn walk_clause(
         (state said.old lets.old)) result (state said.new lets.new) }
     ensures outer { scope.new.outer ≡ scope.old.outer }
 {
-    let head = open_walk(at.alloc, traversal, scope, said)?;
-    let parts = walk_parts(traversal, at, scope, &head.behind, said, lets)?;
-    Ok(walk_of(at.alloc, traversal, head, parts, scope))
+    let head = open_traversal(at.alloc, traversal, scope, said)?;
+    let parts = parts_of_traversal(traversal, at, scope, &head.names_after, said, lets)?;
+    Ok(traversal_of(at.alloc, traversal, head, parts, scope))
 }
 
-// The parts of a traversal, where `behind` are the names that its PRUNE sees.
+// The parts of a traversal, where `names_after` are the names that its PRUNE sees.
 #[cycle(walk)]
-fn walk_parts(
+fn parts_of_traversal(
     traversal: &Traversal,
     at: &At<'_>,
     scope: &Scope,
-    behind: &NameList,
+    names_after: &NameList,
     said: &mut Names,
     lets: &mut Clauses,
-) -> Result<WalkParts, ScopeFault>
+) -> Result<TraversalParts, ScopeFault>
     ensures { Visits (λ p. (tree p.start.value, option_map (λ b. tree b.value) p.prune, p.written))
-        (visit.traversal_parts (site_within at.now scope.now) behind.now
+        (visit.traversal_parts (site_within at.now scope.now) names_after.now
         (traversal_part traversal.now).1
         (traversal_part traversal.now).2 (maybe_tree (traversal_part traversal.now).3)
         (member_trees (traversal_part traversal.now).4) (state said.old lets.old))
@@ -457,9 +457,9 @@ fn walk_parts(
 {
     let start = boxed_expr(&traversal.start, &at.within(scope), said, lets)?;
     check_edges(at.alloc, at.catalog, traversal.collections.as_slice())?;
-    let prune = prune_condition(&traversal.prune, at, scope, behind, said, lets)?;
+    let prune = prune_condition(&traversal.prune, at, scope, names_after, said, lets)?;
     let written = written_options(&traversal.options, &at.within(scope).inline(), said, lets)?;
-    Ok(WalkParts {
+    Ok(TraversalParts {
         start,
         prune,
         written,
@@ -486,16 +486,17 @@ fn prune_condition(
     prune: &Option<Expr>,
     at: &At<'_>,
     scope: &Scope,
-    behind: &NameList,
+    names_after: &NameList,
     said: &mut Names,
     lets: &mut Clauses,
 ) -> Result<Option<Box<Expr>>, ScopeFault>
     ensures { Visits (option_map (λ b. tree b.value))
-        (visit.maybe (visit.inline_site (visit.with_own behind.now (site_within at.now scope.now)))
+        (visit.maybe
+        (visit.inline_site (visit.with_own names_after.now (site_within at.now scope.now)))
         (maybe_tree (option_map tree prune.now)) (state said.old lets.old))
         result (state said.new lets.new) }
 {
-    let around = scope.with_own(at.alloc, behind)?;
+    let around = scope.with_own(at.alloc, names_after)?;
     maybe(prune, &at.within(&around).inline(), said, lets)
 }
 
@@ -565,18 +566,24 @@ fn collect_clause(
         (state said.old lets.old)) result (state said.new lets.new) }
     ensures outer { scope.new.outer ≡ scope.old.outer }
 {
-    let mut behind = NameList::new(at.alloc);
+    let mut names_after = NameList::new(at.alloc);
     let site = at.within(scope);
-    let groups = criteria(collect.groups.as_slice(), &site, &mut behind, said, lets)?;
-    let found = aggregates(
-        collect.aggregates.as_slice(),
+    let groups = criteria(
+        collect.groups.as_slice(),
         &site,
-        &mut behind,
+        &mut names_after,
         said,
         lets,
     )?;
-    let into = into_part_of(&collect.into, &site, &mut behind, said, lets)?;
-    scope.replace_own(behind);
+    let found = aggregates(
+        collect.aggregates.as_slice(),
+        &site,
+        &mut names_after,
+        said,
+        lets,
+    )?;
+    let into = into_part_of(&collect.into, &site, &mut names_after, said, lets)?;
+    scope.replace_own(names_after);
     Ok(Clause::Collect(Collect {
         groups,
         aggregates: found,
@@ -588,19 +595,21 @@ fn collect_clause(
 fn criteria(
     all: &[Let],
     at: &At<'_>,
-    behind: &mut NameList,
+    names_after: &mut NameList,
     said: &mut Names,
     lets: &mut Clauses,
 ) -> Result<Lets, ScopeFault>
     ensures { Visits
-        (λ ls. (map (λ l. l.0) (map let_part ls), map (λ l. l.1) (map let_part ls), behind.new))
-        (visit.criteria (site_of at.now) behind.old [] [] (map (λ l. l.0) (map let_part all.now))
+        (λ ls.
+        (map (λ l. l.0) (map let_part ls), map (λ l. l.1) (map let_part ls), names_after.new))
+        (visit.criteria (site_of at.now) names_after.old [] []
+        (map (λ l. l.0) (map let_part all.now))
         (trees (map (λ l. l.1) (map let_part all.now))) (state said.old lets.old))
         result (state said.new lets.new) }
 {
     let mut found = Seq::new(at.alloc);
     for item in all {
-        let number = enter_new(at, &item.var, behind, said)?;
+        let number = enter_new(at, &item.var, names_after, said)?;
         let value = expr(&item.expr, at, said, lets)?;
         found.push(Let {
             var: Ident::Num(number),
@@ -614,18 +623,18 @@ fn criteria(
 fn aggregates(
     all: &[AggregateItem],
     at: &At<'_>,
-    behind: &mut NameList,
+    names_after: &mut NameList,
     said: &mut Names,
     lets: &mut Clauses,
 ) -> Result<Aggregates, ScopeFault>
-    ensures { Visits (λ gs. (map aggregate_part gs, behind.new))
-        (visit.aggregates (site_of at.now) behind.old []
+    ensures { Visits (λ gs. (map aggregate_part gs, names_after.new))
+        (visit.aggregates (site_of at.now) names_after.old []
         (aggregate_trees (map aggregate_part all.now))
         (state said.old lets.old)) result (state said.new lets.new) }
 {
     let mut found = Seq::new(at.alloc);
     for item in all {
-        let number = enter_new(at, &item.var, behind, said)?;
+        let number = enter_new(at, &item.var, names_after, said)?;
         check_aggregate(at.alloc, &item.name, &item.arg)?;
         let arg = maybe(&item.arg, at, said, lets)?;
         found.push(aggregate_item(at.alloc, number, &item.name, arg)?)?;
@@ -638,16 +647,17 @@ fn aggregates(
 fn into_part_of(
     into: &Option<Into>,
     at: &At<'_>,
-    behind: &mut NameList,
+    names_after: &mut NameList,
     said: &mut Names,
     lets: &mut Clauses,
 ) -> Result<Option<Into>, ScopeFault>
-    ensures { Visits (λ i. (option_map into_part i, behind.new))
-        (visit.visit_into (site_of at.now) behind.old (into_tree (option_map into_part into.now))
+    ensures { Visits (λ i. (option_map into_part i, names_after.new))
+        (visit.visit_into (site_of at.now) names_after.old
+        (into_tree (option_map into_part into.now))
         (state said.old lets.old)) result (state said.new lets.new) }
 {
     match into {
-        Some(into) => Ok(Some(into_some(into, at, behind, said, lets)?)),
+        Some(into) => Ok(Some(into_some(into, at, names_after, said, lets)?)),
         None => Ok(None),
     }
 }
@@ -657,12 +667,12 @@ fn into_part_of(
 fn into_some(
     into: &Into,
     at: &At<'_>,
-    behind: &mut NameList,
+    names_after: &mut NameList,
     said: &mut Names,
     lets: &mut Clauses,
 ) -> Result<Into, ScopeFault>
-    ensures { Visits (λ i. (Some (into_part i), behind.new))
-        (visit.visit_into (site_of at.now) behind.old (into_tree (Some (into_part into.now)))
+    ensures { Visits (λ i. (Some (into_part i), names_after.new))
+        (visit.visit_into (site_of at.now) names_after.old (into_tree (Some (into_part into.now)))
         (state said.old lets.old)) result (state said.new lets.new) }
 {
     match &into.what {
@@ -671,11 +681,11 @@ fn into_some(
             &into.var,
             into.keep.as_slice(),
             at,
-            behind,
+            names_after,
             said,
             lets,
         ),
-        None => into_names(&into.var, into.keep.as_slice(), at, behind, said),
+        None => into_names(&into.var, into.keep.as_slice(), at, names_after, said),
     }
 }
 
@@ -685,16 +695,16 @@ fn into_expr(
     var: &Ident,
     keep: &[Text],
     at: &At<'_>,
-    behind: &mut NameList,
+    names_after: &mut NameList,
     said: &mut Names,
     lets: &mut Clauses,
 ) -> Result<Into, ScopeFault>
-    ensures { Visits (λ i. (Some (into_part i), behind.new))
-        (visit.visit_into (site_of at.now) behind.old
+    ensures { Visits (λ i. (Some (into_part i), names_after.new))
+        (visit.visit_into (site_of at.now) names_after.old
         (spec.into var.now (spec.one_expr (tree what.now)) keep.now)
         (state said.old lets.old)) result (state said.new lets.new) }
 {
-    let number = enter_new(at, var, behind, said)?;
+    let number = enter_new(at, var, names_after, said)?;
     let what = expr(what, at, said, lets)?;
     check_kept(at.alloc, &at.scope.own, keep)?;
     Ok(Into::new(Ident::Num(number), Some(what), Seq::new(at.alloc)))

@@ -93,7 +93,8 @@ module _ (db : Database) where
           map (λ r. value e null r) (all_kept cs rows),
           (
             rows,
-            subst (λ (rs : List Row). IsPermutation rs rows) (sym (append-nil rows)) (IsPermutation-refl rows),
+            subst (λ (rs : List Row). IsPermutation rs rows) (sym (append-nil rows))
+                (IsPermutation-refl rows),
             through_filters cs h k.1 empty_row (Num n ∷ []) rows,
           ),
           values_are e p (all_kept cs rows),

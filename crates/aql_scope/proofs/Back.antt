@@ -88,7 +88,7 @@ pub clauses_of_lets : (ts : List NumberedSubquery) (cs : ClauseTrees)
 clauses_of_lets [] cs = refl
 clauses_of_lets (t ∷ ts) cs = ap (λ ls. let_of t ∷ ls) (clauses_of_lets ts cs)
 
--- clauses with the LETs of what was taken out behind them
+-- clauses with the LETs of what was taken out after them
 pub clauses_followed : (cs : ClauseTrees) (ts : List NumberedSubquery)
     → view.clauses (clauses_of cs ++ map let_of ts) ≡ append_clauses cs (with_lets ts no_clauses)
 clauses_followed no_clauses [] = refl

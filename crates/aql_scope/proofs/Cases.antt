@@ -22,7 +22,7 @@ use Rattle.aql_names.specs.Visit as W
 use Rattle.aql_names.specs.Visit.{Site, State, Outcome, place, visible, next, say, say_all, on, judge, variable_at, source, keep_state, inline_site, with_own, shape_with, options_after}
 use Rattle.aql_scope.proofs.Outcomes.{let_of, after, outcome, state_is, outcome_whole, used, same_where, judged_first, then_is, declared, quiet, alone, next_append, placed_nothing, placed_one}
 use Rattle.aql_scope.proofs.Back.{option_of, maybe_back}
-use Rattle.aql_scope.proofs.Seen.{idents_append, seen_is, placed_walk}
+use Rattle.aql_scope.proofs.Seen.{idents_append, seen_is, placed_traversal}
 use Rattle.aql_scope.proofs.PlainWhere.{plain_maybe}
 use Rattle.aql_scope.proofs.Settled.{settled, options_settled}
 use Rattle.aql_scope.proofs.Claims.{ExprIs, MaybeIs, SettingsAre, QueryIs, ClauseIs, open_site, done, query_outcome}
@@ -155,7 +155,7 @@ let_subquery x q is held outer own st =
 
 -- ---- traversals
 
--- what stands behind the start of a traversal, whose tree is f
+-- what stands after the start of a traversal, whose tree is f
 behind_start : (w : TraversalShape) (f : ExprTree) (cs : List (List ℕ)) (prune : MaybeExpr) (ms : MemberTrees)
     → MaybeIs prune → SettingsAre ms → (s : Site) (n : ℕ) (g : Option ScopeFault) (later : State)
     → let more = traversal_names n w s.own in
@@ -238,7 +238,7 @@ paths_are w e cs prune ms expr_is prune_is settings_are held outer own st =
     judged_first names (first depth (rest pruned)) _ st _
     (judged_first depth (rest pruned) _ st _
     (declared (done more) (rest pruned) xs whole_of (after_traversal n w) st _
-    (placed_walk n w)
+    (placed_traversal n w)
     (then_is (λ (f : ExprTree). f) make start (first edges (first pruned set)) here
     (λ m. as_it_is (pruned_of m) m) said _ _ (expr_is s said) (placed e (visible s) (next said.said))
     (behind_start w here.tree cs prune ms prune_is settings_are s n edges (after here said))

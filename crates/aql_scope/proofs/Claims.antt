@@ -91,7 +91,7 @@ IntoIs i = (s : Site) (inner : Numbering) (st : State)
 abbrev pub open_site : List Held → Numbering → Numbering → Site
 open_site held outer own = record { own = own; outer = outer; held = held; lifts = true }
 
--- a clause with the query's own names behind it
+-- a clause with the query's own names after it
 abbrev pub done : Numbering → ClauseTree → W.Done
 done own t = (t, own)
 
@@ -101,7 +101,7 @@ ClauseIs c = (held : List Held) (outer own : Numbering) (st : State)
     ≡ outcome (in_clause (place (open_site held outer own)) c)
     (over (done (L.clause outer own (next st.said) c).own) (L.clause outer own (next st.said) c).clause) st
 
--- clauses, with the names behind them
+-- clauses, with the names after them
 abbrev pub clauses_outcome : Option ScopeFault → ScopedClauses → State → Outcome Numbering State
 clauses_outcome None s st =
     Ok (s.own, record { said = st.said ++ s.said; lets = st.lets ++ clauses_of s.clauses })

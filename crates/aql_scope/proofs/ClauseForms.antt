@@ -39,7 +39,7 @@ quiet_expr e is s st l =
     quiet (λ a. a) (in_expr (place s) e) (L.expr (visible s) (next st.said) e) (next st.said) st _ (is s st)
     (λ h. plain_takes_nothing (visible s) e (plain_where e (place s) l h) (next st.said))
 
--- what stands behind an expression from which nothing is taken
+-- what stands after an expression from which nothing is taken
 behind_quiet : {B : Type 0} (e : ExprTree) → ExprIs e → (s : Site) (g : Option ScopeFault) (t : B)
     (st : State)
     (k : ExprTree → State → Outcome B State) → s.lifts ≡ false

@@ -16,7 +16,7 @@ use Rattle.aql_names.specs.Visit.{State, Outcome, next, say_all, on, judge}
 abbrev pub let_of : NumberedSubquery → ClauseTree
 let_of t = let_be (Num t.0) (subquery t.1)
 
--- the state behind a part
+-- the state after a part
 abbrev pub after : {T : Type 0} → Scoped T → State → State
 after s st = record { said = st.said ++ s.said; lets = st.lets ++ map let_of s.subqueries }
 
@@ -69,7 +69,7 @@ after_declares : {A : Type 0} (xs : List Ident) (s : Scoped A) (st : State)
     → after s (say_all xs st) ≡ after (declares xs s) st
 after_declares xs s st = state_is _ _ _ _ (append_assoc st.said (map text_of xs) s.said) refl
 
--- the next number behind these names
+-- the next number after these names
 pub next_append : (said more : List (List ℕ)) (m : ℕ) → Placed (next said) more m → next (said ++ more) ≡ m
 next_append said more m h = let k = length-append said more in omega arith
 
@@ -96,7 +96,7 @@ pub judged_first : {A : Type 0} (f g : Option ScopeFault) (s : Scoped A) (st : S
 judged_first None g s st o e = e
 judged_first (Some fault) g s st o e = refl
 
--- a part, and what is done behind it with what r makes of its tree
+-- a part, and what is done after it with what r makes of its tree
 pub then_is : {A R B C : Type 0} (r : A → R) (h : A → B → C) (f g : Option ScopeFault) (s : Scoped A)
     (t : ℕ → Scoped B) (st : State) (o : Outcome R State) (k : R → State → Outcome C State)
     → o ≡ outcome f (over r s) st → Placed (next st.said) s.said s.next
@@ -109,7 +109,7 @@ then_is r h None None s t st o k e p d =
 then_is r h None (Some fault) s t st o k e p d = ap (λ p. on p k) e ∙ d
 then_is r h (Some fault) g s t st o k e p d = ap (λ p. on p k) e
 
--- a part behind declared variables
+-- a part after declared variables
 pub declared : {A B : Type 0} (r : A → B) (f : Option ScopeFault) (xs : List Ident) (s : ℕ → Scoped A) (m : ℕ)
     (st : State) (o : Outcome B State) → Placed (next st.said) (map text_of xs) m
     → o ≡ outcome f (over r (s (next (say_all xs st).said))) (say_all xs st)
@@ -127,7 +127,7 @@ quiet r None s n st o e h =
     e ∙ ap (λ new. Ok (r s.tree, new)) (after_nothing s n st (h refl) ∙ after_whole (r s.tree) n st)
 quiet r (Some fault) s n st o e h = e
 
--- nothing is taken from what stands behind a part
+-- nothing is taken from what stands after a part
 pub alone : {A B C : Type 0} (h : A → B → C) (f : Option ScopeFault) (s : Scoped A) (b : B) (st : State)
     → outcome f (both h s (as_it_is b s.next)) st ≡ outcome f (over (λ a. h a b) s) st
 alone h None s b st =
@@ -148,7 +148,7 @@ placed_nothing n = omega arith
 pub placed_one : (n : ℕ) (x : Ident) → Placed n (map text_of (x ∷ [])) (suc n)
 placed_one n x = omega arith
 
--- a part whose tree is used where what is judged behind it has no fault
+-- a part whose tree is used where what is judged after it has no fault
 pub used_judged : {A B : Type 0} (make : A → B) (f g : Option ScopeFault) (s : Scoped A) (st : State)
     (o : Outcome A State) → o ≡ outcome f s st
     → on o (λ a new. judge g (Ok (make a, new))) ≡ outcome (first f g) (over make s) st

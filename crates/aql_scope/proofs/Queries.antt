@@ -23,7 +23,7 @@ pub no_clauses_are : ClausesAre no_clauses
 no_clauses_are held outer own st =
     ap (λ new. Ok (own, new)) (state_is _ _ _ _ (sym (append-nil st.said)) (sym (append-nil st.lets)))
 
--- a clause, the LETs before it and the clauses behind it
+-- a clause, the LETs before it and the clauses after it
 abbrev clause_and : Scoped ClauseTree → ScopedClauses → ScopedClauses
 clause_and c t = record {
   clauses = with_lets c.subqueries (clause_then c.tree t.clauses);
@@ -32,7 +32,7 @@ clause_and c t = record {
   next = t.next;
 }
 
--- the LETs before a clause, the clause and those behind it, in one list
+-- the LETs before a clause, the clause and those after it, in one list
 lets_before : (lets : List ClauseTree) (c : Scoped ClauseTree) (t : ScopedClauses)
     → ((lets ++ map let_of c.subqueries) ++ c.tree ∷ []) ++ clauses_of t.clauses
     ≡ lets ++ clauses_of (clause_and c t).clauses
@@ -41,7 +41,7 @@ lets_before lets c t =
     ∙ append_assoc lets (map let_of c.subqueries) (c.tree ∷ clauses_of t.clauses)
     ∙ ap (λ ls. lets ++ ls) (sym (clauses_of_lets c.subqueries (clause_then c.tree t.clauses)))
 
--- a clause with the names behind it, and the clauses behind it
+-- a clause with the names after it, and the clauses after it
 clause_before : (f g : Option ScopeFault) (c : Scoped ClauseTree) (own : Numbering)
     (t : ℕ → ScopedClauses) (st : State)
     (o : Outcome W.Done State) (k : W.Done → State → Outcome Numbering State)
@@ -75,7 +75,7 @@ clauses_are c cs is are held outer own st =
     (in_clauses (record { own = xs; outer = idents outer; held = held; lifts = true }) cs)
     (L.clauses outer more (next here.said) cs) here) (idents_clause c outer own n))
 
--- the names behind the clauses
+-- the names after the clauses
 behind_clauses : (cs : ClauseTrees) (held : List Held) (outer own : Numbering) (n : ℕ)
     → place (open_site held outer (L.clauses outer own n cs).own)
     ≡ after_clauses cs (place (open_site held outer own))

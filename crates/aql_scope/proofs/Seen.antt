@@ -49,8 +49,8 @@ counted_append : (xs ys : List Ident) (n : ℕ)
 counted_append [] ys n = refl
 counted_append (x ∷ xs) ys n = counted_append xs ys (suc n)
 
-pub placed_walk : (n : ℕ) (w : TraversalShape)
+pub placed_traversal : (n : ℕ) (w : TraversalShape)
     → Placed n (map text_of (traversal_variables w)) (after_traversal n w)
-placed_walk n w =
+placed_traversal n w =
     placed_all (traversal_variables w) n
     ∙ counted_append (option_to_list w.edge) (option_to_list w.path) (suc n)

@@ -18,7 +18,7 @@ use Rattle.aql_names.specs.Faults.{Place, first, unless, setting_fault, setting_
 use Rattle.aql_names.specs.Visit.{options_in, options_after}
 use Rattle.aql_scope.proofs.Outcomes.{IsFault, first_left, first_right}
 
--- what is written behind the settings
+-- what is written after the settings
 abbrev pub settled : Written → MemberTrees → Written
 settled w no_members = w
 settled w (named_then name e ms) = settled (settings_after w (setting_of name e w)) ms

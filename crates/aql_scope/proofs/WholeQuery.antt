@@ -34,19 +34,19 @@ scope_is held q =
     by (Some fault) e = e
 
 -- what a function of the program that walks a whole query answers
-pub walk_answered : {A : Type 0} (held : List Held) (q : QueryTree) (f : A → QueryTree)
+pub visit_answered : {A : Type 0} (held : List Held) (q : QueryTree) (f : A → QueryTree)
     (r : Result A ScopeFault)
     (said : List (List ℕ)) → Visits f (visit_query held [] q []) r said → ScopingGives held q f r said
-walk_answered held q f (Ok a) said h = subst (Scopes held q) h (scope_is held q)
-walk_answered held q f (Err Memory) said h = tt
-walk_answered held q f (Err (UnknownName n)) said h = subst (Scopes held q) h (scope_is held q)
-walk_answered held q f (Err (Redeclared n)) said h = subst (Scopes held q) h (scope_is held q)
-walk_answered held q f (Err (UnknownCollection n)) said h = subst (Scopes held q) h (scope_is held q)
-walk_answered held q f (Err (UnknownFunction n)) said h = subst (Scopes held q) h (scope_is held q)
-walk_answered held q f (Err (WrongArity n k)) said h = subst (Scopes held q) h (scope_is held q)
-walk_answered held q f (Err (NotEdge n)) said h = subst (Scopes held q) h (scope_is held q)
-walk_answered held q f (Err SubqueryNotAllowed) said h = subst (Scopes held q) h (scope_is held q)
-walk_answered held q f (Err (BadOption n)) said h = subst (Scopes held q) h (scope_is held q)
+visit_answered held q f (Ok a) said h = subst (Scopes held q) h (scope_is held q)
+visit_answered held q f (Err Memory) said h = tt
+visit_answered held q f (Err (UnknownName n)) said h = subst (Scopes held q) h (scope_is held q)
+visit_answered held q f (Err (Redeclared n)) said h = subst (Scopes held q) h (scope_is held q)
+visit_answered held q f (Err (UnknownCollection n)) said h = subst (Scopes held q) h (scope_is held q)
+visit_answered held q f (Err (UnknownFunction n)) said h = subst (Scopes held q) h (scope_is held q)
+visit_answered held q f (Err (WrongArity n k)) said h = subst (Scopes held q) h (scope_is held q)
+visit_answered held q f (Err (NotEdge n)) said h = subst (Scopes held q) h (scope_is held q)
+visit_answered held q f (Err SubqueryNotAllowed) said h = subst (Scopes held q) h (scope_is held q)
+visit_answered held q f (Err (BadOption n)) said h = subst (Scopes held q) h (scope_is held q)
 
 -- of a query that is lifted no PRUNE has a subquery
 pub lifted_prunes : (held : List Held) (q t : QueryTree) (said : List (List ℕ)) → IsScopedQuery held q t said
@@ -67,10 +67,11 @@ module _ {A : Type 0} (held : List Held) (q : QueryTree) (f : A → QueryTree) (
     (walked : Visits f (visit_query held visible q before) r after)
   where
     answered : ScopingGives held q f r after
-    answered = walk_answered held q f r after
+    answered = visit_answered held q f r after
         (subst (λ o. Visits f o r after) (ap₂ (λ ns ws. visit_query held ns q ws) none nothing) walked)
 
-    told : (e : ScopeFault) → ScopingGives held q f (Err e) after → (e ≡ Memory) ⊎ (in_query (outermost held) q ≡ Some e)
+    told : (e : ScopeFault) → ScopingGives held q f (Err e) after → (e ≡ Memory)
+        ⊎ (in_query (outermost held) q ≡ Some e)
     told Memory h = inl refl
     told (UnknownName n) h = inr h
     told (Redeclared n) h = inr h

@@ -32,7 +32,7 @@ impl Drop for Scoped {
 /// is not the whole right side of a LET into a LET of its own before its clause (AQL fundamentals,
 /// Subqueries), or gives the first fault in the order of the text. Every answer of the query that
 /// it gives is an answer of the query that it got.
-#[tactic(auto, using(crate::proofs::WholeQuery::walk_answered, crate::proofs::WholeQuery::answers_stay))]
+#[tactic(auto, using(crate::proofs::WholeQuery::visit_answered, crate::proofs::WholeQuery::answers_stay))]
 pub fn scope(alloc: Global, query: Query, catalog: &Catalog) -> Result<Scoped, ScopeFault>
     ensures lifted { IfOk result
         (λ s. query_tree s.query ≡ (scope_query [] 1 (query_tree query)).tree) }

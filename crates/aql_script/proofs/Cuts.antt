@@ -1,11 +1,14 @@
 -- Pieces cut off one by one are the pieces of the whole, and the lines of a script are read off it in turn.
-use Rattle.std.proofs.Common.{◌≡◌, ◌<◌, ◌≤◌, ℕ, suc, zero, ◌+◌, List, [], ◌∷◌, ◌++◌, true, false, Option, Some, None, Err, refl, sym, ap, ◌∙◌, subst, arith, length, take, drop, get_or, option_map, nat_eq, if◌then◌else◌, length-append, append_assoc}
+use Rattle.std.proofs.Common.{◌≡◌, ◌<◌, ◌≤◌, ℕ, suc, zero, ◌+◌, List, [], ◌∷◌, ◌++◌, true, false, Option, Some, None, Err, refl, sym, ap, ◌∙◌, subst, arith, length, take, drop, get_or, option_map, nat_eq, if◌then◌else◌, length-append}
 use Rattle.std.specs.Prelude.{Result, ◌==◌}
+use Rattle.std.specs.List.{onto_first, join_with_byte}
+use Rattle.std.specs.Str.Lines.{strip_carriage_return}
+use Rattle.std.proofs.lemmas.List.Splits.{join_with_byte-slice_split}
 use Rattle.std.proofs.lemmas.Bool.{false_from_ne_true}
 use Rattle.std.proofs.lemmas.Bool.Decides.{Decides-eqb}
 use Rattle.aql_doc.specs.Held.{Held}
-use Rattle.aql_script.specs.Pieces.{cut_at, pieces, onto}
-use Rattle.aql_script.specs.Lines.{Step, after, last, read, join_lines, without_cr}
+use Rattle.aql_script.specs.Pieces.{cut_at, pieces}
+use Rattle.aql_script.specs.Lines.{Step, after, last, read}
 use Rattle.aql_script.specs.declared.loading.Loaded.{Loaded}
 use Rattle.aql_script.specs.declared.faults.LoadFault.{LoadFault}
 use Rattle.aql_script.specs.declared.faults.LoadFault.TheVariants.{Line}
@@ -39,8 +42,8 @@ Cuts c bytes (Some p) = (pieces c bytes ≡ p.0 ∷ pieces c p.1) × (bytes ≡ 
 onto_cut : (c b : ℕ) (bytes : List ℕ) (o : Option (List ℕ × List ℕ)) → nat_eq b c ≡ false → Cuts c bytes o
     → Cuts c (b ∷ bytes) (option_map (λ p. (b ∷ p.0, p.1)) o)
 unfolding Cuts
-onto_cut c b bytes None off h = rw off (ap (onto b) h)
-onto_cut c b bytes (Some p) off h = (rw off (ap (onto b) h.0), ap (λ xs. b ∷ xs) h.1)
+onto_cut c b bytes None off h = rw off (ap (onto_first b) h)
+onto_cut c b bytes (Some p) off h = (rw off (ap (onto_first b) h.0), ap (λ xs. b ∷ xs) h.1)
 
 cuts : (c : ℕ) (bytes : List ℕ) → Cuts c bytes (cut_at c bytes)
 unfolding Cuts
@@ -69,31 +72,20 @@ cut_length c bytes l r e =
     let d = ap length (cut_gives c bytes l r e).1 in
     let f : length (l ++ c ∷ r) ≡ length l + length (c ∷ r) = length-append l (c ∷ r) in omega (arith, d, f)
 
--- one more piece is cut off, and the last one
-pub one_cut : (c : ℕ) (rest l r : List ℕ) (out new whole : List (List ℕ)) → Some (l, r) ≡ cut_at c rest
-    → new ≡ out ++ l ∷ [] → out ++ pieces c rest ≡ whole → new ++ pieces c r ≡ whole
-one_cut c rest l r out new whole e n inv =
-    ap (λ ps. ps ++ pieces c r) n ∙ append_assoc out (l ∷ []) (pieces c r)
-    ∙ ap (λ ps. out ++ ps) (sym (cut_gives c rest l r e).0) ∙ inv
-
-pub last_cut : (c : ℕ) (rest : List ℕ) (out new whole : List (List ℕ)) → None ≡ cut_at c rest
-    → new ≡ out ++ rest ∷ [] → out ++ pieces c rest ≡ whole → new ≡ whole
-last_cut c rest out new whole e n inv = n ∙ ap (λ ps. out ++ ps) (sym (cut_none_gives c rest e)) ∙ inv
-
 -- pieces are one at least
 record Shape (ls : List (List ℕ)) : Type 0 where
   first : List ℕ
   others : List (List ℕ)
   is : ls ≡ first ∷ others
 
-onto_shape : (b : ℕ) (ls : List (List ℕ)) → Shape (onto b ls)
+onto_shape : (b : ℕ) (ls : List (List ℕ)) → Shape (onto_first b ls)
 onto_shape b [] = record { first = b ∷ []; others = []; is = refl }
 onto_shape b (l ∷ ls) = record { first = b ∷ l; others = ls; is = refl }
 
 shape : (c : ℕ) (bytes : List ℕ) → Shape (pieces c bytes)
 shape c [] = record { first = []; others = []; is = refl }
 shape c (b ∷ bytes) =
-    elim (nat_eq b c) as (λ t. Shape (if t then [] ∷ pieces c bytes else onto b (pieces c bytes))) [
+    elim (nat_eq b c) as (λ t. Shape (if t then [] ∷ pieces c bytes else onto_first b (pieces c bytes))) [
       | true ↦ record { first = []; others = pieces c bytes; is = refl }
       | false ↦ onto_shape b (pieces c bytes)
     ]
@@ -101,42 +93,25 @@ shape c (b ∷ bytes) =
 pub one_piece : (c : ℕ) (bytes : List ℕ) → 1 ≤ length (pieces c bytes)
 one_piece c bytes = let e = ap length (shape c bytes).is in omega (arith, e)
 
-joined_onto : (b : ℕ) (ls : List (List ℕ)) → join_lines (onto b ls) ≡ b ∷ join_lines ls
-joined_onto b [] = refl
-joined_onto b (l ∷ []) = refl
-joined_onto b (l ∷ m ∷ ls) = refl
-
-joined_pieces : (bytes : List ℕ) → join_lines (pieces 10 bytes) ≡ bytes
-joined_pieces [] = refl
-joined_pieces (b ∷ bytes) =
-    elim (nat_eq b 10)
-    as (λ t. nat_eq b 10 ≡ t
-    → join_lines (if t then [] ∷ pieces 10 bytes else onto b (pieces 10 bytes)) ≡ b ∷ bytes) [
-      | true ↦ λ e.
-          (let s = shape 10 bytes in
-          ap (λ ls. join_lines ([] ∷ ls)) s.is
-          ∙ ap (λ xs. 10 ∷ xs) (ap join_lines (sym s.is) ∙ joined_pieces bytes))
-          ∙ ap (λ c. c ∷ bytes) (sym ((Decides-eqb b 10).0 e))
-      | false ↦ λ e. joined_onto b (pieces 10 bytes) ∙ ap (λ xs. b ∷ xs) (joined_pieces bytes)
-    ] refl
-
 module _ (step : ℕ → List Held → List ℕ → Step) where
   -- a line that a line feed ends
   read_line : (n : ℕ) (held : List Held) (l r : List ℕ)
       → read step n held (l ∷ pieces 10 r)
-      ≡ after (n + 1) (step (n + 1) held (without_cr l)) held (λ more. read step (n + 1) more (pieces 10 r)) r
+      ≡ after (n + 1) (step (n + 1) held (strip_carriage_return l)) held
+      (λ more. read step (n + 1) more (pieces 10 r)) r
   read_line n held l r =
       let s = shape 10 r in
-      let did = step (n + 1) held (without_cr l) in
+      let did = step (n + 1) held (strip_carriage_return l) in
       ap (λ ls. read step n held (l ∷ ls)) s.is
-      ∙ ap (λ ls. after (n + 1) did held (λ more. read step (n + 1) more ls) (join_lines ls)) (sym s.is)
+      ∙ ap (λ ls. after (n + 1) did held (λ more. read step (n + 1) more ls) (join_with_byte 10 ls))
+      (sym s.is)
       ∙ ap (λ text. after (n + 1) did held (λ more. read step (n + 1) more (pieces 10 r)) text)
-      (joined_pieces r)
+      (join_with_byte-slice_split 10 r)
 
   -- what the next line does decides how the whole goes on
   pub goes : (n : ℕ) (held : List Held) (rest l r : List ℕ) (whole : Result Loaded LoadFault) (did : Step)
       → Some (l, r) ≡ cut_at 10 rest → read step n held (pieces 10 rest) ≡ whole
-      → step (n + 1) held (without_cr l) ≡ did
+      → step (n + 1) held (strip_carriage_return l) ≡ did
       → after (n + 1) did held (λ more. read step (n + 1) more (pieces 10 r)) r ≡ whole
   goes n held rest l r whole did c inv e =
       ap (λ d. after (n + 1) d held (λ more. read step (n + 1) more (pieces 10 r)) r) (sym e)

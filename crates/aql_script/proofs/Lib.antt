@@ -1,5 +1,4 @@
 pub mod Cuts
-pub mod WordsOn
 pub mod NamesOn
 pub mod StepsOn
 pub mod LowerFaults

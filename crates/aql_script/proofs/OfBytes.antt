@@ -1,7 +1,9 @@
 -- The fault of bytes is that of a line or a limit.
 use Rattle.std.proofs.Common.{◌≡◌, ℕ, ◌+◌, ◌-◌, List, [], ◌∷◌, Bool, true, false, Option, Some, None, Ok, Err, if◌then◌else◌, nat_lt, nat_le, nat_eq, length, subst}
 use Rattle.std.specs.Prelude.{Result, is_some, IfErr}
+use Rattle.std.specs.List.{join_with_byte}
 use Rattle.std.specs.Str.{is_utf8}
+use Rattle.std.specs.Str.Lines.{strip_carriage_return}
 use Rattle.aql_value.specs.Datum.{Datum}
 use Rattle.aql_value.specs.JsonLine.{json_line}
 use Rattle.aql_value.specs.declared.reading.JsonFault.{JsonFault}
@@ -15,7 +17,7 @@ use Rattle.aql_doc.specs.declared.faults.DocFault.{DocFault}
 use Rattle.aql_doc.specs.declared.faults.DocFault.TheVariants.{NotObject, BadKey, IdMismatch, BadEdge, DuplicateKey, TooMany as DocTooMany, Memory as DocMemory}
 use Rattle.aql_script.specs.Pieces.{pieces, words, first_of}
 use Rattle.aql_script.specs.Directives.{directive}
-use Rattle.aql_script.specs.Lines.{Step, next, query, fault, after, last, read, with_query, without_cr, join_lines}
+use Rattle.aql_script.specs.Lines.{Step, next, query, fault, after, last, read, with_query}
 use Rattle.aql_script.specs.Steps.{step, by_first, directive_step, by_directive, declaration, declare_step, index, index_at, index_step, document, with_value, add_step, doc_fault, json_fault, shards_of, keys_of}
 use Rattle.aql_script.specs.Script.{lines, script, HasFault, IsOfBytes}
 use Rattle.aql_script.proofs.LowerFaults.{FaultIs, OfCatalog, OfDocument, OfJson, declared_is, indexed_is, added_is, json_is}
@@ -151,8 +153,10 @@ of_read : (n : ℕ) (held : List Held) (ls : List (List ℕ)) → IfErr (read st
 of_read n held [] = tt
 of_read n held (l ∷ []) = of_last n held l
 of_read n held (l ∷ m ∷ ls) =
-    of_after (n + 1) (step (n + 1) held (without_cr l)) held (λ more. read step (n + 1) more (m ∷ ls))
-    (join_lines (m ∷ ls)) (of_step (n + 1) held (without_cr l)) (λ more. of_read (n + 1) more (m ∷ ls))
+    of_after (n + 1) (step (n + 1) held (strip_carriage_return l)) held
+    (λ more. read step (n + 1) more (m ∷ ls))
+    (join_with_byte 10 (m ∷ ls)) (of_step (n + 1) held (strip_carriage_return l))
+    (λ more. of_read (n + 1) more (m ∷ ls))
 
 pub fault_of_bytes : (bytes : List ℕ) (e : LoadFault) → HasFault bytes e → IsOfBytes e
 unfolding script

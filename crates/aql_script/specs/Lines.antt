@@ -1,21 +1,14 @@
 -- The lines of a script, read in order. A line ends with a line feed, and a carriage return just before it is
 -- dropped; the last line may lack the line feed. Every byte after the line `%query` is the query's text.
-use Rattle.std.specs.Prelude.{ℕ, List, [], ◌∷◌, ◌++◌, Result, Ok, Err, nat_eq, if◌then◌else◌, ◌+◌, ◌-◌, length, take, slice_index}
+use Rattle.std.specs.Prelude.{ℕ, List, [], ◌∷◌, Result, Ok, Err, if◌then◌else◌, ◌+◌}
+use Rattle.std.specs.List.{join_with_byte}
 use Rattle.std.specs.Str.{is_utf8}
+use Rattle.std.specs.Str.Lines.{strip_carriage_return}
 use Rattle.aql_doc.specs.Held.{Held}
 use Rattle.aql_script.specs.declared.loading.Loaded.{Loaded}
 use Rattle.aql_script.specs.declared.faults.LoadFault.{LoadFault}
 use Rattle.aql_script.specs.declared.faults.LoadFault.TheVariants.{Line}
 use Rattle.aql_script.specs.declared.faults.LineKind.TheVariants.{NoQuery, QueryNotUtf8}
-
--- lines put together again
-abbrev pub join_lines : List (List ℕ) → List ℕ
-join_lines [] = []
-join_lines (l ∷ []) = l
-join_lines (l ∷ m ∷ ls) = l ++ 10 ∷ join_lines (m ∷ ls)
-
-abbrev pub without_cr : List ℕ → List ℕ
-without_cr l = if nat_eq (slice_index l (length l - 1)) 13 then take (length l - 1) l else l
 
 -- what comes of a line: what is held after it, the end of the lines, or a fault
 pub data Step : Type 0 where
@@ -47,5 +40,5 @@ module _ (step : ℕ → List Held → List ℕ → Step) where
   read n held [] = Err (Line n NoQuery)
   read n held (l ∷ []) = last n held l
   read n held (l ∷ m ∷ ls) =
-      after (n + 1) (step (n + 1) held (without_cr l)) held (λ more. read (n + 1) more (m ∷ ls))
-      (join_lines (m ∷ ls))
+      after (n + 1) (step (n + 1) held (strip_carriage_return l)) held (λ more. read (n + 1) more (m ∷ ls))
+      (join_with_byte 10 (m ∷ ls))

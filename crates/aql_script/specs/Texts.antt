@@ -4,7 +4,7 @@ use Rattle.std.specs.Fmt.{decimal}
 use Rattle.aql_script.specs.declared.faults.LoadFault.{LoadFault}
 use Rattle.aql_script.specs.declared.faults.LoadFault.TheVariants.{Read, Limit, Line, Memory}
 use Rattle.aql_script.specs.declared.faults.LimitKind.{LimitKind}
-use Rattle.aql_script.specs.declared.faults.LimitKind.TheVariants.{ScriptBytes, LineBytes, Collections, Indexes, Shards, Documents, JsonDepth, QueryBytes, Nesting, Clauses, WalkDepth}
+use Rattle.aql_script.specs.declared.faults.LimitKind.TheVariants.{ScriptBytes, LineBytes, Collections, Indexes, Shards, Documents, JsonDepth, QueryBytes, Nesting, Clauses, TraversalDepth}
 use Rattle.aql_script.specs.declared.faults.LineKind.{LineKind}
 use Rattle.aql_script.specs.declared.faults.LineKind.TheVariants.{BadDirective, DeclaredTwice, UnknownCollection, NoCollection, NotJson, NotWhole, NotObject, BadKey, IdMismatch, BadEdge, DuplicateKey, NoQuery, QueryNotUtf8}
 
@@ -40,7 +40,7 @@ limit_text (JsonDepth n) = limit_at n (codes "JSON depth")
 limit_text QueryBytes = codes "limit: query bytes"
 limit_text Nesting = codes "limit: nesting"
 limit_text Clauses = codes "limit: clauses"
-limit_text WalkDepth = codes "limit: traversal depth"
+limit_text TraversalDepth = codes "limit: traversal depth"
 
 abbrev pub fault_text : LoadFault → List ℕ
 fault_text Read = codes "read fault"

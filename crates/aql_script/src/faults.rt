@@ -61,7 +61,7 @@ pub enum LimitKind {
     /// The query has more than 256 clause words and `=`. `load` does not judge this.
     Clauses,
     /// A traversal of the query goes deeper than 32. `load` does not judge this.
-    WalkDepth,
+    TraversalDepth,
 }
 
 /// What is wrong with a line of a script.

@@ -1,5 +1,6 @@
 ghost use Rattle.std.specs.Prelude.{◌≡◌, ◌≢◌, ◌≤◌, ◌<◌, ⊤, ℕ, List, length, Err, IfOk, IfErr, OnErr};
-ghost use Rattle.aql_script.specs.Lines.{last, with_query, without_cr};
+ghost use Rattle.std.specs.Str.Lines.{strip_carriage_return};
+ghost use Rattle.aql_script.specs.Lines.{last, with_query};
 ghost use Rattle.aql_script.specs.Meets.{Meets};
 ghost use Rattle.aql_script.specs.Script.{lines, Loads, Hinders, HasFault, IsOfBytes};
 ghost use Rattle.aql_io.specs.Bytes.{HandsOut};
@@ -63,12 +64,9 @@ pub fn bytes_have_no_other_fault()
 
 // A carriage return at the end of a line is dropped.
 fn without_cr(line: &[u8]) -> &[u8]
-    ensures { result.now ≡ without_cr line.now }
+    ensures { result.now ≡ strip_carriage_return line.now }
 {
-    if line.len() > 0 && line[line.len() - 1] == b'\r' {
-        return &line[..line.len() - 1];
-    }
-    line
+    line.strip_suffix(b"\r").unwrap_or(line)
 }
 
 // The script whose query stands after a line.

@@ -1,7 +1,7 @@
 //! Bytes cut into pieces: lines, words and lists of names.
 
-ghost use Rattle.std.specs.Prelude.{◌≡◌, ◌++◌, ◌∷◌, [], IfOk, OnOk, map, option_map};
-ghost use Rattle.aql_script.specs.Pieces.{cut_at, pieces, is_blank, words, end_word, first_of};
+ghost use Rattle.std.specs.Prelude.{◌≡◌, IfOk, map, option_map};
+ghost use Rattle.aql_script.specs.Pieces.{cut_at, pieces, is_blank, words, first_of};
 
 use aql_value::OutOfMemory;
 use memchr::memchr;
@@ -25,22 +25,8 @@ pub(crate) fn pieces<'a>(
 ) -> Result<Vec<&'a [u8]>, OutOfMemory>
     ensures { IfOk result (λ ps. map (λ p. p.now) ps.items ≡ pieces at bytes.now) }
 {
-    let mut out: Vec<&'a [u8]> = Vec::new(alloc);
-    let mut rest = bytes;
-    'cuts: while let Some((piece, after)) = cut_at(at, rest) {
-        add(&mut out, piece)?;
-        rest = after;
-    }
-    add(&mut out, rest)?;
-    Ok(out)
-}
-
-fn add<'a>(out: &mut Vec<&'a [u8]>, piece: &'a [u8]) -> Result<(), OutOfMemory>
-    ensures { OnOk result
-        (map (λ p. p.now) out.new.items ≡ map (λ p. p.now) out.old.items ++ piece.now ∷ []) }
-{
-    out.push(piece)?;
-    Ok(())
+    let found: Vec<&'a [u8]> = bytes.split(|b| *b == at).collect(alloc)?;
+    Ok(found)
 }
 
 fn is_blank(b: u8) -> bool
@@ -53,28 +39,9 @@ fn is_blank(b: u8) -> bool
 pub(crate) fn words<'a>(alloc: Global, line: &'a [u8]) -> Result<Vec<&'a [u8]>, OutOfMemory>
     ensures { IfOk result (λ ws. map (λ w. w.now) ws.items ≡ words line.now) }
 {
-    let mut out: Vec<&'a [u8]> = Vec::new(alloc);
-    let mut start = 0;
-    for (i, b) in line.iter().enumerate() {
-        if !is_blank(*b) {
-            continue;
-        }
-        end_word(&mut out, &line[start..i])?;
-        start = i + 1;
-    }
-    end_word(&mut out, &line[start..])?;
-    Ok(out)
-}
-
-// A word ends, unless it has no byte.
-fn end_word<'a>(out: &mut Vec<&'a [u8]>, word: &'a [u8]) -> Result<(), OutOfMemory>
-    ensures { OnOk result
-        (map (λ w. w.now) out.new.items ≡ map (λ w. w.now) out.old.items ++ end_word word.now []) }
-{
-    if word.len() > 0 {
-        add(out, word)?;
-    }
-    Ok(())
+    let pieces = line.split(|b| is_blank(*b));
+    let found: Vec<&'a [u8]> = pieces.filter(|word| !word.is_empty()).collect(alloc)?;
+    Ok(found)
 }
 
 // The first byte that is no blank.

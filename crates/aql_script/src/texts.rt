@@ -33,7 +33,7 @@ pub fn limit_text(alloc: Global, kind: LimitKind) -> Result<Text, OutOfMemory>
         LimitKind::QueryBytes => Text::new(alloc, "limit: query bytes"),
         LimitKind::Nesting => Text::new(alloc, "limit: nesting"),
         LimitKind::Clauses => Text::new(alloc, "limit: clauses"),
-        LimitKind::WalkDepth => Text::new(alloc, "limit: traversal depth"),
+        LimitKind::TraversalDepth => Text::new(alloc, "limit: traversal depth"),
     }
 }
 
@@ -41,7 +41,7 @@ fn at_line(alloc: Global, front: &str, line: u32, text: &str) -> Result<Text, Ou
     ensures { IfOk result (λ t. t ≡ at_line front.now line text.now) }
 {
     let whole = format!(in alloc; "{front}{line}: {text}")?;
-    Text::new(alloc, whole.as_str())
+    Ok(Text::from(whole))
 }
 
 fn line_text(kind: LineKind) -> &'static str

@@ -35,7 +35,7 @@ fn words(rt: &(impl Env + AllocGlobal)) -> Result<Names, WordsFault> {
         }
     };
     for arg in args {
-        names.push(Text::new(alloc, arg.as_str())?)?;
+        names.push(Text::from(arg))?;
     }
     Ok(names)
 }

@@ -10,7 +10,7 @@ use Rattle.aql_script.specs.declared.loading.Loaded.{Loaded}
 use Rattle.aql_meaning.specs.Lifted.{IsLifted}
 use Rattle.aql_lift.proofs.LiftedIsPlain.{scoped_is_lifted}
 use Rattle.aql_front.specs.declared.faults.QueryFault.{QueryFault}
-use Rattle.aql_front.specs.declared.faults.QueryFault.TheVariants.{TooLong, Lexical, TooDeep, TooManyClauses, NotInGrammar, WalkTooDeep, Scope, Memory}
+use Rattle.aql_front.specs.declared.faults.QueryFault.TheVariants.{TooLong, Lexical, TooDeep, TooManyClauses, NotInGrammar, TraversalTooDeep, Scope, Memory}
 use Rattle.aql_front.specs.Reading.{IsWritten, IsScoped, Refuses}
 use Rattle.aql_run.specs.Forms.{runs, Shows}
 use Rattle.aql_top.specs.Forms.{ReadsAs, Answers}
@@ -58,7 +58,7 @@ refused loaded TooManyClauses (inr h) = h
 refused loaded TooManyClauses (inl e) = absurd (cc)
 refused loaded NotInGrammar (inr h) = h
 refused loaded NotInGrammar (inl e) = absurd (cc)
-refused loaded WalkTooDeep (inr h) = h
-refused loaded WalkTooDeep (inl e) = absurd (cc)
+refused loaded TraversalTooDeep (inr h) = h
+refused loaded TraversalTooDeep (inl e) = absurd (cc)
 refused loaded (Scope fault) (inr h) = h
 refused loaded (Scope fault) (inl e) = absurd (cc)

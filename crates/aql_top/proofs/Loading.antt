@@ -134,7 +134,7 @@ query_is_late (query.Lexical place kind) = late_4
 query_is_late query.TooDeep = late_5
 query_is_late query.TooManyClauses = late_5
 query_is_late query.NotInGrammar = late_4
-query_is_late query.WalkTooDeep = late_5
+query_is_late query.TraversalTooDeep = late_5
 query_is_late (query.Scope fault) = late_4
 query_is_late query.Memory = late_8
 

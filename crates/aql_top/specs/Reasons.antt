@@ -25,7 +25,7 @@ query_status (query.Lexical place kind) = 4
 query_status query.TooDeep = 5
 query_status query.TooManyClauses = 5
 query_status query.NotInGrammar = 4
-query_status query.WalkTooDeep = 5
+query_status query.TraversalTooDeep = 5
 query_status (query.Scope fault) = 4
 query_status query.Memory = 8
 

@@ -156,7 +156,7 @@ fn query_status(fault: &QueryFault) -> u8
         QueryFault::TooLong
         | QueryFault::TooDeep
         | QueryFault::TooManyClauses
-        | QueryFault::WalkTooDeep => 5,
+        | QueryFault::TraversalTooDeep => 5,
         QueryFault::Memory => 8,
     }
 }

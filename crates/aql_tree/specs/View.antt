@@ -155,7 +155,7 @@ link_step l = (l.op, l.right)
 abbrev pub clause_step : Layer Clause-F → ClauseTree
 clause_step (Clause-F.For x e) = for_each x e
 clause_step (Clause-F.ForDocs x c) = for_documents x c
-clause_step (Clause-F.Walk t) = traversal_clause t
+clause_step (Clause-F.Traversal t) = traversal_clause t
 clause_step (Clause-F.Filter e) = filter_by e
 clause_step (Clause-F.Let x e) = let_be x e
 clause_step (Clause-F.Sort ks) = sort ks

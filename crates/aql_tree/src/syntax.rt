@@ -169,7 +169,7 @@ pub enum Clause {
     /// `FOR var IN collection`, as scoping tells it from a variable.
     ForDocs { var: Ident, collection: Text },
     /// A traversal.
-    Walk(Traversal),
+    Traversal(Traversal),
     /// `FILTER e`.
     Filter(Expr),
     /// `LET var = e`; a list of them is one clause each.
@@ -341,7 +341,7 @@ impl Drop for Clause {
                 var: _,
                 collection: _,
             }
-            | Clause::Walk(_)
+            | Clause::Traversal(_)
             | Clause::Filter(_)
             | Clause::Let { var: _, expr: _ }
             | Clause::Sort(_)

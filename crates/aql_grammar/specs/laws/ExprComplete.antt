@@ -17,7 +17,7 @@ use Rattle.aql_grammar.specs.declared.precedence.Precedence.TheVariants as level
 use Rattle.aql_grammar.specs.Kinds.{Tokens}
 use Rattle.aql_grammar.specs.Spelling.{IsName, AreMany, AreAny}
 use Rattle.aql_grammar.specs.Objects.{IsVariable, IsObject}
-use Rattle.aql_grammar.specs.Expressions.{IsArgument, IsPrimary, IsElementFilter, IsElementReturn, IsStep}
+use Rattle.aql_grammar.specs.Expressions.{IsArgument, IsPrimary, IsElementPart, IsStep}
 use Rattle.aql_grammar.specs.Expressions.{IsPostfix, IsUnary, IsLink, IsChain, IsRange, IsQuantified}
 use Rattle.aql_grammar.specs.Expressions.{IsProduct, IsSum, IsSpan, IsRelation, IsMembership, IsEquality}
 use Rattle.aql_grammar.specs.Expressions.{IsArrayComparison, IsConjunction, IsDisjunction, IsConditional}
@@ -44,7 +44,7 @@ use Rattle.aql_grammar.specs.laws.OperatorLaws.{comparison_read, comparison_shri
 use Rattle.aql_grammar.specs.laws.OperatorLaws.{quantifier_shrinks, unary_read, unary_shrinks, no_operator}
 use Rattle.aql_grammar.specs.laws.OperatorLaws.{order, rank, operator_rank, quantifier_rank, no_quantifier}
 use Rattle.aql_grammar.specs.laws.OperatorLaws.{no_call, no_range, no_question, no_step}
-use Rattle.aql_grammar.specs.laws.Shrinking.{argument_shrinks, filter_falls, primary_shrinks, step_shrinks}
+use Rattle.aql_grammar.specs.laws.Shrinking.{argument_shrinks, part_falls, primary_shrinks, step_shrinks}
 use Rattle.aql_grammar.specs.laws.Shrinking.{unary_rule_shrinks, link_shrinks}
 use Rattle.aql_grammar.specs.laws.Shrinking.{product_shrinks, sum_shrinks, span_shrinks, relation_shrinks}
 use Rattle.aql_grammar.specs.laws.Shrinking.{membership_shrinks, equality_shrinks, comparison_level_shrinks}
@@ -125,28 +125,21 @@ module _ (R : Bool → Parser ExprTree) (E : Bool → ExprTree → Tokens → To
       bind_here _ _ (x, k.Symbol s.CloseParen ∷ b) _ (argument_complete x c _ (omega arith) h
       (paren_ends b)) (expect_then s.CloseParen b _ _ refl)
 
-  filter_complete : (f : Option ExprTree) (a b : Tokens) → length a ≤ bound → IsElementFilter E inside f a b
-      → Ends b → sees_keyword w.Filter b ≡ false → element R inside w.Filter a ≡ Some (f, b)
+  part_complete : (word : Keyword) (f : Option ExprTree) (a b : Tokens) → length a ≤ bound
+      → IsElementPart E inside word f a b → Ends b → sees_keyword word b ≡ false
+      → element R inside word a ≡ Some (f, b)
   unfolding element
-  filter_complete f a b short IsElementFilter.none ends other = eat_keyword_else w.Filter _ _ a _ other refl
-  filter_complete f a b short (IsElementFilter.some {x = x} {a = c} h) ends other =
-      eat_keyword_then w.Filter _ _ c _ (bind_here _ _ (x, b) _ (complete true x c b (omega arith) h ends)
-      refl)
-
-  return_complete : (f : Option ExprTree) (a b : Tokens) → length a ≤ bound → IsElementReturn E inside f a b
-      → Ends b → sees_keyword w.Return b ≡ false → element R inside w.Return a ≡ Some (f, b)
-  unfolding element
-  return_complete f a b short IsElementReturn.none ends other = eat_keyword_else w.Return _ _ a _ other refl
-  return_complete f a b short (IsElementReturn.some {x = x} {a = c} h) ends other =
-      eat_keyword_then w.Return _ _ c _ (bind_here _ _ (x, b) _ (complete true x c b (omega arith) h ends)
+  part_complete word f a b short IsElementPart.none ends other = eat_keyword_else word _ _ a _ other refl
+  part_complete word f a b short (IsElementPart.some {x = x} {a = c} h) ends other =
+      eat_keyword_then word _ _ c _ (bind_here _ _ (x, b) _ (complete true x c b (omega arith) h ends)
       refl)
 
   -- what stands after the filter of an inline expression
-  return_front : (p : Option ExprTree) (a b : Tokens) → IsElementReturn E inside p a
+  return_front : (p : Option ExprTree) (a b : Tokens) → IsElementPart E inside w.Return p a
       (k.Symbol s.CloseBracket ∷ b) → Ends a × (sees_keyword w.Filter a ≡ false)
   unfolding sees_keyword same_keyword
-  return_front p a b IsElementReturn.none = (bracket_ends b, refl)
-  return_front p a b (IsElementReturn.some {a = c} h) = (return_ends c, refl)
+  return_front p a b IsElementPart.none = (bracket_ends b, refl)
+  return_front p a b (IsElementPart.some {a = c} h) = (return_ends c, refl)
 
   bracket_no_return : (ts : Tokens) → sees_keyword w.Return (k.Symbol s.CloseBracket ∷ ts) ≡ false
   unfolding sees_keyword
@@ -161,12 +154,12 @@ module _ (R : Bool → Parser ExprTree) (E : Bool → ExprTree → Tokens → To
       eat_else s.Star _ _ c _ (not_first (R inside) s.Star ((starts inside).no_symbol s.Star refl) c _ read)
       (bind_here _ _ (x, k.Symbol s.CloseBracket ∷ b) _ read (expect_then s.CloseBracket b _ _ refl))
   step_complete p a b short (IsStep.inline {f = f} {p = q} {a = c} {b = d} h g) always =
-      let fall = filter_falls E shrinks inside f c d h in
+      let fall = part_falls E shrinks inside w.Filter f c d h in
       let front = return_front q d b g in
       eat_then s.Star _ _ c _
-      (bind_here _ _ (f, d) _ (filter_complete f c d (omega arith) h front.0 front.1)
+      (bind_here _ _ (f, d) _ (part_complete w.Filter f c d (omega arith) h front.0 front.1)
       (bind_here _ _ (q, k.Symbol s.CloseBracket ∷ b) _
-      (return_complete q d _ (omega arith) g (bracket_ends b) (bracket_no_return b))
+      (part_complete w.Return q d _ (omega arith) g (bracket_ends b) (bracket_no_return b))
       (expect_then s.CloseBracket b _ _ refl)))
 
   step_begins : (p : StepPart) (a b : Tokens) → IsStep E inside p a b → at_front begins_step a ≡ true

@@ -18,7 +18,7 @@ use Rattle.aql_grammar.specs.declared.precedence.Precedence.TheVariants as level
 use Rattle.aql_grammar.specs.Kinds.{Tokens}
 use Rattle.aql_grammar.specs.Spelling.{IsName, AreMany, AreAny}
 use Rattle.aql_grammar.specs.Objects.{word_value, IsVariable}
-use Rattle.aql_grammar.specs.Expressions.{IsArgument, IsPrimary, IsElementFilter, IsElementReturn, IsStep}
+use Rattle.aql_grammar.specs.Expressions.{IsArgument, IsPrimary, IsElementPart, IsStep}
 use Rattle.aql_grammar.specs.Expressions.{IsPostfix, IsUnary, IsLink, IsChain, IsRange, IsQuantified}
 use Rattle.aql_grammar.specs.Expressions.{IsProduct, IsSum, IsSpan, IsRelation, IsMembership, IsEquality}
 use Rattle.aql_grammar.specs.Expressions.{IsArrayComparison, IsConjunction, IsDisjunction, IsConditional}
@@ -135,29 +135,17 @@ module _ (R : Bool → Parser ExprTree) (E : Bool → ExprTree → Tokens → To
   primary_sound (k.Keyword keyword ∷ ts) y h = primary_keyword keyword ts y h
   primary_sound (k.Symbol symbol ∷ ts) y h = primary_symbol symbol ts y h
 
-  filter_sound : Sound (element R inside w.Filter) (IsElementFilter E inside)
+  part_sound : (word : Keyword) → Sound (element R inside word) (IsElementPart E inside word)
   unfolding element
-  filter_sound ts y h =
+  part_sound word ts y h =
       ⊎_elim
       (λ m.
       let x = bind_some (R true (next ts)) _ y m.1 in
-      done (IsElementFilter E inside) ts (Some x.0.0) x.0.1 y x.2
-      (subst (λ q. IsElementFilter E inside (Some x.0.0) q x.0.1) (sym m.0)
-      (IsElementFilter.some (sound true (next ts) x.0 x.1))))
-      (λ m. done (IsElementFilter E inside) ts None ts y m.1 IsElementFilter.none)
-      (keyword_cases w.Filter _ _ ts y h)
-
-  return_sound : Sound (element R inside w.Return) (IsElementReturn E inside)
-  unfolding element
-  return_sound ts y h =
-      ⊎_elim
-      (λ m.
-      let x = bind_some (R true (next ts)) _ y m.1 in
-      done (IsElementReturn E inside) ts (Some x.0.0) x.0.1 y x.2
-      (subst (λ q. IsElementReturn E inside (Some x.0.0) q x.0.1) (sym m.0)
-      (IsElementReturn.some (sound true (next ts) x.0 x.1))))
-      (λ m. done (IsElementReturn E inside) ts None ts y m.1 IsElementReturn.none)
-      (keyword_cases w.Return _ _ ts y h)
+      done (IsElementPart E inside word) ts (Some x.0.0) x.0.1 y x.2
+      (subst (λ q. IsElementPart E inside word (Some x.0.0) q x.0.1) (sym m.0)
+      (IsElementPart.some (sound true (next ts) x.0 x.1))))
+      (λ m. done (IsElementPart E inside word) ts None ts y m.1 IsElementPart.none)
+      (keyword_cases word _ _ ts y h)
 
   bracket_sound : (ts : Tokens) (y : StepPart × Tokens) → bracket_step R inside ts ≡ Some y
       → IsStep E inside y.0 (k.Symbol s.OpenBracket ∷ ts) y.1
@@ -168,9 +156,9 @@ module _ (R : Bool → Parser ExprTree) (E : Bool → ExprTree → Tokens → To
       let f = bind_some (element R inside w.Filter (next ts)) _ y m.1 in
       let p = bind_some (element R inside w.Return f.0.1) _ y f.2 in
       let c = bind_some (expect s.CloseBracket p.0.1) _ y p.2 in
-      let spelt = IsStep.inline (filter_sound (next ts) f.0 f.1)
-      (subst (λ r. IsElementReturn E inside p.0.0 f.0.1 r) (expect_some s.CloseBracket p.0.1 c.0 c.1)
-      (return_sound f.0.1 p.0 p.1)) in
+      let spelt = IsStep.inline (part_sound w.Filter (next ts) f.0 f.1)
+      (subst (λ r. IsElementPart E inside w.Return p.0.0 f.0.1 r) (expect_some s.CloseBracket p.0.1 c.0 c.1)
+      (part_sound w.Return f.0.1 p.0 p.1)) in
       done (IsStep E inside) (k.Symbol s.OpenBracket ∷ ts) (part.inline f.0.0 p.0.0) c.0.1 y c.2
       (subst (λ q. IsStep E inside (part.inline f.0.0 p.0.0) (k.Symbol s.OpenBracket ∷ q) c.0.1) (sym m.0)
       spelt))

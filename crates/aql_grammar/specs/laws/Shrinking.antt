@@ -4,6 +4,7 @@ use Rattle.std.proofs.Common.{Option, arith}
 use Rattle.std.specs.Prelude.{codes}
 use Rattle.aql_lex.specs.declared.kinds.TokenKind.TheVariants as k
 use Rattle.aql_lex.specs.declared.vocabulary.Symbol.TheVariants as s
+use Rattle.aql_lex.specs.declared.vocabulary.Keyword.{Keyword}
 use Rattle.aql_lex.specs.declared.vocabulary.Keyword.TheVariants as w
 use Rattle.aql_tree.specs.Tree.{ExprTree}
 use Rattle.aql_tree.specs.View.{AggregatePart, IntoPart}
@@ -15,7 +16,7 @@ use Rattle.aql_grammar.specs.Objects.{IsVariable, IsKey, IsMember, IsObject}
 use Rattle.aql_grammar.specs.Clauses.{AreTraversalNames, IsDepth, IsAssignment, IsLet, IsSortKey, IsAggregate}
 use Rattle.aql_grammar.specs.Clauses.{IsInto, AreAggregates, IsTail, IsPrune, AreOptions, IsClause}
 use Rattle.aql_grammar.specs.Clauses.{AreClauses, IsDistinct, IsQuery}
-use Rattle.aql_grammar.specs.Expressions.{IsArgument, IsPrimary, IsElementFilter, IsElementReturn, IsStep}
+use Rattle.aql_grammar.specs.Expressions.{IsArgument, IsPrimary, IsElementPart, IsStep}
 use Rattle.aql_grammar.specs.Expressions.{IsPostfix, IsUnary, IsLink, IsChain, IsRange, IsQuantified}
 use Rattle.aql_grammar.specs.Expressions.{IsProduct, IsSum, IsSpan, IsRelation, IsMembership, IsEquality}
 use Rattle.aql_grammar.specs.Expressions.{IsArrayComparison, IsConjunction, IsDisjunction, IsConditional}
@@ -180,21 +181,18 @@ module _ (E : Bool → ExprTree → Tokens → Tokens → Type 0) (shrinks : (in
   primary_shrinks x a b (IsPrimary.parentheses {a = c} h) = let i = argument_shrinks x c
       (k.Symbol s.CloseParen ∷ b) h in omega arith
 
-  pub filter_falls : Falls (IsElementFilter E inside)
-  filter_falls f a b IsElementFilter.none = omega arith
-  filter_falls f a b (IsElementFilter.some {x = x} {a = c} h) = let i = shrinks true x c b h in omega arith
-
-  pub return_falls : Falls (IsElementReturn E inside)
-  return_falls f a b IsElementReturn.none = omega arith
-  return_falls f a b (IsElementReturn.some {x = x} {a = c} h) = let i = shrinks true x c b h in omega arith
+  pub part_falls : (word : Keyword) → Falls (IsElementPart E inside word)
+  part_falls word f a b IsElementPart.none = omega arith
+  part_falls word f a b (IsElementPart.some {x = x} {a = c} h) =
+      let i = shrinks true x c b h in omega arith
 
   pub step_shrinks : Shrinks (IsStep E inside)
   step_shrinks p a b (IsStep.name {v = v} {a = c} h) = let i = name_shrinks v c b h in omega arith
   step_shrinks p a b (IsStep.at {x = x} {a = c} h) = let i = shrinks inside x c
       (k.Symbol s.CloseBracket ∷ b) h in omega arith
   step_shrinks p a b (IsStep.inline {f = f} {p = q} {a = c} {b = d} h g) =
-      let i = filter_falls f c d h in let j = return_falls q d (k.Symbol s.CloseBracket ∷ b) g in omega
-      arith
+      let i = part_falls w.Filter f c d h in
+      let j = part_falls w.Return q d (k.Symbol s.CloseBracket ∷ b) g in omega arith
 
   pub postfix_shrinks : Shrinks (IsPostfix E inside)
   postfix_shrinks x a b (IsPostfix.alone h) = primary_shrinks x a b h

@@ -104,81 +104,58 @@ pub seen_word : (meant : List ℕ) (ts : Tokens) → sees_word meant ts ≡ true
 unfolding sees_word
 seen_word meant ts h = seen_word_by meant ts h
 
-expect_by : (symbol : Symbol) (ts : Tokens) (y : Unit {0} × Tokens) (b : Bool) → sees symbol ts ≡ b
-    → cond b (Some (tt, next ts)) None ≡ Some y → ts ≡ k.Symbol symbol ∷ y.1
-expect_by symbol ts y true t h = seen symbol ts t ∙ ap (λ (p : Unit {0} × Tokens). k.Symbol symbol ∷ p.1)
-    (some_same (tt, next ts) y h)
-expect_by symbol ts y false t h = absurd (cc)
+-- a token that must stand there; Q is what its test says of the input and of the rest
+needed_by : (Q : Tokens → Type 0) (ts : Tokens) (y : Unit {0} × Tokens) (b : Bool) → (b ≡ true → Q (next ts))
+    → cond b (Some (tt, next ts)) None ≡ Some y → Q y.1
+needed_by Q ts y true seen h =
+    subst (λ (p : Unit {0} × Tokens). Q p.1) (some_same (tt, next ts) y h) (seen refl)
+needed_by Q ts y false seen h = absurd (cc)
 
 pub expect_some : (symbol : Symbol) (ts : Tokens) (y : Unit {0} × Tokens) → expect symbol ts ≡ Some y
     → ts ≡ k.Symbol symbol ∷ y.1
 unfolding expect
-expect_some symbol ts y h = expect_by symbol ts y (sees symbol ts) refl h
+expect_some symbol ts y h =
+    needed_by (λ rest. ts ≡ k.Symbol symbol ∷ rest) ts y (sees symbol ts) (seen symbol ts) h
 
-keyword_by : (keyword : Keyword) (ts : Tokens) (y : Unit {0} × Tokens) (b : Bool)
-    → sees_keyword keyword ts ≡ b → cond b (Some (tt, next ts)) None ≡ Some y → ts ≡ k.Keyword keyword ∷ y.1
-keyword_by keyword ts y true t h = seen_keyword keyword ts t
-    ∙ ap (λ (p : Unit {0} × Tokens). k.Keyword keyword ∷ p.1) (some_same (tt, next ts) y h)
-keyword_by keyword ts y false t h = absurd (cc)
-
-pub keyword_some : (keyword : Keyword) (ts : Tokens) (y : Unit {0} × Tokens) → expect_keyword keyword ts ≡
-    Some y → ts ≡ k.Keyword keyword ∷ y.1
+pub keyword_some : (keyword : Keyword) (ts : Tokens) (y : Unit {0} × Tokens)
+    → expect_keyword keyword ts ≡ Some y → ts ≡ k.Keyword keyword ∷ y.1
 unfolding expect_keyword
-keyword_some keyword ts y h = keyword_by keyword ts y (sees_keyword keyword ts) refl h
-
-word_some_by : (meant : List ℕ) (ts : Tokens) (y : Unit {0} × Tokens) (b : Bool) → sees_word meant ts ≡ b
-    → cond b (Some (tt, next ts)) None ≡ Some y → IsWord meant ts y.1
-word_some_by meant ts y true t h = subst (λ (p : Unit {0} × Tokens). IsWord meant ts p.1)
-    (some_same (tt, next ts) y h) (seen_word meant ts t)
-word_some_by meant ts y false t h = absurd (cc)
+keyword_some keyword ts y h =
+    needed_by (λ rest. ts ≡ k.Keyword keyword ∷ rest) ts y (sees_keyword keyword ts) (seen_keyword keyword ts)
+    h
 
 pub word_some : (meant : List ℕ) (ts : Tokens) (y : Unit {0} × Tokens) → expect_word meant ts ≡ Some y
     → IsWord meant ts y.1
 unfolding expect_word
-word_some meant ts y h = word_some_by meant ts y (sees_word meant ts) refl h
+word_some meant ts y h = needed_by (IsWord meant ts) ts y (sees_word meant ts) (seen_word meant ts) h
 
-eat_by : {A : Type 0} (symbol : Symbol) (p q : Parser A) (ts : Tokens) (y : A × Tokens) (b : Bool)
-    → sees symbol ts ≡ b → cond b p q (cond b (next ts) ts) ≡ Some y
-    → ((ts ≡ k.Symbol symbol ∷ next ts) × (p (next ts) ≡ Some y)) ⊎ ((sees symbol ts ≡ false)
-    × (q ts ≡ Some y))
-eat_by symbol p q ts y true t h = inl (seen symbol ts t, h)
-eat_by symbol p q ts y false t h = inr (t, h)
+-- a token that may stand there, and what follows it; Q is what its test says
+allowed_by : {A Q : Type 0} (p q : Parser A) (ts : Tokens) (y : A × Tokens) (b : Bool) → (b ≡ true → Q)
+    → cond b p q (cond b (next ts) ts) ≡ Some y
+    → (Q × (p (next ts) ≡ Some y)) ⊎ ((b ≡ false) × (q ts ≡ Some y))
+allowed_by p q ts y true seen h = inl (seen refl, h)
+allowed_by p q ts y false seen h = inr (refl, h)
 
--- what follows a token that may stand there
 pub eat_cases : {A : Type 0} (symbol : Symbol) (p q : Parser A) (ts : Tokens) (y : A × Tokens)
     → cond (sees symbol ts) p q (after symbol ts) ≡ Some y
     → ((ts ≡ k.Symbol symbol ∷ next ts) × (p (next ts) ≡ Some y)) ⊎ ((sees symbol ts ≡ false)
     × (q ts ≡ Some y))
 unfolding after
-eat_cases symbol p q ts y h = eat_by symbol p q ts y (sees symbol ts) refl h
-
-keyword_eat_by : {A : Type 0} (keyword : Keyword) (p q : Parser A) (ts : Tokens) (y : A × Tokens) (b : Bool)
-    → sees_keyword keyword ts ≡ b → cond b p q (cond b (next ts) ts) ≡ Some y
-    → ((ts ≡ k.Keyword keyword ∷ next ts) × (p (next ts) ≡ Some y)) ⊎ ((sees_keyword keyword ts ≡ false)
-    × (q ts ≡ Some y))
-keyword_eat_by keyword p q ts y true t h = inl (seen_keyword keyword ts t, h)
-keyword_eat_by keyword p q ts y false t h = inr (t, h)
+eat_cases symbol p q ts y h = allowed_by p q ts y (sees symbol ts) (seen symbol ts) h
 
 pub keyword_cases : {A : Type 0} (keyword : Keyword) (p q : Parser A) (ts : Tokens) (y : A × Tokens)
     → cond (sees_keyword keyword ts) p q (after_keyword keyword ts) ≡ Some y
     → ((ts ≡ k.Keyword keyword ∷ next ts) × (p (next ts) ≡ Some y)) ⊎ ((sees_keyword keyword ts ≡ false)
     × (q ts ≡ Some y))
 unfolding after_keyword
-keyword_cases keyword p q ts y h = keyword_eat_by keyword p q ts y (sees_keyword keyword ts) refl h
-
-word_eat_by : {A : Type 0} (meant : List ℕ) (p q : Parser A) (ts : Tokens) (y : A × Tokens) (b : Bool)
-    → sees_word meant ts ≡ b → cond b p q (cond b (next ts) ts) ≡ Some y
-    → (IsWord meant ts (next ts) × (p (next ts) ≡ Some y)) ⊎ ((sees_word meant ts ≡ false)
-    × (q ts ≡ Some y))
-word_eat_by meant p q ts y true t h = inl (seen_word meant ts t, h)
-word_eat_by meant p q ts y false t h = inr (t, h)
+keyword_cases keyword p q ts y h = allowed_by p q ts y (sees_keyword keyword ts) (seen_keyword keyword ts) h
 
 pub word_cases : {A : Type 0} (meant : List ℕ) (p q : Parser A) (ts : Tokens) (y : A × Tokens)
     → cond (sees_word meant ts) p q (after_word meant ts) ≡ Some y
     → (IsWord meant ts (next ts) × (p (next ts) ≡ Some y)) ⊎ ((sees_word meant ts ≡ false)
     × (q ts ≡ Some y))
 unfolding after_word
-word_cases meant p q ts y h = word_eat_by meant p q ts y (sees_word meant ts) refl h
+word_cases meant p q ts y h = allowed_by p q ts y (sees_word meant ts) (seen_word meant ts) h
 
 if_by : {A : Type 0} (p q : Parser A) (ts : Tokens) (y : A × Tokens) (b : Bool) → cond b p q ts ≡ Some y
     → ((b ≡ true) × (p ts ≡ Some y)) ⊎ ((b ≡ false) × (q ts ≡ Some y))

@@ -19,7 +19,7 @@ use Rattle.aql_meaning.specs.Row.{Row, same_ident}
 use Rattle.aql_meaning.specs.Expressions.{quantify, object_value, LinkGives}
 use Rattle.aql_meaning.specs.Value.{value, values, value_or, members, steps_value, links_value}
 use Rattle.aql_meaning.specs.Clauses.{filter_true}
-use Rattle.aql_meaning.specs.Groups.{Member, Collects, aggregate_of}
+use Rattle.aql_meaning.specs.Groups.{GroupedRow, Collects, aggregate_of}
 use Rattle.aql_meaning.specs.Paths.{Traverses}
 use Rattle.aql_meaning.specs.Options.{with_settings}
 use Rattle.aql_meaning.specs.Visible.{aggregate_vars, aggregate_functions, into_var, onto, vars_after, collection_meant, edges_named}
@@ -292,7 +292,7 @@ module _ (db : Database) (x : Ident) (q e : ExprTree) (s : StandsFor db q e) whe
     clause_replaced (collect xs es gs i) start vars rows out h = (
       h.0,
       all_map _ _
-          (λ r (m : Member) j. record {
+          (λ r (m : GroupedRow) j. record {
             criteria = all_replaced es null r m.criteria j.criteria;
             arguments = arguments_replaced gs r m.arguments j.arguments;
             into_value = taken_replaced i vars r m.into_value j.into_value;

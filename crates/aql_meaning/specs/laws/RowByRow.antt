@@ -117,7 +117,7 @@ documents_permuted x ds rows others out p h =
     (flat_permuted (λ row. map (bind x row) ds) (shuffle others rows (IsPermutation-sym _ _ p)))))
     h
 
--- the rows of paths beside the values from which the paths were walked
+-- the rows of paths beside the values from which the paths were traversed
 paths_flat : (P : Row → Datum → Type 0) (f : Row → Path → Row) (g : List Path → List Path)
     (rows : List Row) (starts : List Datum) → AllZip P rows starts
     → (paths : List (List Path))
@@ -131,12 +131,12 @@ paths_flat P f g (r ∷ rows) (v ∷ starts) h [] = refl
 paths_flat P f g (r ∷ rows) (v ∷ starts) h (walked ∷ paths) =
     ap (λ rs. map (f r) (g walked) ++ rs) (paths_flat P f g rows starts h.1 paths)
 
-pub walked_permuted : (db : Database) (w : TraversalShape) (es : List Datum) (prune : Row → Bool)
+pub traversal_permuted : (db : Database) (w : TraversalShape) (es : List Datum) (prune : Row → Bool)
     (P : Row → Datum → Type 0)
     (rows others out : List Row) → IsPermutation rows others
     → ((vs : List Datum) × AllZip P rows vs × Traverses db w es prune rows vs out)
     → (vs : List Datum) × AllZip P others vs × Traverses db w es prune others vs out
-walked_permuted db w es prune P rows others out p h =
+traversal_permuted db w es prune P rows others out p h =
     let t = through P (shuffle rows others p) h.0 h.1 in
     let u = through
     (λ (from : Row × Datum) walked.
@@ -175,7 +175,7 @@ permutation_passes db (for_documents x name) a start vars rows others out p h =
     (out, documents_permuted x (documents_named db name) rows others out p h, IsPermutation-refl out)
 permutation_passes db (traversal w e names prune settings) a start vars rows others out p h = (
   out,
-  walked_permuted db (with_settings settings w) (edges_named db names)
+  traversal_permuted db (with_settings settings w) (edges_named db names)
       (λ row. truth (value_or prune null row (boolean false))) (Evaluates db e null) rows others out p h,
   IsPermutation-refl out,
 )

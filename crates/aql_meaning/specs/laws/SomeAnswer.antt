@@ -23,7 +23,7 @@ use Rattle.aql_meaning.specs.Row.{Row, value_at}
 use Rattle.aql_meaning.specs.Expressions.{quantify, object_value, LinkGives}
 use Rattle.aql_meaning.specs.Value.{value_or}
 use Rattle.aql_meaning.specs.Clauses.{KeyedRow, with_elements, with_documents, filter_true, with_values, limit_rows, return_values, Sorts}
-use Rattle.aql_meaning.specs.Groups.{Member, IsMember, groups, group_members, group_row, WithInto, Collects, variables_object}
+use Rattle.aql_meaning.specs.Groups.{GroupedRow, IsGroupedRow, groups, rows_of_group, group_row, WithInto, Collects, variables_object}
 use Rattle.aql_meaning.specs.Paths.{Path, TraversesBy, TraversesFrom, Traverses, path_row, with_paths, paths_up_to}
 use Rattle.aql_meaning.specs.Options.{with_settings}
 use Rattle.aql_meaning.specs.Visible.{aggregate_vars, aggregate_functions, into_var, vars_after, collection_meant, edges_named}
@@ -48,17 +48,18 @@ some_linked And Right x a = pick (truth a) Right (λ v. v ≡ a) x (a, refl)
 some_linked Or Right x a = pick (truth a) (λ v. v ≡ a) Right (a, refl) x
 some_linked op Right x a = (binary op a x.0, (x.0, x.1, refl))
 
-abbrev some_into : (i : Option Ident) (members : List Member) (row : Row)
-    → (out : Row) × WithInto i members row out
-some_into None members row = (row, refl)
-some_into (Some x) members row = (_, (map (λ (m : Member). m.into_value) members, IsPermutation-refl _, refl))
+abbrev some_into : (i : Option Ident) (grouped : List GroupedRow) (row : Row)
+    → (out : Row) × WithInto i grouped row out
+some_into None grouped row = (row, refl)
+some_into (Some x) grouped row =
+    (_, (map (λ (from : GroupedRow). from.into_value) grouped, IsPermutation-refl _, refl))
 
 abbrev pub some_collect : (xs ys : List Ident) (fs : List (List Datum → Datum)) (i : Option Ident)
     (start : Row)
-    (members : List Member) → (out : List Row) × Collects xs ys fs i start members out
-some_collect xs ys fs i start members =
-    all_some (λ c row. WithInto i (group_members c members) (group_row xs ys fs start members c) row)
-    (λ c. some_into i (group_members c members) (group_row xs ys fs start members c)) (groups xs members)
+    (grouped : List GroupedRow) → (out : List Row) × Collects xs ys fs i start grouped out
+some_collect xs ys fs i start grouped =
+    all_some (λ c row. WithInto i (rows_of_group c grouped) (group_row xs ys fs start grouped c) row)
+    (λ c. some_into i (rows_of_group c grouped) (group_row xs ys fs start grouped c)) (groups xs grouped)
 
 abbrev pub some_sort : (directions : List Bool) (keys : List (List Datum)) (rows : List Row)
     → (out : List Row) × Sorts directions keys rows out
@@ -66,17 +67,18 @@ some_sort directions keys rows =
     let s = some_order directions (λ (p : KeyedRow). p.0) (zip keys rows) in
     (map (λ (p : KeyedRow). p.1) s.0, (s.0, s.1, s.2, refl))
 
-abbrev some_walked_by : (w : TraversalShape) (es : List Datum) (pruned : Path → Bool) (id : List ℕ)
+abbrev some_traversal_by : (w : TraversalShape) (es : List Datum) (pruned : Path → Bool) (id : List ℕ)
     (u : UniqueVertices)
     → (paths : List Path) × TraversesBy w es pruned id u paths
-some_walked_by w es pruned id vertices.Global = traversal_exists w es pruned id w.max
-some_walked_by w es pruned id vertices.None = (paths_up_to w es pruned id w.max, refl)
-some_walked_by w es pruned id vertices.Path = (paths_up_to w es pruned id w.max, refl)
+some_traversal_by w es pruned id vertices.Global = traversal_exists w es pruned id w.max
+some_traversal_by w es pruned id vertices.None = (paths_up_to w es pruned id w.max, refl)
+some_traversal_by w es pruned id vertices.Path = (paths_up_to w es pruned id w.max, refl)
 
-abbrev some_walked_from : (w : TraversalShape) (es : List Datum) (pruned : Path → Bool) (id : Option (List ℕ))
+abbrev some_traversal_from : (w : TraversalShape) (es : List Datum) (pruned : Path → Bool)
+    (id : Option (List ℕ))
     → (paths : List Path) × TraversesFrom w es pruned id paths
-some_walked_from w es pruned None = ([], refl)
-some_walked_from w es pruned (Some id) = some_walked_by w es pruned id w.options.vertices
+some_traversal_from w es pruned None = ([], refl)
+some_traversal_from w es pruned (Some id) = some_traversal_by w es pruned id w.options.vertices
 
 abbrev pub some_traversal : (db : Database) (w : TraversalShape) (es : List Datum) (prune : Row → Bool)
     (rows : List Row)
@@ -85,7 +87,7 @@ some_traversal db w es prune rows starts =
     let paths = all_some
     (λ (from : Row × Datum) walked.
     TraversesFrom w es (λ t. prune (path_row db w from.0 t)) (id_text from.1) walked)
-    (λ (from : Row × Datum). some_walked_from w es (λ t. prune (path_row db w from.0 t)) (id_text from.1))
+    (λ (from : Row × Datum). some_traversal_from w es (λ t. prune (path_row db w from.0 t)) (id_text from.1))
     (zip rows starts) in
     (with_paths db w rows paths.0, (paths.0, paths.1, IsPermutation-refl _))
 
@@ -218,9 +220,9 @@ module _ (db : Database) where
         (x.0, (keys.0, keys.1, x.1))
     some_change (limit offset count) start vars rows = (limit_rows offset count rows, refl)
     some_change (collect xs es gs i) start vars rows =
-        let members = all_some
-        (λ row member. IsMember (EvaluatesAll db es null row) (EvaluatesArguments db gs row)
-        (EvaluatesInto db i vars row) member)
+        let grouped = all_some
+        (λ row one. IsGroupedRow (EvaluatesAll db es null row) (EvaluatesArguments db gs row)
+        (EvaluatesInto db i vars row) one)
         (λ row.
         let a = some_values es null row in
         let b = some_arguments gs row in
@@ -229,8 +231,8 @@ module _ (db : Database) where
           record { criteria = a.1; arguments = b.1; into_value = t.1 },
         ))
         rows in
-        let x = some_collect xs (aggregate_vars gs) (aggregate_functions gs) (into_var i) start members.0 in
-        (x.0, (members.0, members.1, x.1))
+        let x = some_collect xs (aggregate_vars gs) (aggregate_functions gs) (into_var i) start grouped.0 in
+        (x.0, (grouped.0, grouped.1, x.1))
 
     pub some_rows : (cs : ClauseTrees) (start : Row) (vars : List Ident) (rows : List Row)
         → (out : List Row) × Through db cs start vars rows out

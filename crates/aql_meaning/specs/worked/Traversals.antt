@@ -21,16 +21,17 @@ abbrev pub all_three : build.TraversalNames
 all_three = record { vertex = codes "v"; edge = Some (codes "e"); path = Some (codes "p") }
 
 -- `FOR names IN min..max DIRECTION start e PRUNE prune OPTIONS {settings}`
-abbrev pub walk_from : build.TraversalNames → ℕ → ℕ → Direction → ExprTree → Option ExprTree → List MemberPart
+abbrev pub traversal_from : build.TraversalNames → ℕ → ℕ → Direction → ExprTree → Option ExprTree
+    → List MemberPart
     → ClauseTree
-walk_from names min max direction start prune settings =
+traversal_from names min max direction start prune settings =
     traversal_clause (build.traversal names min max direction start (codes "e" ∷ []) prune settings)
 
 -- the same from the text of an id
 abbrev pub traversal : build.TraversalNames → ℕ → ℕ → Direction → String → Option ExprTree → List MemberPart
     → ClauseTree
 traversal names min max direction start prune settings =
-    walk_from names min max direction (txt start) prune settings
+    traversal_from names min max direction (txt start) prune settings
 
 -- `v._key`
 abbrev pub key : ExprTree
@@ -132,7 +133,7 @@ pub record WorkedTraversals : Type 0 where
       (str "b" ∷ str "c" ∷ [])
   -- FOR v IN 1..1 OUTBOUND {_id: "n/a"} e RETURN v._key
   pub from_an_object : Answers ring
-      (returning (walk_from vertex_alone 1 1 Outbound (with_id "n/a") None [] ∷ []) key) (str "b" ∷ [])
+      (returning (traversal_from vertex_alone 1 1 Outbound (with_id "n/a") None [] ∷ []) key) (str "b" ∷ [])
   -- FOR v, e, p IN 0..1 OUTBOUND "n/a" e RETURN [e == null, LENGTH(p.edges)]
   pub edges_counted : AnswersInAnyOrder ring
       (returning (traversal all_three 0 1 Outbound "n/a" None [] ∷ []) edges_of_path)

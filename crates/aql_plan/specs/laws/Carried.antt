@@ -9,13 +9,13 @@ use Rattle.aql_tree.specs.declared.syntax.Ident.{Ident}
 use Rattle.aql_tree.specs.Tree.{ExprTree, ExprTrees, no_exprs, expr_then, MaybeExpr, no_expr, one_expr, AggregateTrees, no_aggregates, aggregate_then, IntoTree, no_into, into}
 use Rattle.aql_meaning.specs.Row.{Row, empty_row, bind, bind_maybe, bind_all, value_at}
 use Rattle.aql_meaning.specs.Value.{value, value_or}
-use Rattle.aql_meaning.specs.Groups.{Member}
+use Rattle.aql_meaning.specs.Groups.{GroupedRow}
 use Rattle.aql_meaning.specs.Visible.{aggregate_vars}
 use Rattle.aql_meaning.specs.Uses.{Whole, Uses, uses, all_uses, maybe_uses, aggregate_uses, into_uses}
 use Rattle.aql_meaning.specs.declared.grouping.Stage.{Stage}
 use Rattle.aql_meaning.specs.declared.grouping.Stage.TheVariants as stage
 use Rattle.aql_meaning.specs.Documents.{End, Last, no_last, one_of, between, last_map, end_map}
-use Rattle.aql_meaning.specs.Stages.{arguments_at, taken_at, member_at}
+use Rattle.aql_meaning.specs.Stages.{arguments_at, taken_at, grouped_row_at}
 use Rattle.aql_plan.specs.Plan.{Collect}
 use Rattle.aql_meaning.specs.AtRows.{value_of, values_of, keys_of, passes, stops}
 use Rattle.aql_plan.specs.Needs.{end_uses, last_uses, as_wholes, own_uses}
@@ -119,7 +119,7 @@ module _ (f : ExprTree → ExprTree) (Free : Ident → Type 0) (S : Uses → Row
 
   -- ---- what a Collect sees of a row
 
-  abbrev member : List Datum → List Datum → Datum → Member
+  abbrev member : List Datum → List Datum → Datum → GroupedRow
   member criteria arguments taken = record { criteria = criteria; arguments = arguments; into_value = taken }
 
   evaluated : (xs : List Ident) (es : ExprTrees) (gs : AggregateTrees) (i : IntoTree) (r s : Row)
@@ -136,7 +136,8 @@ module _ (f : ExprTree → ExprTree) (Free : Ident → Type 0) (S : Uses → Row
   pub member_carried : (s : Stage) (xs : List Ident) (es : ExprTrees) (gs : AggregateTrees) (i : IntoTree)
       → AllByRecursion Free xs → AllByRecursion Free (aggregate_vars gs)
       → (q t : Row) → S (own_uses (Collect xs es gs i s)) q t
-      → member_at s xs (map_exprs f es) (map_aggregates f gs) (map_into f i) q ≡ member_at s xs es gs i t
+      → grouped_row_at s xs (map_exprs f es) (map_aggregates f gs) (map_into f i) q
+      ≡ grouped_row_at s xs es gs i t
   member_carried stage.Final xs es gs i free named q t h =
       let k = carry.parts (as_wholes xs) (as_wholes (aggregate_vars gs)) q t h in
       ap₂ (λ c a. member c a null) (wholes_carried xs q t free k.0)

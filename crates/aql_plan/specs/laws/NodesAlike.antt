@@ -12,8 +12,8 @@ use Rattle.aql_tree.specs.declared.syntax.Ident.{Ident}
 use Rattle.aql_tree.specs.Tree.{TraversalShape, ExprTree}
 use Rattle.aql_meaning.specs.Row.{Row, bind, bind_all}
 use Rattle.aql_meaning.specs.Clauses.{with_each, with_elements, filter_true, with_values, first_rows}
-use Rattle.aql_meaning.specs.Groups.{Member, groups, group_members, group_row, WithInto, Collects, aggregate_values}
-use Rattle.aql_meaning.specs.Paths.{Path, TraversesFrom, WalkedPaths, Traverses, with_paths, long_paths}
+use Rattle.aql_meaning.specs.Groups.{GroupedRow, groups, rows_of_group, group_row, WithInto, Collects, aggregate_values}
+use Rattle.aql_meaning.specs.Paths.{Path, TraversesFrom, TraversesPaths, Traverses, with_paths, long_paths}
 use Rattle.aql_meaning.specs.Paths.{path_row, path_value, vertex_of, end_of, last_edge}
 use Rattle.aql_meaning.specs.Uses.{Uses}
 use Rattle.aql_meaning.specs.laws.Shuffles.{alike_permutation}
@@ -138,8 +138,8 @@ module _ (f : ExprTree → ExprTree) (Free : Ident → Type 0) (S : Uses → Row
 
     -- the same paths are walked
     walks_kept : (rows others : List Row) (starts : List Datum) (paths : List (List Path))
-        → AllZip (λ r s. S us r s × S vs r s) rows others → WalkedPaths db w es p rows starts paths
-        → WalkedPaths db w es q others starts paths
+        → AllZip (λ r s. S us r s × S vs r s) rows others → TraversesPaths db w es p rows starts paths
+        → TraversesPaths db w es q others starts paths
     walks_kept [] [] starts paths h g = g
     walks_kept [] (s ∷ others) starts paths h g = absurd h
     walks_kept (r ∷ rows) [] starts paths h g = absurd h
@@ -163,7 +163,7 @@ module _ (f : ExprTree → ExprTree) (Free : Ident → Type 0) (S : Uses → Row
   -- ---- Collect
 
   into_alike : (us : Uses) (into : Option Ident) → AllByRecursion Free (option_to_list into)
-      → (members : List Member) (r s row : Row) → S us r s → WithInto into members r row
+      → (members : List GroupedRow) (r s row : Row) → S us r s → WithInto into members r row
       → (other : Row) × WithInto into members s other × S us row other
   into_alike us None free members r s row h g = (s, refl, subst (λ (q : Row). S us q s) (sym g) h)
   into_alike us (Some x) free members r s row h g = (
@@ -175,15 +175,15 @@ module _ (f : ExprTree → ExprTree) (Free : Ident → Type 0) (S : Uses → Row
   pub collected_alike : (us : Uses) (xs ys : List Ident) (fs : List (List Datum → Datum))
       (into : Option Ident)
       → AllByRecursion Free xs → AllByRecursion Free ys → AllByRecursion Free (option_to_list into)
-      → (start other : Row) → S us start other → (members : List Member) (out : List Row)
+      → (start other : Row) → S us start other → (members : List GroupedRow) (out : List Row)
       → Collects xs ys fs into start members out
       → (more : List Row) × Collects xs ys fs into other members more × AllZip (S us) out more
   collected_alike us xs ys fs into xs_free ys_free into_free start other h members out g =
       chosen (S us)
-      (λ c row. WithInto into (group_members c members) (group_row xs ys fs start members c) row)
-      (λ c row. WithInto into (group_members c members) (group_row xs ys fs other members c) row)
-      (λ c row k. into_alike us into into_free (group_members c members) (group_row xs ys fs start members c)
+      (λ c row. WithInto into (rows_of_group c members) (group_row xs ys fs start members c) row)
+      (λ c row. WithInto into (rows_of_group c members) (group_row xs ys fs other members c) row)
+      (λ c row k. into_alike us into into_free (rows_of_group c members) (group_row xs ys fs start members c)
       (group_row xs ys fs other members c) row
-      (binds_all f Free S carry us ys (aggregate_values fs 0 (group_members c members)) (bind_all xs c start)
+      (binds_all f Free S carry us ys (aggregate_values fs 0 (rows_of_group c members)) (bind_all xs c start)
       (bind_all xs c other) ys_free (binds_all f Free S carry us xs c start other xs_free h)) k)
       (groups xs members) out g

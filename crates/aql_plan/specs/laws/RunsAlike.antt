@@ -13,14 +13,14 @@ use Rattle.aql_tree.specs.declared.syntax.Ident.TheVariants.{Num}
 use Rattle.aql_tree.specs.Tree.{ExprTree, ExprTrees, AggregateTrees, IntoTree}
 use Rattle.aql_meaning.specs.Row.{Row, empty_row, bind}
 use Rattle.aql_meaning.specs.Clauses.{keys_cmp, return_values, with_values, with_elements, filter_true, Sorts}
-use Rattle.aql_meaning.specs.Groups.{Member, Collects}
+use Rattle.aql_meaning.specs.Groups.{GroupedRow, Collects}
 use Rattle.aql_meaning.specs.Paths.{Traverses}
 use Rattle.aql_meaning.specs.Visible.{aggregate_vars, into_var}
 use Rattle.aql_meaning.specs.Uses.{Uses, uses, all_uses, maybe_uses}
 use Rattle.aql_meaning.specs.declared.grouping.Stage.{Stage}
 use Rattle.aql_value.specs.Shards.{shard_of}
 use Rattle.aql_meaning.specs.Documents.{Last, last_map, in_bounds}
-use Rattle.aql_meaning.specs.Stages.{stage_functions, member_at}
+use Rattle.aql_meaning.specs.Stages.{stage_functions, grouped_row_at}
 use Rattle.aql_plan.specs.Facts.{shards_in, attributes_in}
 use Rattle.aql_plan.specs.Plan.{Reading, Plan, Singleton, Over, Node, EnumerateCollection, Index, EnumerateList, Traversal, Calculation, Subquery, Filter, Sort, Limit, Collect, Return, NoResults, Scatter, Distribute, Remote, Gather}
 use Rattle.aql_plan.specs.Runs.{World, Place, Outside, Inside, read, read_in_bounds, Indexed, edges_in, result_row, result_of, targets, part_of, came, Runs, Feeds, Gives}
@@ -173,21 +173,23 @@ module _ (f : ExprTree → ExprTree) (Free : Ident → Type 0) (S : Uses → Row
       → (more : List Row) × Grouped xs es gs i s other others more × AllZip (S us) out more
   grouped_alike us xs es gs i s xs_free ys_free into_free start other h rows others out k g =
       collected_alike f Free S carry us xs (aggregate_vars gs) (stage_functions s gs) (into_var i)
-      xs_free ys_free into_free start other h (map (member_at s xs es gs i) others) out
-      (subst (λ (members : List Member).
+      xs_free ys_free into_free start other h (map (grouped_row_at s xs es gs i) others) out
+      (subst (λ (members : List GroupedRow).
       Collects xs (aggregate_vars gs) (stage_functions s gs) (into_var i) start members out)
       (map_equal (S (own_uses (Collect xs es gs i s)))
-      (member_at s xs (map_exprs f es) (map_aggregates f gs) (map_into f i)) (member_at s xs es gs i)
+      (grouped_row_at s xs (map_exprs f es) (map_aggregates f gs) (map_into f i))
+      (grouped_row_at s xs es gs i)
       (member_carried f Free S carry s xs es gs i xs_free ys_free) rows others k)
       (subst (λ (x : Option Ident). Collects xs (aggregate_vars gs) (stage_functions s gs) x start
-      (map (member_at s xs (map_exprs f es) (map_aggregates f gs) (map_into f i)) rows) out) (into_kept f i)
+      (map (grouped_row_at s xs (map_exprs f es) (map_aggregates f gs) (map_into f i)) rows) out)
+      (into_kept f i)
       (subst (λ (fs : List (List Datum → Datum)). Collects xs (aggregate_vars gs) fs
       (into_var (map_into f i)) start
-      (map (member_at s xs (map_exprs f es) (map_aggregates f gs) (map_into f i)) rows) out)
+      (map (grouped_row_at s xs (map_exprs f es) (map_aggregates f gs) (map_into f i)) rows) out)
       (functions_kept f s gs)
       (subst (λ (ys : List Ident). Collects xs ys (stage_functions s (map_aggregates f gs))
       (into_var (map_into f i))
-      start (map (member_at s xs (map_exprs f es) (map_aggregates f gs) (map_into f i)) rows) out)
+      start (map (grouped_row_at s xs (map_exprs f es) (map_aggregates f gs) (map_into f i)) rows) out)
       (vars_kept f gs) g))))
 
   -- only a Collect looks at the start row

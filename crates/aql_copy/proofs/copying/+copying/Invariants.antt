@@ -21,7 +21,8 @@ abbrev pub invariant-copy_lets-loop-item : goal.invariant-copy_lets-loop-item
 invariant-copy_lets-loop-item l = map let_part l.out ≡ map let_part (take l.item-index l.all)
 
 abbrev pub invariant-copy_aggregates-loop-item : goal.invariant-copy_aggregates-loop-item
-invariant-copy_aggregates-loop-item l = map aggregate_part l.out ≡ map aggregate_part (take l.item-index l.all)
+invariant-copy_aggregates-loop-item l =
+    map aggregate_part l.out ≡ map aggregate_part (take l.item-index l.all)
 
 abbrev pub invariant-copy_clauses-loop-item : goal.invariant-copy_clauses-loop-item
 invariant-copy_clauses-loop-item l = map clause_tree l.out ≡ map clause_tree (take l.item-index l.all)

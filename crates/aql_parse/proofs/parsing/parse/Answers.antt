@@ -1,5 +1,5 @@
 use Rattle.aql_parse.proofs.ParseLaws.{gives_tree, gives_within, gives_only, gives_too_deep, gives_too_many}
-use Rattle.aql_parse.proofs.ParseLaws.{gives_none, gives_walk}
+use Rattle.aql_parse.proofs.ParseLaws.{gives_none, gives_traversal}
 use Rattle.aql_parse.proofs.parsing.parse.Goals as goal
 
 pub returns-clause-tree : goal.returns-clause-tree
@@ -20,5 +20,5 @@ returns-clause-too_many_clauses c = gives_too_many _ _ c.judge.ensures
 pub returns-clause-none : goal.returns-clause-none
 returns-clause-none c = gives_none _ _ c.judge.ensures
 
-pub returns-clause-walk_too_deep : goal.returns-clause-walk_too_deep
-returns-clause-walk_too_deep c = gives_walk _ _ c.judge.ensures
+pub returns-clause-traversal_too_deep : goal.returns-clause-traversal_too_deep
+returns-clause-traversal_too_deep c = gives_traversal _ _ c.judge.ensures

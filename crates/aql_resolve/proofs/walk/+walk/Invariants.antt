@@ -9,12 +9,14 @@ use Rattle.aql_resolve.proofs.walk.+walk.Given as goal
 abbrev pub invariant-exprs-loop-item : goal.invariant-exprs-loop-item
 invariant-exprs-loop-item l =
     visit.exprs (site_of l.at) [] (trees (map tree l.all)) (state l.fn.said l.fn.lets)
-    ≡ visit.exprs (site_of l.at) (map tree l.found) (trees (map tree (drop l.item-index l.all))) (state l.said l.lets)
+    ≡ visit.exprs (site_of l.at) (map tree l.found) (trees (map tree (drop l.item-index l.all)))
+    (state l.said l.lets)
 
 abbrev pub invariant-members-loop-item : goal.invariant-members-loop-item
 invariant-members-loop-item l =
     visit.members (site_of l.at) [] (view.members (map member_part l.all)) (state l.fn.said l.fn.lets)
-    ≡ visit.members (site_of l.at) (map member_part l.found) (view.members (map member_part (drop l.item-index l.all)))
+    ≡ visit.members (site_of l.at) (map member_part l.found)
+    (view.members (map member_part (drop l.item-index l.all)))
     (state l.said l.lets)
 
 abbrev pub invariant-access_steps-loop-item : goal.invariant-access_steps-loop-item
@@ -36,7 +38,8 @@ invariant-query_within-loop-item l =
     (visit.clauses
     (record { own = []; outer = visible (site_of l.at); held = l.at.catalog.now; lifts = true })
     (view.clauses (map clause_tree l.query.clauses)) (state l.fn.said [])
-    ≡ visit.clauses (site_within l.at l.scope) (view.clauses (map clause_tree (drop l.item-index l.query.clauses)))
+    ≡ visit.clauses (site_within l.at l.scope)
+    (view.clauses (map clause_tree (drop l.item-index l.query.clauses)))
     (state l.said l.done))
     × (l.scope.outer ≡ visible (site_of l.at))
 
@@ -56,15 +59,15 @@ invariant-sort_keys-loop-item l =
 
 abbrev pub invariant-criteria-loop-item : goal.invariant-criteria-loop-item
 invariant-criteria-loop-item l =
-    visit.criteria (site_of l.at) l.fn.behind [] [] (map (λ p. p.0) (map let_part l.all))
+    visit.criteria (site_of l.at) l.fn.names_after [] [] (map (λ p. p.0) (map let_part l.all))
     (trees (map (λ p. p.1) (map let_part l.all))) (state l.fn.said l.fn.lets)
-    ≡ visit.criteria (site_of l.at) l.behind (map (λ p. p.0) (map let_part l.found))
+    ≡ visit.criteria (site_of l.at) l.names_after (map (λ p. p.0) (map let_part l.found))
     (map (λ p. p.1) (map let_part l.found)) (map (λ p. p.0) (map let_part (drop l.item-index l.all)))
     (trees (map (λ p. p.1) (map let_part (drop l.item-index l.all)))) (state l.said l.lets)
 
 abbrev pub invariant-aggregates-loop-item : goal.invariant-aggregates-loop-item
 invariant-aggregates-loop-item l =
-    visit.aggregates (site_of l.at) l.fn.behind [] (view.aggregates (map aggregate_part l.all))
+    visit.aggregates (site_of l.at) l.fn.names_after [] (view.aggregates (map aggregate_part l.all))
     (state l.fn.said l.fn.lets)
-    ≡ visit.aggregates (site_of l.at) l.behind (map aggregate_part l.found)
+    ≡ visit.aggregates (site_of l.at) l.names_after (map aggregate_part l.found)
     (view.aggregates (map aggregate_part (drop l.item-index l.all))) (state l.said l.lets)

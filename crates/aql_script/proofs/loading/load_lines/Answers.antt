@@ -1,6 +1,7 @@
 use Rattle.std.proofs.Common.{◌≡◌, ◌+◌, inl, inr, sym, ap, ◌∙◌, refl, arith, subst}
 use Rattle.std.specs.Prelude.{Result}
-use Rattle.aql_script.specs.Lines.{next, query, fault, without_cr, with_query}
+use Rattle.std.specs.Str.Lines.{strip_carriage_return}
+use Rattle.aql_script.specs.Lines.{next, query, fault, with_query}
 use Rattle.aql_script.specs.Meets.{Meets}
 use Rattle.aql_script.specs.Steps.{step}
 use Rattle.aql_script.specs.declared.loading.Loaded.{Loaded}
@@ -19,8 +20,9 @@ lines-smaller c =
 pub lines-preserved : goal.lines-preserved
 lines-preserved c =
     let shorter = cut_length 10 c.lines.rest.now c.in-Some.piece.now c.in-Some.after.now c.in-Some.ensures in
-    let dropped : c.without_cr.result.now ≡ without_cr c.in-Some.piece.now = c.without_cr.ensures in
-    let did : step (c.lines.line + 1) c.lines.catalog (without_cr c.in-Some.piece.now)
+    let dropped : c.without_cr.result.now
+    ≡ strip_carriage_return c.in-Some.piece.now = c.without_cr.ensures in
+    let did : step (c.lines.line + 1) c.lines.catalog (strip_carriage_return c.in-Some.piece.now)
     ≡ next c.take_line.new.catalog =
     rw (c.in-Ok-true.field-0-test, dropped) at c.in-Ok-true.ensures in (
       omega (arith, c.lines.invariant.0, shorter),
@@ -30,8 +32,9 @@ lines-preserved c =
 
 pub returns-in-Ok-false : goal.returns-in-Ok-false
 returns-in-Ok-false c =
-    let dropped : c.without_cr.result.now ≡ without_cr c.in-Some.piece.now = c.without_cr.ensures in
-    let did : (step (c.lines.line + 1) c.lines.catalog (without_cr c.in-Some.piece.now) ≡ query)
+    let dropped : c.without_cr.result.now
+    ≡ strip_carriage_return c.in-Some.piece.now = c.without_cr.ensures in
+    let did : (step (c.lines.line + 1) c.lines.catalog (strip_carriage_return c.in-Some.piece.now) ≡ query)
     × (c.take_line.new.catalog ≡ c.lines.catalog) =
     rw (c.in-Ok-false.field-0-test, dropped) at c.in-Ok-false.ensures in
     let is = ap (λ held. with_query (c.lines.line + 1) held c.in-Some.after.now) did.1
@@ -42,7 +45,8 @@ returns-in-Ok-false c =
 
 pub returns-in-Err : goal.returns-in-Err
 returns-in-Err c =
-    let dropped : c.without_cr.result.now ≡ without_cr c.in-Some.piece.now = c.without_cr.ensures in
+    let dropped : c.without_cr.result.now
+    ≡ strip_carriage_return c.in-Some.piece.now = c.without_cr.ensures in
     elim (c.in-Err.ensures) [
       | inl m ↦ inl m
       | inr e ↦ inr (sym (goes step c.lines.line c.lines.catalog c.lines.rest.now _ _ _ (fault c.in-Err.fault)

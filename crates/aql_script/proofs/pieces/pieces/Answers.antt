@@ -1,18 +1,10 @@
-use Rattle.std.proofs.Common.{arith}
-use Rattle.aql_script.proofs.Cuts.{cut_length, one_cut, last_cut}
+use Rattle.std.proofs.Common.{rules, tests}
+use Rattle.std.proofs.lemmas.Iterator.Consumers.{map_from_collect}
+use Rattle.std.proofs.lemmas.Iterator.Splits.{YieldsList-from_slice_split}
+use Rattle.std.proofs.lemmas.Result.{IfOk-at_ok}
 use Rattle.aql_script.proofs.pieces.pieces.Goals as goal
 
-pub cuts-smaller : goal.cuts-smaller
-cuts-smaller c =
-    let shorter =
-    cut_length c.args.at c.cuts.rest.now c.in-Some.piece.now c.in-Some.after.now c.in-Some.ensures in
-    omega (arith, shorter)
-
-pub cuts-preserved : goal.cuts-preserved
-cuts-preserved c =
-    one_cut c.args.at c.cuts.rest.now c.in-Some.piece.now c.in-Some.after.now _ _ _ c.in-Some.ensures
-    c.in_ok-add.ensures c.cuts.invariant
-
 pub returns : goal.returns
-returns c =
-    last_cut c.args.at c.cuts.rest.now _ _ _ c.in_default.ensures c.in_ok-add-2.ensures c.cuts.invariant
+returns c = IfOk-at_ok _ c.in_ok-found.was (map_from_collect _ c.collect.ensures.ran
+    (YieldsList-from_slice_split _ _ c.args.bytes.now c.split.ensures.rest c.split.ensures.done
+    c.split.ensures.closure (λ x r q k. search (rules, tests))))

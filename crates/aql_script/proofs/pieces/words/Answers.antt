@@ -1,22 +1,14 @@
-use Rattle.std.proofs.Common.{sym, ◌∙◌, arith, map}
-use Rattle.aql_script.proofs.WordsOn.{letter, blank}
+use Rattle.std.proofs.Common.{nat_eq, not, length, rules, tests}
+use Rattle.std.proofs.lemmas.Iterator.Consumers.{map_from_collect, YieldsList-at, YieldsList-from_filter}
+use Rattle.std.proofs.lemmas.Iterator.Splits.{YieldsList-from_slice_split}
+use Rattle.std.proofs.lemmas.Result.{IfOk-at_ok}
+use Rattle.aql_script.specs.Pieces.{is_blank}
 use Rattle.aql_script.proofs.pieces.words.Goals as goal
 
-pub loop-i-preserved-then-not-is_blank : goal.loop-i-preserved-then-not-is_blank
-loop-i-preserved-then-not-is_blank c =
-    let held = map (λ w. w.now) c.loop-i.out.items in
-    let plain = sym c.is_blank.ensures ∙ c.if-not-is_blank.true in (
-      omega (arith, c.loop-i.invariant.0),
-      letter held c.args.line.now c.loop-i.start c.loop-i.i _ c.loop-i.invariant.0 c.loop-i-test.true plain
-          c.loop-i.invariant.1,
-    )
-
-pub loop-i-preserved : goal.loop-i-preserved
-loop-i-preserved c =
-    let held = map (λ w. w.now) c.loop-i.out.items in
-    let more = map (λ w. w.now) c.end_word.new.out.items in
-    let ends = sym c.is_blank.ensures ∙ c.if-not-is_blank.false in (
-      omega arith,
-      blank held more c.args.line.now c.loop-i.start c.loop-i.i _ c.loop-i-test.true ends
-          c.in_ok-end_word.ensures c.loop-i.invariant.1,
-    )
+pub returns : goal.returns
+returns c = IfOk-at_ok _ c.in_ok-found.was (map_from_collect _ c.collect.ensures.ran
+    (YieldsList-from_filter _ (λ word. not (nat_eq (length word) 0))
+    (YieldsList-at c.filter.ensures.source
+    (YieldsList-from_slice_split _ is_blank c.args.line.now c.split-pieces.ensures.rest
+    c.split-pieces.ensures.done c.split-pieces.ensures.closure (λ x r q k. search (rules, tests))))
+    c.filter.ensures.closure (λ x r q k. search (rules, tests))))

@@ -22,7 +22,7 @@ pub links-returns-then-not-sees_operator : goal.links-returns-then-not-sees_oper
 unfolding many_from
 links-returns-then-not-sees_operator g t c =
     let e = one_more (rest c.args.self.now.depth c.args.self.now.inside c.args.precedence
-    (map link_part c.loop-turn.found) c.loop-turn.tokens) c.left-turn-end.result c.loop-turn._turn
+    (map link_part c.loop-turn.found) c.loop-turn.tokens) _ c.loop-turn._turn
     (omega arith) c.loop-turn.invariant in
     first_of (search rules, grind (arith, common_steps))
 
@@ -30,7 +30,7 @@ pub links-returns-in_err-link : goal.links-returns-in_err-link
 unfolding many_from
 links-returns-in_err-link g t c =
     let e = one_more (rest c.args.self.now.depth c.args.self.now.inside c.args.precedence
-    (map link_part c.loop-turn.found) c.loop-turn.tokens) c.left-turn-end.result c.loop-turn._turn
+    (map link_part c.loop-turn.found) c.loop-turn.tokens) _ c.loop-turn._turn
     (omega arith) c.loop-turn.invariant in
     first_of (search rules, grind (arith, common_steps))
 
@@ -38,7 +38,7 @@ pub links-loop-turn-preserved : goal.links-loop-turn-preserved
 unfolding many_from
 links-loop-turn-preserved g t c =
     let e = one_more (rest c.args.self.now.depth c.args.self.now.inside c.args.precedence
-    (map link_part c.loop-turn.found) c.loop-turn.tokens) c.left-turn-end.result c.loop-turn._turn
+    (map link_part c.loop-turn.found) c.loop-turn.tokens) _ c.loop-turn._turn
     (omega arith) c.loop-turn.invariant in
     first_of (search rules, grind (arith, common_steps))
 
@@ -46,14 +46,15 @@ pub links-returns : goal.links-returns
 unfolding many_from
 links-returns g t c =
     let e = no_more (rest c.args.self.now.depth c.args.self.now.inside c.args.precedence
-    (map link_part c.loop-turn.found) c.loop-turn.tokens) c.left-turn-end.result c.loop-turn._turn
+    (map link_part c.loop-turn.found) c.loop-turn.tokens) _ c.loop-turn._turn
     (omega arith) c.loop-turn.invariant in
     first_of (search rules, grind (arith, common_steps))
 
 pub level-returns-in-Range : goal.level-returns-in-Range
 unfolding span
 level-returns-in-Range g t c =
-    rw (ap (λ p. level_at (expr c.args.self.now.depth) c.args.self.now.inside p c.args.tokens.now) c.in-Range.is)
+    rw (ap
+    (λ p. level_at (expr c.args.self.now.depth) c.args.self.now.inside p c.args.tokens.now) c.in-Range.is)
     c.range.ensures
 
 pub level-returns-in-ArrayComparison : goal.level-returns-in-ArrayComparison

@@ -3,7 +3,7 @@ use Rattle.std.specs.Prelude.{option_to_list}
 use Rattle.std.proofs.lemmas.Grind.{common_steps}
 use Rattle.aql_lift.specs.Numbering.{idents}
 use Rattle.aql_names.proofs.Words.{new_append}
-use Rattle.aql_names.proofs.clauses.check_walk_vars.Goals as goal
+use Rattle.aql_names.proofs.clauses.check_traversal_variables.Goals as goal
 
 pub returns-in_err-check_maybe : goal.returns-in_err-check_maybe
 returns-in_err-check_maybe c =

@@ -1,0 +1,10 @@
+//! What the two crates of tests write texts with: pages, and trees in two notations.
+#![tactic(auto)]
+
+mod notation;
+mod pages;
+mod queries;
+
+pub use notation::Notation;
+pub use pages::Page;
+pub use queries::{write_names, write_query};
