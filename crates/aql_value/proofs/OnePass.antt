@@ -12,12 +12,12 @@ use Rattle.json.specs.Json.{parse_map, after_end_array, read_key}
 use Rattle.json.proofs.Grammar.{value_is, value-begin_array, value-begin_object, items_end, items_more, members_end, members_more}
 use Rattle.serde_json.specs.Data as json
 use Rattle.serde_json.specs.Find.{as_i64}
-use Rattle.serde_json.specs.Read.{of_json, of_items, of_members, number_of, number_from}
+use Rattle.serde_json.specs.Read.{of_json, of_members, number_of, number_from}
 use Rattle.aql_value.specs.Datum.{Datum, null, boolean, number, text, array, object, Datums, no_datums, datum_then, Fields, no_fields, field, array_of, object_of}
-use Rattle.aql_value.specs.FromJson.{from_json, items_from_json, members_from_json}
+use Rattle.aql_value.specs.FromJson.{from_json, members_from_json}
 use Rattle.aql_value.specs.Attributes.{with_attribute}
 use Rattle.aql_value.specs.JsonLine.{json_line}
-use Rattle.aql_value.specs.Tokens.{Stands, ValueStands, ItemsStand, MembersStand, Reads, levels, ReadsValue, ReadsItems, ReadsMembers}
+use Rattle.aql_value.specs.Tokens.{ValueStands, ItemsStand, levels, ReadsValue, ReadsItems, ReadsMembers}
 use Rattle.aql_value.specs.laws.Ranks.{same_bytes}
 use Rattle.aql_value.proofs.JsonLines.{read_whole}
 use Rattle.aql_value.proofs.Turns.{trees_before, trees_all, trees_last}

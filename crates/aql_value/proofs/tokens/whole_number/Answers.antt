@@ -1,5 +1,4 @@
-use Rattle.std.proofs.Common.{◌≡◌, drop, true, false, ◌==◌, sym, ap, ◌∙◌, arith, take_all, length-drop}
-use Rattle.std.specs.Prelude.{slice_index}
+use Rattle.std.proofs.Common.{◌≡◌, drop, sym, ap, ◌∙◌, arith, take_all, length-drop}
 use Rattle.fast_float.specs.Text.{scan}
 use Rattle.aql_value.proofs.OnePass.{positive_read, negative_read}
 use Rattle.aql_value.proofs.tokens.whole_number.Goals as goal
