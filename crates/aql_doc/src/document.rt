@@ -25,6 +25,7 @@ pub(crate) fn fill(
 {
     let mut filled = with_key(alloc, key, members)?;
     let id = id_of(alloc, name, key)?;
+    filled.reserve(1)?;
     filled.set(Text::new(alloc, "_id")?, Value::Text(id))?;
     Ok(Value::Object(filled))
 }

@@ -1,7 +1,8 @@
 use crate::pages::{Page, expect};
 use aql_value::{
-    CollNo, CollNos, Items, JsonFault, Members, Names, Text, Value, cmp, copy, from_json_line,
-    order_is_total, recall_well_formed, text_is_read_back, to_number, to_text, truthy, write_json,
+    CollNo, CollNos, Items, JsonFault, LineReader, Members, Names, Text, Value, cmp, copy,
+    from_json_line, order_is_total, recall_well_formed, text_is_read_back, to_number, to_text,
+    truthy, write_json,
 };
 use std::alloc::Global;
 use std::cmp::Ordering;
@@ -29,8 +30,19 @@ fn reads(alloc: Global, line: &str, json: &str) -> bool {
     }
 }
 
+// The same of a reader of lines.
+fn reads_line(alloc: Global, line: &str, json: &str) -> bool {
+    let mut reader = LineReader::new(alloc);
+    match reader.read(alloc, line.as_bytes()) {
+        Ok(value) => is_written(alloc, &value, json),
+        Err(_) => false,
+    }
+}
+
 fn is_refused(alloc: Global, line: &str, fault: JsonFault) -> bool {
+    let mut reader = LineReader::new(alloc);
     from_json_line(alloc, line.as_bytes()).err() == Some(fault)
+        && reader.read(alloc, line.as_bytes()).err() == Some(fault)
 }
 
 // A line of `depth` nested arrays.
@@ -64,6 +76,7 @@ static LINES: [(&str, &str); 7] = [
 fn lines(rt: HostRuntime) {
     for (line, json) in &LINES {
         expect(&rt, reads(rt.alloc(), line, json), line, "");
+        expect(&rt, reads_line(rt.alloc(), line, json), line, "");
     }
 }
 
@@ -113,7 +126,8 @@ fn depths(rt: HostRuntime) {
         expect(&rt, is_refused, line.as_str(), "");
     }
     let deepest = nested(alloc, 64);
-    let is_read = reads(alloc, deepest.as_str(), deepest.as_str());
+    let is_read = reads(alloc, deepest.as_str(), deepest.as_str())
+        && reads_line(alloc, deepest.as_str(), deepest.as_str());
     expect(&rt, is_read, deepest.as_str(), "");
 }
 

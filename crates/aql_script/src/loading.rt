@@ -14,7 +14,7 @@ use crate::step::take_line;
 use crate::{LimitKind, LineKind, LoadFault};
 use aql_doc::Catalog;
 use aql_io::{ReadAllFault, Source, read_all};
-use aql_value::Text;
+use aql_value::{LineReader, Text};
 use std::alloc::Global;
 
 /// The most bytes of a script.
@@ -91,14 +91,15 @@ fn load_lines(alloc: Global, bytes: &[u8]) -> Result<Loaded, LoadFault>
     ensures { Meets result (lines bytes.now) }
 {
     let mut catalog = Catalog::new(alloc);
+    let mut reader = LineReader::new(alloc);
     let mut rest = bytes;
     let mut line: u32 = 0;
     'lines: loop {
         let Some((piece, after)) = cut_at(b'\n', rest) else {
-            return load_last(alloc, line, catalog, rest);
+            return load_last(alloc, line, &mut reader, catalog, rest);
         };
         line += 1;
-        match take_line(alloc, line, &mut catalog, without_cr(piece)) {
+        match take_line(alloc, line, &mut reader, &mut catalog, without_cr(piece)) {
             Ok(true) => {}
             Ok(false) => return with_query(alloc, line, catalog, after),
             Err(fault) => return Err(fault),
@@ -111,6 +112,7 @@ fn load_lines(alloc: Global, bytes: &[u8]) -> Result<Loaded, LoadFault>
 fn load_last(
     alloc: Global,
     before: u32,
+    reader: &mut LineReader,
     catalog: Catalog,
     bytes: &[u8],
 ) -> Result<Loaded, LoadFault>
@@ -122,7 +124,7 @@ fn load_last(
     }
     let line = before + 1;
     let mut held = catalog;
-    match take_line(alloc, line, &mut held, bytes) {
+    match take_line(alloc, line, reader, &mut held, bytes) {
         Ok(true) => Err(no_query(line)),
         Ok(false) => with_query(alloc, line, held, b""),
         Err(fault) => Err(fault),

@@ -14,7 +14,7 @@ use crate::options::Options;
 use crate::pieces::{first_of, words};
 use crate::{LimitKind, LineKind, LoadFault};
 use aql_doc::{Catalog, CatalogFault, DocFault};
-use aql_value::{CollNo, JsonFault, Names, OutOfMemory, Text, from_json_line};
+use aql_value::{CollNo, JsonFault, LineReader, Names, OutOfMemory, Text};
 use std::alloc::Global;
 
 /// The most bytes of a line before the query.
@@ -25,6 +25,7 @@ const LINE_BYTES: usize = 1_048_576;
 pub(crate) fn take_line(
     alloc: Global,
     line: u32,
+    reader: &mut LineReader,
     catalog: &mut Catalog,
     bytes: &[u8],
 ) -> Result<bool, LoadFault>
@@ -42,7 +43,7 @@ pub(crate) fn take_line(
     if first == b'%' {
         take_directive(alloc, line, catalog, bytes)
     } else {
-        take_document(alloc, line, catalog, bytes)?;
+        take_document(alloc, line, reader, catalog, bytes)?;
         Ok(true)
     }
 }
@@ -160,6 +161,7 @@ fn add_index(
 fn take_document(
     alloc: Global,
     line: u32,
+    reader: &mut LineReader,
     catalog: &mut Catalog,
     bytes: &[u8],
 ) -> Result<(), LoadFault>
@@ -171,7 +173,7 @@ fn take_document(
         return Err(fault_at(line, LineKind::NoCollection));
     }
     let last = CollNo((declared - 1) as u32);
-    match from_json_line(alloc, bytes) {
+    match reader.read(alloc, bytes) {
         Ok(value) => match catalog.add_document(alloc, last, value) {
             Ok(_) => Ok(()),
             Err(fault) => Err(doc_fault(line, &fault)),

@@ -27,7 +27,7 @@ abbrev pub fields_before : List Field → Fields → Fields
 fields_before [] gs = gs
 fields_before (f ∷ fs) gs = field f.0 f.1 (fields_before fs gs)
 
-trees_last : (ts : List Datum) (t : Datum) (us : Datums)
+pub trees_last : (ts : List Datum) (t : Datum) (us : Datums)
     → trees_before ts (datum_then t us) ≡ trees_before (ts ++ t ∷ []) us
 trees_last [] t us = refl
 trees_last (x ∷ ts) t us = ap (datum_then x) (trees_last ts t us)

@@ -13,6 +13,7 @@ pub mod Json
 pub mod Writes
 pub mod FromJson
 pub mod JsonLine
+pub mod Tokens
 pub mod HashInput
 pub mod RoundTrip
 pub mod Parts

@@ -69,6 +69,14 @@ impl Members {
         }
     }
 
+    /// Makes room for so many more attributes, and no more than that.
+    pub fn reserve(&mut self, more: usize) -> Result<(), OutOfMemory>
+        ensures { self.new ≡ self.old }
+    {
+        self.entries.reserve_exact(more)?;
+        Ok(())
+    }
+
     /// Sets an attribute, in place of the one of this name if there is one. Where memory runs out
     /// all stays as it was.
     pub fn set(&mut self, name: Text, value: Value) -> Result<(), OutOfMemory>

@@ -11,6 +11,7 @@ mod memory;
 mod order;
 mod reading;
 mod texts;
+mod tokens;
 mod values;
 mod writing;
 
@@ -20,7 +21,7 @@ pub use copying::copy;
 pub use lists::{CollNo, CollNos, DocNo, Names, Seq, Vars};
 pub use memory::OutOfMemory;
 pub use order::{cmp, order_is_total};
-pub use reading::{JsonFault, from_json_line, text_is_read_back};
+pub use reading::{JsonFault, LineReader, from_json_line, text_is_read_back};
 pub use texts::Text;
 pub use values::{Items, Member, Members, Value, recall_well_formed};
 pub use writing::write_json;

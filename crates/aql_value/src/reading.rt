@@ -9,8 +9,10 @@ ghost use Rattle.aql_value.specs.JsonLine.{json_line, Refuses};
 ghost use Rattle.aql_value.specs.declared.reading.JsonFault.TheVariants.{Memory};
 
 use crate::texts::recall_utf8;
+use crate::tokens::value_in;
 use crate::values::{Member, recall_well_formed};
 use crate::{Items, Members, OutOfMemory, Text, Value};
+use json::Scratch;
 use serde_json::Map;
 use std::alloc::{AllocError, AllocFailed, Global};
 use thiserror::Error;
@@ -55,6 +57,35 @@ pub fn from_json_line(alloc: Global, line: &[u8]) -> Result<Value, JsonFault>
         } else {
             Err(JsonFault::NotJson)
         },
+    }
+}
+
+/// Reads lines of JSON one after another, and keeps the room that it needs for one.
+#[derive(Drop)]
+pub struct LineReader {
+    scratch: Scratch,
+}
+
+impl LineReader {
+    /// A reader that has read no line yet.
+    pub fn new(alloc: Global) -> LineReader {
+        LineReader {
+            scratch: Scratch::new(alloc),
+        }
+    }
+
+    /// The value that a line of JSON writes, or its fault, as `from_json_line` gives them.
+    ///
+    /// One pass over the tokens makes the value of a line that has no fault. Where it does not come
+    /// to an end, the line is read again, so that of several faults the first is answered.
+    pub fn read(&mut self, alloc: Global, line: &[u8]) -> Result<Value, JsonFault>
+        ensures value { IfOk result (λ v. json_line line.now ≡ Ok (datum_of v)) }
+        ensures fault { IfErr result (λ e. (e ≡ Memory) ⊎ (json_line line.now ≡ Err e)) }
+    {
+        match value_in(alloc, line, &mut self.scratch) {
+            Some(value) => Ok(value),
+            None => from_json_line(alloc, line),
+        }
     }
 }
 
