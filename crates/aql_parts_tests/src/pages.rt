@@ -1,6 +1,5 @@
 // What the rows of the tables are judged by.
 pub use aql_test_support::Page;
-
 use std::process::Abort;
 
 pub fn expect_page(rt: &impl Abort, page: &Page, want: &str, of: &str) {
