@@ -1,0 +1,4 @@
+pub mod Beside
+pub mod Filled
+pub mod Found
+pub mod Tabled

@@ -4,3 +4,4 @@ pub mod Tables
 pub mod Columns
 pub mod Calls
 pub mod Counts
+pub mod laws

@@ -1,6 +1,6 @@
 -- A row as the program holds it: its variables with their values, of which the first entry of a variable
 -- counts. As the clauses of a query see it, it is a row of aql_meaning, by `row_of`.
-use Rattle.std.specs.Prelude.{ℕ, List, [], ◌∷◌, Bool, cond, None, IsSome}
+use Rattle.std.specs.Prelude.{ℕ, zero, suc, ◌≡◌, ◌≢◌, List, [], ◌∷◌, map, Bool, cond, None, IsSome}
 use Rattle.std.specs.List.{list_any, AllByRecursion}
 use Rattle.std.specs.Coded.{Coded, coded_ℕ, coded_list, coded×}
 use Rattle.aql_value.specs.Datum.{Datum, coded_datum}
@@ -30,3 +30,12 @@ is_among vars y = list_any (λ x. same_ident (Num x) y) vars
 -- the row with these variables alone
 abbrev pub only : List ℕ → Row → Row
 only vars row y = cond (is_among vars y) (row y) None
+
+abbrev pub variables_of : Entries → List ℕ
+variables_of es = map (λ e. e.0) es
+
+-- the first place of a variable
+abbrev pub IsFirst : List ℕ → ℕ → ℕ → Type 0
+IsFirst [] x at = ⊥
+IsFirst (y ∷ ys) x zero = y ≡ x
+IsFirst (y ∷ ys) x (suc at) = (y ≢ x) × IsFirst ys x at

@@ -1,12 +1,11 @@
 //! Blocks of rows.
 
-ghost use Rattle.std.specs.Prelude.{◌≡◌, ◌<◌, ◌^◌, ◌↔◌, ◌++◌, ◌∷◌, [], ◌≤◌, length, map, take, drop, ◌==◌, false, IsTrue, IsNone, IsErr, IfSome, IfOk, IfErr, OnOk, OnErr, Some, option_map, slice_get, slice_set};
-ghost use Rattle.std.specs.List.{position_from};
+ghost use Rattle.std.specs.Prelude.{◌≡◌, ◌<◌, ◌^◌, ◌↔◌, ◌++◌, ◌∷◌, [], ◌≤◌, length, map, take, drop, false, IsTrue, IsNone, IsErr, IfSome, IfOk, IfErr, OnOk, OnErr, Some, MatchOption, option_map, slice_get, slice_set};
 ghost use Rattle.aql_value.specs.View.{datum_of, datums_in};
 ghost use Rattle.aql_tree.specs.declared.syntax.Ident.TheVariants.{Num};
 ghost use Rattle.aql_meaning.specs.Row.{empty_row, bind};
 ghost use Rattle.aql_meaning.specs.Clauses.{with_values};
-ghost use Rattle.aql_block.specs.Rows.{row_of, HasAll, is_among, only};
+ghost use Rattle.aql_block.specs.Rows.{row_of, HasAll, is_among, only, IsFirst};
 ghost use Rattle.aql_block.specs.Tables.{cells, cells_at, rows_of, marked};
 
 use crate::Row;
@@ -382,7 +381,8 @@ impl RowRef<'_> {
 
 // The place of a register, the first where there are several.
 fn place_of(registers: &[u32], var: u32) -> Option<usize>
-    ensures { result ≡ position_from (λ x. x == var) 0 registers.now }
+    ensures { MatchOption result (is_among registers.now (Num var) ≡ false)
+        (IsFirst registers.now var) }
 {
     for (at, register) in registers.iter().enumerate() {
         if *register == var {

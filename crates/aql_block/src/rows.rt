@@ -1,12 +1,11 @@
 //! Rows by themselves.
 
-ghost use Rattle.std.specs.Prelude.{ℕ, ◌≡◌, ◌==◌, IfOk, OnOk, OnErr, IsSome, option_map};
-ghost use Rattle.std.specs.List.{position_from};
-ghost use Rattle.aql_value.specs.Datum.{Datum, null};
+ghost use Rattle.std.specs.Prelude.{◌≡◌, IfOk, OnOk, OnErr, IsSome, None, MatchOption, option_map};
+ghost use Rattle.aql_value.specs.Datum.{null};
 ghost use Rattle.aql_value.specs.View.{datum_of};
 ghost use Rattle.aql_tree.specs.declared.syntax.Ident.TheVariants.{Num};
 ghost use Rattle.aql_meaning.specs.Row.{empty_row, bind, value_at};
-ghost use Rattle.aql_block.specs.Rows.{row_of};
+ghost use Rattle.aql_block.specs.Rows.{row_of, variables_of, IsFirst};
 
 use aql_value::{OutOfMemory, Value, copy};
 use std::alloc::Global;
@@ -125,7 +124,8 @@ impl Row {
 
     // The place of a variable's entry.
     fn place(&self, var: u32) -> Option<usize>
-        ensures { result ≡ position_from (λ (e : ℕ × Datum). e.0 == var) 0 self.now }
+        ensures { MatchOption result (row_of self.now (Num var) ≡ None)
+            (IsFirst (variables_of self.now) var) }
     {
         for (at, entry) in self.entries.iter().enumerate() {
             if entry.var == var {
