@@ -97,10 +97,11 @@ rows_in-without n at (c ∷ cs) =
 -- ---- the first rows, and the others
 
 blank_take : (k n : ℕ) → blanks (min n k) ≡ take k (blanks n)
-blank_take zero zero = refl
-blank_take zero (suc n) = refl
-blank_take (suc k) zero = refl
-blank_take (suc k) (suc n) = ap (λ rows. [] ∷ rows) (blank_take k n)
+blank_take zero n = (let e : min n 0 ≡ 0 = omega arith in ap blanks e)
+blank_take (suc k) zero = (let e : min 0 (suc k) ≡ 0 = omega arith in ap blanks e)
+blank_take (suc k) (suc n) =
+    (let e : min (suc n) (suc k) ≡ suc (min n k) = omega arith in ap blanks e)
+    ∙ ap (λ rows. [] ∷ rows) (blank_take k n)
 
 beside_take : (k : ℕ) (vs : List Datum) (rows : List (List Datum))
     → beside (take k vs) (take k rows) ≡ take k (beside vs rows)
@@ -117,9 +118,10 @@ rows_in-first_of k n (c ∷ cs) =
     ∙ beside_take k c.held (rows_in n cs)
 
 blank_drop : (k n : ℕ) → blanks (n - k) ≡ drop k (blanks n)
-blank_drop zero n = refl
-blank_drop (suc k) zero = refl
-blank_drop (suc k) (suc n) = blank_drop k n
+blank_drop zero n = (let e : n - 0 ≡ n = omega arith in ap blanks e)
+blank_drop (suc k) zero = (let e : 0 - suc k ≡ 0 = omega arith in ap blanks e)
+blank_drop (suc k) (suc n) =
+    (let e : suc n - suc k ≡ n - k = omega arith in ap blanks e) ∙ blank_drop k n
 
 beside_none : (vs : List Datum) → beside vs [] ≡ []
 beside_none [] = refl

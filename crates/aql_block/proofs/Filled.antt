@@ -1,5 +1,6 @@
 -- The columns of a block stay filled.
-use Rattle.std.proofs.Common.{◌≡◌, ◌∙◌, ℕ, zero, suc, ◌+◌, ◌-◌, ◌<◌, ◌≤◌, min, List, [], ◌∷◌, ◌++◌, length, take, drop, map, replicate, Bool, true, false, refl, ap, ap₂, sym, arith, length-append, length-take, length-drop, length-map, length-set}
+use Rattle.std.proofs.Common.{◌≡◌, ◌∙◌, ℕ, zero, suc, ◌+◌, ◌-◌, ◌<◌, ◌≤◌, min, List, [], ◌∷◌, ◌++◌, length, take, drop, map, replicate, Bool, true, false, refl, ap, ap₂, sym, arith, length-append, length-take, length-drop, length-set, add-one}
+use Rattle.std.proofs.lemmas.List.{length-map}
 use Rattle.std.specs.Prelude.{slice_set}
 use Rattle.std.specs.List.{AllByRecursion}
 use Rattle.aql_value.specs.Datum.{Datum, null}
@@ -15,10 +16,10 @@ each f [] h = tt
 each f (c ∷ cs) h = (f c h.0, each f cs h.1)
 
 -- the same of columns to which the same was done
-pub each_map : {P Q : Places → Type 0} (g : Places → Places) → ((c : Places) → P c → Q (g c))
+pub each_map : (P Q : Places → Type 0) (g : Places → Places) → ((c : Places) → P c → Q (g c))
     → (cs : List Places) → AllByRecursion P cs → AllByRecursion Q (map g cs)
-each_map g f [] h = tt
-each_map g f (c ∷ cs) h = (f c h.0, each_map g f cs h.1)
+each_map P Q g f [] h = tt
+each_map P Q g f (c ∷ cs) h = (f c h.0, each_map P Q g f cs h.1)
 
 pub all_room : (n room : ℕ) (cs : List Places) → AllByRecursion (Fits n room) cs → n < room
     → AllByRecursion HasRoom cs
@@ -81,21 +82,21 @@ pub filled_pushed : (xs : List ℕ) (cs : List Places) (n room : ℕ) (row : Row
     → n < room → IsFilled xs (pushed cs (taken xs row)) (n + 1) room
 filled_pushed xs cs n room row h l = record {
     count = length-pushed cs (taken xs row) ∙ h.count;
-    fit = fits_pushed n room cs (taken xs row) h.fit (h.count ∙ sym (length-taken xs row));
+    fit = rw add-one (fits_pushed n room cs (taken xs row) h.fit (h.count ∙ sym (length-taken xs row)));
     within = omega arith }
 
 pub filled_without : (xs : List ℕ) (cs : List Places) (n room at : ℕ) → IsFilled xs cs n room
     → IsFilled xs (map (without at) cs) n room
 filled_without xs cs n room at h = record {
     count = length-map cs (without at) ∙ h.count;
-    fit = each_map (without at) (λ c f. (length-set c.held at null ∙ f.0, f.1)) cs h.fit;
+    fit = each_map (Fits n room) (Fits n room) (without at) (λ c f. (length-set c.held at null ∙ f.0, f.1)) cs h.fit;
     within = h.within }
 
 pub filled_first : (xs : List ℕ) (cs : List Places) (n room k : ℕ) → IsFilled xs cs n room
     → IsFilled xs (map (first_of k) cs) (min n k) room
 filled_first xs cs n room k h = record {
     count = length-map cs (first_of k) ∙ h.count;
-    fit = each_map (first_of k)
+    fit = each_map (Fits n room) (Fits (min n k) room) (first_of k)
         (λ c f. ((let e = length-take k c.held in let g = f.0 in omega arith), f.1)) cs h.fit;
     within = (let b = h.within in omega arith) }
 
@@ -103,7 +104,7 @@ pub filled_rest : (xs : List ℕ) (cs : List Places) (n room k : ℕ) → IsFill
     → IsFilled xs (map (rest_of k) cs) (n - k) (n - k)
 filled_rest xs cs n room k h = record {
     count = length-map cs (rest_of k) ∙ h.count;
-    fit = each_map (rest_of k)
+    fit = each_map (Fits n room) (Fits (n - k) (n - k)) (rest_of k)
         (λ c f. (let e = length-drop k c.held in let g = f.0 in (omega arith, omega arith))) cs h.fit;
     within = omega arith }
 
@@ -127,6 +128,6 @@ pub filled_marked : (xs : List ℕ) (cs : List Places) (n room : ℕ) (marks : L
     → IsFilled xs (map (marked_of marks) cs) (length (marked marks marks)) room
 filled_marked xs cs n room marks h e = record {
     count = length-map cs (marked_of marks) ∙ h.count;
-    fit = each_map (marked_of marks)
+    fit = each_map (Fits n room) (Fits (length (marked marks marks)) room) (marked_of marks)
         (λ c f. (length-marked c.held marks marks (f.0 ∙ sym e), f.1)) cs h.fit;
     within = (let b = h.within in let k = length-marked-le marks marks in omega arith) }

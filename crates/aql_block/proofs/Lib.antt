@@ -1,4 +1,6 @@
 pub mod Beside
 pub mod Filled
 pub mod Found
+pub mod Sought
+pub mod Steps
 pub mod Tabled

@@ -1,8 +1,9 @@
 -- The rows of a block after each of its calls.
-use Rattle.std.proofs.Common.{◌≡◌, ◌∙◌, ℕ, zero, suc, ◌+◌, ◌-◌, ◌<◌, min, List, [], ◌∷◌, ◌++◌, length, take, drop, set, get_or, map, Bool, true, false, refl, ap, sym, arith, length-map}
-use Rattle.std.proofs.lemmas.List.{map-append, take-map, map-set}
+use Rattle.std.proofs.Common.{◌≡◌, ◌∙◌, ℕ, zero, suc, ◌+◌, ◌-◌, ◌<◌, min, List, [], ◌∷◌, ◌++◌, length, take, drop, set, get_or, map, Bool, true, false, refl, ap, sym, arith}
+use Rattle.std.proofs.lemmas.List.{length-map, map-append, take-map, map-set}
 use Rattle.std.proofs.lemmas.Option.{slice_get-map}
-use Rattle.std.specs.Prelude.{Option, Some, None, option_map, slice_get, slice_set, unwrap_or}
+use Rattle.std.proofs.lemmas.Bool.{eqb-true, eq-eqb}
+use Rattle.std.specs.Prelude.{Option, Some, None, IsTrue, ◌==◌, ◌≤◌, option_map, slice_get, slice_set, unwrap_or}
 use Rattle.std.specs.List.{AllByRecursion}
 use Rattle.aql_value.specs.Datum.{Datum, null}
 use Rattle.aql_tree.specs.declared.syntax.Ident.TheVariants.{Num}
@@ -29,7 +30,8 @@ pub rows_pushed : (xs : List ℕ) (cs : List Places) (n room : ℕ) (row : Row) 
     → HasAll xs row
     → rows_by xs (rows_in (n + 1) (pushed cs (taken xs row))) ≡ rows_by xs (rows_in n cs) ++ only xs row ∷ []
 rows_pushed xs cs n room row h all =
-    ap (λ rows. rows_by xs rows)
+    (let e : n + 1 ≡ suc n = omega arith in ap (λ k. rows_by xs (rows_in k (pushed cs (taken xs row)))) e)
+    ∙ ap (λ rows. rows_by xs rows)
         (rows_in-pushed n room cs (taken xs row) h.fit (h.count ∙ sym (length-taken xs row)))
     ∙ map-append (λ vs. row_of (cells xs vs)) (rows_in n cs) (taken xs row ∷ [])
     ∙ ap (λ r. rows_by xs (rows_in n cs) ++ r ∷ []) (only_taken xs row all)
@@ -60,7 +62,7 @@ rows_first xs cs n k =
     ap (λ rows. rows_by xs rows) (rows_in-first_of k n cs)
     ∙ sym (take-map (λ vs. row_of (cells xs vs)) k (rows_in n cs))
 
-drop-map : {X Y : Type 0} (f : X → Y) (n : ℕ) (xs : List X) → drop n (map f xs) ≡ map f (drop n xs)
+pub drop-map : {X Y : Type 0} (f : X → Y) (n : ℕ) (xs : List X) → drop n (map f xs) ≡ map f (drop n xs)
 drop-map f zero xs = refl
 drop-map f (suc n) [] = refl
 drop-map f (suc n) (x ∷ xs) = drop-map f n xs
@@ -71,7 +73,7 @@ rows_rest xs cs n k =
     ap (λ rows. rows_by xs rows) (rows_in-rest_of k n cs)
     ∙ sym (drop-map (λ vs. row_of (cells xs vs)) k (rows_in n cs))
 
-marked-map : {X Y : Type 0} (f : X → Y) (xs : List X) (marks : List Bool)
+pub marked-map : {X Y : Type 0} (f : X → Y) (xs : List X) (marks : List Bool)
     → marked (map f xs) marks ≡ map f (marked xs marks)
 marked-map f [] marks = refl
 marked-map f (x ∷ xs) [] = refl
@@ -130,3 +132,19 @@ value_there xs cs n room at x place c h l first there =
         let same : d ≡ c = cc in
         within c.held at (let m = g.0.0 in let k = ap (λ (p : Places). length p.held) same in omega arith)
     held (d ∷ ds) (suc k) g e = held ds k g.1 e
+
+-- whether a block is full
+pub is_full_when : (n room len : ℕ) → len ≡ n → (IsTrue (n == room) → len ≡ room) × (len ≡ room → IsTrue (n == room))
+is_full_when n room len e = (λ full. e ∙ eqb-true n room full, λ same. eq-eqb n room (sym e ∙ same))
+
+pub row_there : (xs : List ℕ) (rows : List (List Datum)) (at : ℕ) → at < length rows
+    → Some (row_of (cells xs (unwrap_or (slice_get rows at) []))) ≡ slice_get (rows_by xs rows) at
+row_there xs [] at l = absurd (omega arith)
+row_there xs (row ∷ rows) zero l = refl
+row_there xs (row ∷ rows) (suc at) l = row_there xs rows at (omega arith)
+
+pub no_row_there : (xs : List ℕ) (rows : List (List Datum)) (at : ℕ) → length rows ≤ at
+    → None ≡ slice_get (rows_by xs rows) at
+no_row_there xs [] at l = refl
+no_row_there xs (row ∷ rows) zero l = absurd (omega arith)
+no_row_there xs (row ∷ rows) (suc at) l = no_row_there xs rows at (omega arith)

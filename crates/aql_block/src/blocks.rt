@@ -59,10 +59,11 @@ impl Model for Block {
     ghost invariant = { λ b. IsFilled b.registers.items b.columns.items b.rows b.room };
 }
 
-impl Model for RowRef<'_> {
-    ghost use Rattle.std.specs.Prelude.{ℕ, List};
+impl<'a> Model for RowRef<'a> {
+    ghost use Rattle.std.specs.Prelude.{ℕ, ◌<◌, List, length};
     ghost use Rattle.aql_value.specs.Datum.{Datum};
     ghost use Rattle.aql_block.specs.Rows.{coded_entries};
+    ghost use Rattle.aql_block.specs.Tables.{cells_at};
 
     ghost Value = { List (ℕ × Datum) };
 

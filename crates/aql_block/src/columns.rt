@@ -1,6 +1,6 @@
 //! The values of one register.
 
-ghost use Rattle.std.specs.Prelude.{◌≡◌, ◌<◌, ◌≤◌, ◌++◌, ◌∷◌, [], length, map, take, drop, replicate, IfOk, OnOk, OnErr, Some, option_map, slice_get, slice_set};
+ghost use Rattle.std.specs.Prelude.{◌≡◌, ◌<◌, ◌≤◌, ◌++◌, ◌∷◌, [], length, map, take, drop, replicate, vec_capacity, IfOk, OnOk, OnErr, Some, option_map, slice_get, slice_set};
 ghost use Rattle.std.specs.List.{AllByRecursion};
 ghost use Rattle.aql_value.specs.Datum.{null};
 ghost use Rattle.aql_value.specs.View.{datum_of, datums_in};
@@ -127,15 +127,24 @@ impl Column {
         requires { length self.old.held ≡ length marks.now }
         ensures { self.new ≡ record self.old { held = marked self.old.held marks.now } }
     {
-        let mut kept = 0;
-        for (at, mark) in marks.iter().enumerate() {
-            if *mark {
-                self.values.swap(kept, at);
-                kept += 1;
-            }
-        }
-        self.values.truncate(kept);
+        keep(&mut self.values, marks);
     }
+}
+
+// Keeps the values whose mark is true.
+fn keep(values: &mut Vec<Value>, marks: &[bool])
+    requires { length values.old.items ≡ length marks.now }
+    ensures items { values.new.items ≡ marked values.old.items marks.now }
+    ensures capacity { vec_capacity values.new ≡ vec_capacity values.old }
+{
+    let mut kept = 0;
+    for (at, mark) in marks.iter().enumerate() {
+        if *mark {
+            values.swap(kept, at);
+            kept += 1;
+        }
+    }
+    values.truncate(kept);
 }
 
 // Columns without values.
