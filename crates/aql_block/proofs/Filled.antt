@@ -70,12 +70,12 @@ filled_single es = record { count = counts es; fit = fits es; within = omega ari
     fits [] = tt
     fits (f ∷ fs) = ((refl, omega arith), fits fs)
 
-pub filled_set : (xs : List ℕ) (cs : List Places) (n room x : ℕ) (vs : List Datum)
-    → IsFilled xs cs n room → length vs ≡ n
-    → IsFilled (x ∷ xs) (record { room = n; held = vs } ∷ cs) n n
-filled_set xs cs n room x vs h e = record {
+pub filled_set : (xs : List ℕ) (cs : List Places) (n room x more : ℕ) (vs : List Datum)
+    → IsFilled xs cs n room → length vs ≡ n → n ≤ more
+    → IsFilled (x ∷ xs) (record { room = more; held = vs } ∷ cs) n n
+filled_set xs cs n room x more vs h e le = record {
     count = ap suc h.count;
-    fit = ((e, omega arith), each (λ c f. (f.0, (let a = f.1 in let b = h.within in omega arith))) cs h.fit);
+    fit = ((e, le), each (λ c f. (f.0, (let a = f.1 in let b = h.within in omega arith))) cs h.fit);
     within = omega arith }
 
 pub filled_pushed : (xs : List ℕ) (cs : List Places) (n room : ℕ) (row : Row) → IsFilled xs cs n room

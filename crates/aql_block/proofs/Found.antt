@@ -16,7 +16,7 @@ use Rattle.aql_block.specs.laws.Registers.{bind_self, same_num}
 use Rattle.aql_block.proofs.Beside.{length-rows_in}
 
 -- another variable keeps its value
-bind_other : (y x : ℕ) (row : Row) (v : Datum) → y ≢ x → bind (Num y) row v (Num x) ≡ row (Num x)
+pub bind_other : (y x : ℕ) (row : Row) (v : Datum) → y ≢ x → bind (Num y) row v (Num x) ≡ row (Num x)
 bind_other y x row v ne = ap (λ b. cond b (Some v) (row (Num x))) (ne_eqb y x ne)
 
 bind_is : (y x : ℕ) (row : Row) (v : Datum) → y ≡ x → bind (Num y) row v (Num x) ≡ Some v

@@ -4,3 +4,4 @@ pub mod Found
 pub mod Sought
 pub mod Steps
 pub mod Tabled
+pub mod Cut

@@ -1,14 +1,17 @@
 -- Steps of the loops that seek a variable, and of those that go over columns.
-use Rattle.std.proofs.Common.{◌≡◌, ◌≢◌, ◌∙◌, ℕ, zero, suc, ◌+◌, ◌<◌, List, [], ◌∷◌, ◌++◌, length, take, drop, get_or, map, Bool, true, false, cond, refl, ap, sym, subst, arith}
+use Rattle.std.proofs.Common.{◌≡◌, ◌≢◌, ◌∙◌, ℕ, zero, suc, ◌+◌, ◌<◌, List, [], ◌∷◌, ◌++◌, length, take, drop, set, get_or, map, Bool, true, false, cond, refl, ap, sym, subst, arith}
 use Rattle.std.proofs.lemmas.Bool.{eqb-true, eqb-false}
-use Rattle.std.proofs.lemmas.List.{drop_more, at_drop_more}
+use Rattle.std.proofs.lemmas.List.{drop_more, at_drop_more, map-set}
 use Rattle.std.specs.Prelude.{Option, Some, ◌==◌, ◌||◌}
 use Rattle.aql_value.specs.Datum.{Datum}
 use Rattle.aql_value.specs.View.{datum_of}
+use Rattle.aql_value.specs.declared.values.Value.{Value}
 use Rattle.aql_tree.specs.declared.syntax.Ident.TheVariants.{Num}
+use Rattle.aql_meaning.specs.Row.{bind}
 use Rattle.aql_block.specs.declared.rows.Entry.{Entry}
 use Rattle.aql_block.specs.Rows.{row_of, variables_of, is_among, IsFirst}
 use Rattle.aql_block.specs.Entries.{entries_in}
+use Rattle.aql_block.proofs.Found.{bind_other, first_value, first_set}
 
 -- ---- among entries
 
@@ -54,6 +57,37 @@ found_entry es i x e l is same h =
         (sym (drop_more es i e l)) here in
     let whole : i + 0 ≡ i = omega arith in
     subst (λ k. IsFirst (variables_of (entries_in es)) x k) whole (h 0 there)
+
+-- the entry at a first place
+pub entry_variable : (es : List Entry) (x at : ℕ) (e : Entry) → IsFirst (variables_of (entries_in es)) x at
+    → e ≡ get_or es at e → e.var ≡ x
+entry_variable [] x at e first is = absurd first
+entry_variable (d ∷ es) x zero e first is = ap (λ (f : Entry). f.var) is ∙ first
+entry_variable (d ∷ es) x (suc at) e first is = entry_variable es x at e first.1 is
+
+pub entry_value : (es : List Entry) (x at : ℕ) (e : Entry) → IsFirst (variables_of (entries_in es)) x at
+    → e ≡ get_or es at e → value_in x es ≡ Some (datum_of e.value)
+entry_value [] x at e first is = absurd first
+entry_value (d ∷ es) x zero e first is =
+    first_value (entries_in (d ∷ es)) x 0 (d.var, datum_of d.value) first
+    ∙ ap (λ (f : Entry). Some (datum_of f.value)) (sym is)
+entry_value (d ∷ es) x (suc at) e first is =
+    bind_other d.var x (row_of (entries_in es)) (datum_of d.value) first.0
+    ∙ entry_value es x at e first.1 is
+
+pub entry_set : (es : List Entry) (x at : ℕ) (e : Entry) (v : Value)
+    → IsFirst (variables_of (entries_in es)) x at → e ≡ get_or es at e
+    → row_of (entries_in (set es at (record { var = e.var; value = v })))
+    ≡ bind (Num x) (row_of (entries_in es)) (datum_of v)
+entry_set es x at e v first is =
+    ap row_of (map-set (λ (d : Entry). (d.var, datum_of d.value)) es at (record { var = e.var; value = v }))
+    ∙ ap (λ y. row_of (set (entries_in es) at (y, datum_of v))) (entry_variable es x at e first is)
+    ∙ first_set (entries_in es) x at (datum_of v) first
+
+pub entry_within : (es : List Entry) (x at : ℕ) → IsFirst (variables_of (entries_in es)) x at → at < length es
+entry_within [] x at first = absurd first
+entry_within (d ∷ es) x zero first = omega arith
+entry_within (d ∷ es) x (suc at) first = (let k = entry_within es x at first.1 in omega arith)
 
 -- ---- among registers
 

@@ -1,6 +1,6 @@
 -- The rows of a block after each of its calls.
-use Rattle.std.proofs.Common.{◌≡◌, ◌∙◌, ℕ, zero, suc, ◌+◌, ◌-◌, ◌<◌, min, List, [], ◌∷◌, ◌++◌, length, take, drop, set, get_or, map, Bool, true, false, refl, ap, sym, arith}
-use Rattle.std.proofs.lemmas.List.{length-map, map-append, take-map, map-set}
+use Rattle.std.proofs.Common.{◌≡◌, ◌∙◌, ℕ, zero, suc, ◌+◌, ◌-◌, ◌<◌, min, List, [], ◌∷◌, ◌++◌, length, take, drop, set, get_or, map, Bool, true, false, refl, ap, ap₂, sym, arith}
+use Rattle.std.proofs.lemmas.List.{length-map, map-append, take-map, map-set, with_items_is}
 use Rattle.std.proofs.lemmas.Option.{slice_get-map}
 use Rattle.std.proofs.lemmas.Bool.{eqb-true, eq-eqb}
 use Rattle.std.specs.Prelude.{Option, Some, None, IsTrue, ◌==◌, ◌≤◌, option_map, slice_get, slice_set, unwrap_or}
@@ -10,7 +10,9 @@ use Rattle.aql_tree.specs.declared.syntax.Ident.TheVariants.{Num}
 use Rattle.aql_meaning.specs.Row.{Row, empty_row, bind}
 use Rattle.aql_meaning.specs.Clauses.{with_values}
 use Rattle.aql_block.specs.Rows.{Entries, row_of, HasAll, only, IsFirst}
-use Rattle.aql_block.specs.Tables.{cells, marked}
+use Rattle.std.specs.Prelude.{Vec}
+use Rattle.std.specs.Vec.{with_items}
+use Rattle.aql_block.specs.Tables.{Table, cells, marked}
 use Rattle.aql_block.specs.Columns.{Places, blanks, beside, rows_in, Fits, IsFilled, pushed, taken, single_columns, values_at, without, first_of, rest_of, marked_of}
 use Rattle.aql_block.specs.laws.Registers.{only_taken}
 use Rattle.aql_block.proofs.Beside.{length-rows_in, rows_in-pushed, row_in_at, rows_in-without, rows_in-first_of, rows_in-rest_of, rows_in-marked_of}
@@ -148,3 +150,32 @@ pub no_row_there : (xs : List ℕ) (rows : List (List Datum)) (at : ℕ) → len
 no_row_there xs [] at l = refl
 no_row_there xs (row ∷ rows) zero l = absurd (omega arith)
 no_row_there xs (row ∷ rows) (suc at) l = no_row_there xs rows at (omega arith)
+
+abbrev pub table_of : List ℕ → ℕ → List (List Datum) → Table
+table_of xs room rows = record { registers = xs; room = room; values = rows }
+
+no_rows : (cs : List Places) → rows_in 0 cs ≡ []
+no_rows [] = refl
+no_rows (c ∷ cs) = ap (λ rows. beside c.held rows) (no_rows cs) ∙ none c.held
+  where
+    none : (vs : List Datum) → beside vs [] ≡ []
+    none [] = refl
+    none (v ∷ vs) = refl
+
+pub new_table : (xs ys : List ℕ) (room : ℕ) (cs : List Places) → xs ≡ ys
+    → table_of xs room (rows_in 0 cs) ≡ table_of ys room []
+new_table xs ys room cs e = ap₂ (λ zs rows. table_of zs room rows) e (no_rows cs)
+
+-- columns that stand in the place of others
+pub with_mapped : {Z : Type 0} (f : Places → Places) (v : Vec Places Z) (ws : List Places) → ws ≡ map f v.items
+    → v.len ≡ length v.items → (with_items v ws).items ≡ map f v.items
+with_mapped f v ws e l = with_items_is v ws (ap length e ∙ length-map v.items f ∙ sym l) ∙ e
+
+pub cells_here : (xs : List ℕ) (cs : List Places) (n room at : ℕ) → AllByRecursion (Fits n room) cs → at < n
+    → cells xs (unwrap_or (slice_get (rows_in n cs) at) []) ≡ cells xs (values_at cs at)
+cells_here xs cs n room at h l = ap (λ o. cells xs (unwrap_or o [])) (row_in_at n room cs at h l)
+
+pub looked_up : (xs : List ℕ) (rows : List (List Datum)) (x : ℕ)
+    → map (λ (row : Row). row (Num x)) (rows_by xs rows) ≡ map (λ vs. row_of (cells xs vs) (Num x)) rows
+looked_up xs [] x = refl
+looked_up xs (row ∷ rows) x = ap (λ rest. row_of (cells xs row) (Num x) ∷ rest) (looked_up xs rows x)

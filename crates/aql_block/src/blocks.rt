@@ -80,11 +80,8 @@ impl Block {
         ensures { IfOk result
             (λ b. b ≡ record { registers = registers.now; room = room; values = [] }) }
     {
-        let mut own = Vec::with_capacity(alloc, registers.len())?;
-        for register in registers {
-            own.push(*register)?;
-        }
-        let columns = new_columns(alloc, registers.len(), room as usize)?;
+        let own = copy_registers(alloc, registers)?;
+        let columns = new_columns(alloc, own.len(), room as usize)?;
         Ok(Block {
             registers: own,
             columns,
@@ -111,11 +108,8 @@ impl Block {
         ensures { IfOk result (λ b. b ≡
             record { registers = var ∷ self.now.registers; room = room; values = [] }) }
     {
-        let mut registers = Vec::with_capacity(alloc, self.registers.len().saturating_add(1))?;
-        registers.push(var)?;
-        for register in &self.registers {
-            registers.push(*register)?;
-        }
+        let mut registers = copy_registers(alloc, &self.registers)?;
+        registers.insert(0, var)?;
         let columns = new_columns(alloc, registers.len(), room as usize)?;
         Ok(Block {
             registers,
@@ -328,7 +322,7 @@ impl Block {
             room,
         } = self;
         let at = at.min(rows);
-        let same = registers.clone()?;
+        let same = copy_registers(alloc, &registers)?;
         let rest = split_all(alloc, &mut columns, at as usize)?;
         let first = Block {
             registers: same,
@@ -351,8 +345,10 @@ impl Block {
         ensures { option_map (λ v. datum_of v.now) result
             ≡ row_of (cells_at self.now at) (Num var) }
     {
-        let place = place_of(&self.registers, var)?;
-        self.columns[place].get(at as usize)
+        match place_of(&self.registers, var) {
+            Some(place) => self.columns[place].get(at as usize),
+            None => None,
+        }
     }
 
     // A copy of the row at a place.
@@ -378,6 +374,16 @@ impl RowRef<'_> {
     {
         self.block.copy_row(alloc, self.at)
     }
+}
+
+fn copy_registers(alloc: Global, registers: &[u32]) -> Result<Vec<u32>, OutOfMemory>
+    ensures { IfOk result (λ xs. xs.items ≡ registers.now) }
+{
+    let mut own = Vec::with_capacity(alloc, registers.len())?;
+    for register in registers {
+        own.push(*register)?;
+    }
+    Ok(own)
 }
 
 // The place of a register, the first where there are several.

@@ -157,7 +157,7 @@ pub(crate) fn new_columns(
         (λ cs. cs.items ≡ replicate count (record { room = room; held = [] })) }
 {
     let mut columns = Vec::with_capacity(alloc, count)?;
-    for _ in 0..count {
+    for _made in 0..count {
         columns.push(Column::new(alloc, room)?)?;
     }
     Ok(columns)

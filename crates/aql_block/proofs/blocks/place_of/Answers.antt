@@ -1,16 +1,24 @@
-use Rattle.std.proofs.Common.{rules, ◌≡◌, ◌<◌, ◌^◌, ◌↔◌, ◌++◌, ◌∷◌, [], ◌≤◌, length, map, take, drop, false, IsTrue, IsNone, IsErr, IfSome, IfOk, IfErr, OnOk, OnErr, Some, MatchOption, option_map, slice_get, slice_set, ℕ, ◌+◌, ◌-◌, ◌*◌, ◌/◌, ◌%◌, Bool, true, nat_eq, nat_lt, List, slice_index_or, bit_and, bit_or, Fits, w8, w32, w64, Bor, MutBor}
-use Rattle.aql_value.specs.View.{datum_of, datums_in}
-use Rattle.aql_tree.specs.declared.syntax.Ident.TheVariants.{Num}
-use Rattle.aql_meaning.specs.Row.{empty_row, bind}
-use Rattle.aql_meaning.specs.Clauses.{with_values}
-use Rattle.aql_block.specs.Rows.{row_of, HasAll, is_among, only, IsFirst}
-use Rattle.aql_block.specs.Tables.{cells, cells_at, rows_of, marked}
+use Rattle.std.proofs.Common.{◌≡◌, ◌∙◌, ◌<◌, length, get_or, sym, arith}
+use Rattle.std.proofs.lemmas.Bool.{eq-eqb, ne_eqb}
+use Rattle.std.proofs.lemmas.List.{get_or_default}
+use Rattle.aql_block.proofs.Sought.{register_passed, finds_register, found_register}
 use Rattle.aql_block.proofs.blocks.place_of.Goals as goal
 
--- src/blocks.rt:390:13
 pub returns-then-register-var : goal.returns-then-register-var
-returns-then-register-var c = ?
+returns-then-register-var c =
+    let xs = c.args.registers.now in
+    let i = c.loop-at.at in
+    let l : i < length xs = omega arith in
+    found_register xs i c.args.var (get_or xs i 0) l (get_or_default xs i 0 (get_or xs i 0) l)
+        (eq-eqb _ _ c.if-register-var.true) c.loop-at.invariant.1
 
--- src/blocks.rt:388:5
 pub loop-at-preserved : goal.loop-at-preserved
-loop-at-preserved c = ?
+loop-at-preserved c =
+    let xs = c.args.registers.now in
+    let i = c.loop-at.at in
+    let l : i < length xs = omega arith in
+    (sym (register_passed xs i c.args.var (get_or xs i 0) l (get_or_default xs i 0 (get_or xs i 0) l)
+        (ne_eqb _ _ c.if-register-var.false))
+        ∙ c.loop-at.invariant.0,
+    finds_register xs i c.args.var (get_or xs i 0) l (get_or_default xs i 0 (get_or xs i 0) l)
+        (ne_eqb _ _ c.if-register-var.false) c.loop-at.invariant.1)

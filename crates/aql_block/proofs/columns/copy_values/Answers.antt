@@ -1,16 +1,26 @@
-use Rattle.std.proofs.Common.{rules, ◌≡◌, ◌<◌, ◌≤◌, ◌++◌, ◌∷◌, [], length, map, take, drop, replicate, IfOk, OnOk, OnErr, Some, option_map, slice_get, slice_set, ℕ, ◌+◌, ◌-◌, ◌*◌, ◌/◌, ◌%◌, Bool, true, false, nat_eq, nat_lt, List, slice_index_or, bit_and, bit_or, Fits, w8, w32, w64, Bor, MutBor}
-use Rattle.std.specs.List.{AllByRecursion}
-use Rattle.aql_value.specs.Datum.{null}
-use Rattle.aql_value.specs.View.{datum_of, datums_in}
-use Rattle.aql_block.specs.Rows.{row_of, HasAll}
-use Rattle.aql_block.specs.Tables.{cells, marked}
-use Rattle.aql_block.specs.Columns.{HasRoom, single_columns, pushed, taken, values_at, without, first_of, rest_of, marked_of}
+use Rattle.std.proofs.Common.{◌≡◌, ◌∙◌, ◌<◌, ◌∷◌, [], length, get_or, ap, arith}
+use Rattle.std.proofs.lemmas.List.{get_or_default, map-append}
+use Rattle.aql_value.specs.View.{datum_of}
+use Rattle.aql_block.specs.declared.rows.Entry.{Entry}
+use Rattle.aql_block.specs.Columns.{values_at}
+use Rattle.aql_block.specs.Entries.{entries_in}
+use Rattle.aql_block.proofs.Steps.{cell_there, all_cells}
 use Rattle.aql_block.proofs.columns.copy_values.Goals as goal
 
--- src/columns.rt:227:5
 pub loop-place-preserved : goal.loop-place-preserved
-loop-place-preserved c = ?
+loop-place-preserved c =
+    let xs = c.args.registers.now in
+    let i = c.loop-place.place in
+    let l : i < length xs = omega arith in
+    ap entries_in c.in_ok-push.ensures.items
+    ∙ map-append (λ (e : Entry). (e.var, datum_of e.value)) c.loop-place.entries.items
+        (record { var = get_or xs i 0; value = c.in_ok-value.value } ∷ [])
+    ∙ cell_there xs c.args.columns.now c.args.at i (get_or xs i 0) c.index-columns-place.result
+        (datum_of c.in_ok-value.value) (entries_in c.loop-place.entries.items) c.loop-place.invariant l
+        c.requires.count (get_or_default xs i 0 (get_or xs i 0) l) c.index-columns-place.is
+        c.in_ok-value.ensures
 
--- src/columns.rt:216:1
 pub returns : goal.returns
-returns c = ?
+returns c =
+    all_cells c.args.registers.now (values_at c.args.columns.now c.args.at) c.loop-place.place
+    (entries_in c.loop-place.entries.items) c.loop-place.invariant (omega arith)

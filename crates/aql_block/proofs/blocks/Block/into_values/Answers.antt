@@ -1,20 +1,41 @@
-use Rattle.std.proofs.Common.{rules, ◌≡◌, ◌<◌, ◌^◌, ◌↔◌, ◌++◌, ◌∷◌, [], ◌≤◌, length, map, take, drop, false, IsTrue, IsNone, IsErr, IfSome, IfOk, IfErr, OnOk, OnErr, Some, MatchOption, option_map, slice_get, slice_set, ℕ, ◌+◌, ◌-◌, ◌*◌, ◌/◌, ◌%◌, Bool, true, nat_eq, nat_lt, List, slice_index_or, bit_and, bit_or, Fits, w8, w32, w64, Bor, MutBor}
-use Rattle.aql_value.specs.View.{datum_of, datums_in}
+use Rattle.std.proofs.Common.{◌≡◌, ◌∙◌, ◌<◌, ℕ, List, length, map, Bool, true, false, ap, sym, subst, arith}
+use Rattle.std.specs.Prelude.{Some}
+use Rattle.aql_value.specs.Datum.{Datum}
 use Rattle.aql_tree.specs.declared.syntax.Ident.TheVariants.{Num}
-use Rattle.aql_meaning.specs.Row.{empty_row, bind}
-use Rattle.aql_meaning.specs.Clauses.{with_values}
-use Rattle.aql_block.specs.Rows.{row_of, HasAll, is_among, only, IsFirst}
-use Rattle.aql_block.specs.Tables.{cells, cells_at, rows_of, marked}
+use Rattle.aql_meaning.specs.Row.{Row}
+use Rattle.aql_block.specs.Rows.{is_among, IsFirst}
+use Rattle.aql_block.specs.Tables.{Table, rows_of}
+use Rattle.aql_block.specs.Columns.{Places, rows_in}
+use Rattle.aql_block.proofs.Found.{among, first_register, column_values}
+use Rattle.aql_block.proofs.Tabled.{looked_up}
 use Rattle.aql_block.proofs.blocks.Block.into_values.Goals as goal
 
--- src/blocks.rt:291:14
 pub swap_remove-requires : goal.swap_remove-requires
-swap_remove-requires c = ?
+swap_remove-requires c =
+    let b = c.self.inside in
+    let first : IsFirst b.registers.items c.args.var c.in_ok-at.at =
+        subst (λ (xs : List ℕ). IsFirst xs c.args.var c.in_ok-at.at) c.deref.ensures.value c.in_ok-at.ensures in
+    let l = first_register b.registers.items c.args.var c.in_ok-at.at first in
+    omega (arith, l, c.self.invariant.count, b.columns.ok.0)
 
--- src/blocks.rt:279:5
 pub returns-clause-found : goal.returns-clause-found
-returns-clause-found c = ?
+returns-clause-found c =
+    let b = c.self.inside in
+    let first : IsFirst b.registers.items c.args.var c.in_ok-at.at =
+        subst (λ (xs : List ℕ). IsFirst xs c.args.var c.in_ok-at.at) c.deref.ensures.value c.in_ok-at.ensures in
+    let there : true ≡ is_among c.args.self.registers (Num c.args.var) =
+        sym (among b.registers.items c.args.var c.in_ok-at.at first)
+        ∙ ap (λ (t : Table). is_among t.registers (Num c.args.var)) c.self.view_is in
+    (λ h. absurd (cc), λ h. there ∙ h)
 
--- src/blocks.rt:279:5
 pub returns-clause-values : goal.returns-clause-values
-returns-clause-values c = ?
+returns-clause-values c =
+    let b = c.self.inside in
+    let first : IsFirst b.registers.items c.args.var c.in_ok-at.at =
+        subst (λ (xs : List ℕ). IsFirst xs c.args.var c.in_ok-at.at) c.deref.ensures.value c.in_ok-at.ensures in
+    ap (λ (t : Table). map (λ (row : Row). row (Num c.args.var)) (rows_of t)) (sym c.self.view_is)
+    ∙ looked_up b.registers.items (rows_in b.rows b.columns.items) c.args.var
+    ∙ column_values b.registers.items b.columns.items b.rows b.room c.args.var c.in_ok-at.at
+        c.swap_remove.result first c.self.invariant.fit c.self.invariant.count
+    ∙ ap (λ (p : Places). map (λ (v : Datum). Some v) p.held) (sym c.swap_remove.ensures.value)
+    ∙ ap (λ (ds : List Datum). map (λ (v : Datum). Some v) ds) (sym c.into_values.ensures)

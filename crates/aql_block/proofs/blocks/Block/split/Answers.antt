@@ -1,28 +1,53 @@
-use Rattle.std.proofs.Common.{rules, ◌≡◌, ◌<◌, ◌^◌, ◌↔◌, ◌++◌, ◌∷◌, [], ◌≤◌, length, map, take, drop, false, IsTrue, IsNone, IsErr, IfSome, IfOk, IfErr, OnOk, OnErr, Some, MatchOption, option_map, slice_get, slice_set, ℕ, ◌+◌, ◌-◌, ◌*◌, ◌/◌, ◌%◌, Bool, true, nat_eq, nat_lt, List, slice_index_or, bit_and, bit_or, Fits, w8, w32, w64, Bor, MutBor}
-use Rattle.aql_value.specs.View.{datum_of, datums_in}
-use Rattle.aql_tree.specs.declared.syntax.Ident.TheVariants.{Num}
-use Rattle.aql_meaning.specs.Row.{empty_row, bind}
-use Rattle.aql_meaning.specs.Clauses.{with_values}
-use Rattle.aql_block.specs.Rows.{row_of, HasAll, is_among, only, IsFirst}
-use Rattle.aql_block.specs.Tables.{cells, cells_at, rows_of, marked}
+use Rattle.std.proofs.Common.{◌≡◌, ◌∙◌, ◌-◌, ℕ, List, length, take, drop, min, map, ap, ap₂, sym, subst, arith}
+use Rattle.std.proofs.lemmas.List.{take_min, drop_min}
+use Rattle.aql_block.specs.Tables.{Table, rows_of}
+use Rattle.aql_block.specs.Columns.{Places, rows_in, IsFilled, first_of, rest_of}
+use Rattle.aql_block.proofs.Filled.{filled_first, filled_rest}
+use Rattle.aql_block.proofs.Tabled.{rows_by, rows_held, rows_first, rows_rest, with_mapped}
 use Rattle.aql_block.proofs.blocks.Block.split.Goals as goal
 
--- src/blocks.rt:345:13
 pub invariant_of-first : goal.invariant_of-first
-invariant_of-first c = ?
+invariant_of-first c =
+    let b = c.self.inside in
+    let k = c.min-at.result in
+    let w = with_mapped (first_of k) b.columns c.split_all.new.columns
+        (c.in_ok-rest.ensures.first
+        ∙ ap (λ (cs : List Places). map (first_of k) cs) c.deref_mut.ensures.value) b.columns.ok.0 in
+    let e : min b.rows k ≡ k = omega (arith, c.min-at.ensures) in
+    subst (λ (xs : List ℕ). IsFilled xs _ k b.room) (sym c.in_ok-same.ensures)
+        (subst (λ (cs : List Places). IsFilled b.registers.items cs k b.room) (sym w)
+        (subst (λ (n : ℕ). IsFilled b.registers.items (map (first_of k) b.columns.items) n b.room) e
+        (filled_first b.registers.items b.columns.items b.rows b.room k c.self.invariant)))
 
--- src/blocks.rt:345:20
 pub invariant_of-others : goal.invariant_of-others
-invariant_of-others c = ?
+invariant_of-others c =
+    let b = c.self.inside in
+    let k = c.min-at.result in
+    let w : c.in_ok-rest.rest.items ≡ map (rest_of k) b.columns.items =
+        c.in_ok-rest.ensures.rest ∙ ap (λ (cs : List Places). map (rest_of k) cs) c.deref_mut.ensures.value in
+    subst (λ (cs : List Places). IsFilled b.registers.items cs (b.rows - k) (b.rows - k)) (sym w)
+        (filled_rest b.registers.items b.columns.items b.rows b.room k c.self.invariant)
 
--- src/blocks.rt:317:5
 pub returns-clause-first : goal.returns-clause-first
-returns-clause-first c = ?
+returns-clause-first c =
+    ?
 
--- src/blocks.rt:317:5
 pub returns-clause-rest : goal.returns-clause-rest
-returns-clause-rest c = ?
+returns-clause-rest c =
+    let b = c.self.inside in
+    let k = c.min-at.result in
+    let rows = rows_by b.registers.items (rows_in b.rows b.columns.items) in
+    let w : c.in_ok-rest.rest.items ≡ map (rest_of k) b.columns.items =
+        c.in_ok-rest.ensures.rest ∙ ap (λ (cs : List Places). map (rest_of k) cs) c.deref_mut.ensures.value in
+    let held : length rows ≡ b.rows =
+        rows_held b.registers.items b.columns.items b.rows b.room c.self.invariant in
+    let e : k ≡ min c.args.at (length rows) = omega (arith, c.min-at.ensures, held) in
+    ap (λ (cs : List Places). rows_by b.registers.items (rows_in (b.rows - k) cs)) w
+    ∙ rows_rest b.registers.items b.columns.items b.rows k
+    ∙ ap (λ (n : ℕ). drop n rows) e ∙ drop_min c.args.at rows
+    ∙ ap (λ (t : Table). drop c.args.at (rows_of t)) c.self.view_is
 
--- src/blocks.rt:317:5
 pub returns-clause-registers : goal.returns-clause-registers
-returns-clause-registers c = ?
+returns-clause-registers c =
+    let same = ap (λ (t : Table). t.registers) c.self.view_is in
+    (c.in_ok-same.ensures ∙ c.deref.ensures.value ∙ same, same)

@@ -1,16 +1,29 @@
-use Rattle.std.proofs.Common.{rules, ◌≡◌, ◌<◌, ◌^◌, ◌↔◌, ◌++◌, ◌∷◌, [], ◌≤◌, length, map, take, drop, false, IsTrue, IsNone, IsErr, IfSome, IfOk, IfErr, OnOk, OnErr, Some, MatchOption, option_map, slice_get, slice_set, ℕ, ◌+◌, ◌-◌, ◌*◌, ◌/◌, ◌%◌, Bool, true, nat_eq, nat_lt, List, slice_index_or, bit_and, bit_or, Fits, w8, w32, w64, Bor, MutBor}
-use Rattle.aql_value.specs.View.{datum_of, datums_in}
-use Rattle.aql_tree.specs.declared.syntax.Ident.TheVariants.{Num}
-use Rattle.aql_meaning.specs.Row.{empty_row, bind}
-use Rattle.aql_meaning.specs.Clauses.{with_values}
-use Rattle.aql_block.specs.Rows.{row_of, HasAll, is_among, only, IsFirst}
-use Rattle.aql_block.specs.Tables.{cells, cells_at, rows_of, marked}
+use Rattle.std.proofs.Common.{◌≡◌, ◌∙◌, ℕ, List, take, map, ap, ap₂, sym, subst}
+use Rattle.aql_block.specs.Tables.{Table, rows_of}
+use Rattle.aql_block.specs.Columns.{Places, rows_in, IsFilled, first_of}
+use Rattle.aql_block.proofs.Filled.{filled_first}
+use Rattle.aql_block.proofs.Tabled.{rows_by, rows_first, with_mapped}
 use Rattle.aql_block.proofs.blocks.Block.truncate.Goals as goal
 
--- src/blocks.rt:306:5
 pub invariant_of-self : goal.invariant_of-self
-invariant_of-self c = ?
+invariant_of-self c =
+    let b = c.self.inside in
+    let w = with_mapped (first_of c.args.len) b.columns c.truncate_all.new.columns
+        (c.truncate_all.ensures
+        ∙ ap (λ (cs : List Places). map (first_of c.args.len) cs) c.deref_mut.ensures.value)
+        b.columns.ok.0 in
+    subst (λ (cs : List Places). IsFilled b.registers.items cs c.min-self-inside.result b.room) (sym w)
+        (subst (λ (n : ℕ). IsFilled b.registers.items (map (first_of c.args.len) b.columns.items) n b.room)
+        (sym c.min-self-inside.ensures)
+        (filled_first b.registers.items b.columns.items b.rows b.room c.args.len c.self.invariant))
 
--- src/blocks.rt:306:5
 pub returns-clause-rows : goal.returns-clause-rows
-returns-clause-rows c = ?
+returns-clause-rows c =
+    let b = c.self.inside in
+    let w = with_mapped (first_of c.args.len) b.columns c.truncate_all.new.columns
+        (c.truncate_all.ensures
+        ∙ ap (λ (cs : List Places). map (first_of c.args.len) cs) c.deref_mut.ensures.value)
+        b.columns.ok.0 in
+    ap₂ (λ (n : ℕ) (cs : List Places). rows_by b.registers.items (rows_in n cs)) c.min-self-inside.ensures w
+    ∙ rows_first b.registers.items b.columns.items b.rows c.args.len
+    ∙ ap (λ (t : Table). take c.args.len (rows_of t)) c.self.view_is

@@ -1,16 +1,14 @@
-use Rattle.std.proofs.Common.{rules, ◌≡◌, ◌<◌, ◌≤◌, ◌++◌, ◌∷◌, [], length, map, take, drop, replicate, IfOk, OnOk, OnErr, Some, option_map, slice_get, slice_set, ℕ, ◌+◌, ◌-◌, ◌*◌, ◌/◌, ◌%◌, Bool, true, false, nat_eq, nat_lt, List, slice_index_or, bit_and, bit_or, Fits, w8, w32, w64, Bor, MutBor}
-use Rattle.std.specs.List.{AllByRecursion}
-use Rattle.aql_value.specs.Datum.{null}
-use Rattle.aql_value.specs.View.{datum_of, datums_in}
-use Rattle.aql_block.specs.Rows.{row_of, HasAll}
-use Rattle.aql_block.specs.Tables.{cells, marked}
-use Rattle.aql_block.specs.Columns.{HasRoom, single_columns, pushed, taken, values_at, without, first_of, rest_of, marked_of}
+use Rattle.std.proofs.Common.{◌≡◌, ◌∙◌}
+use Rattle.aql_block.proofs.Cut.{column_first, column_rest}
 use Rattle.aql_block.proofs.columns.Column.split.Goals as goal
 
--- src/columns.rt:114:5
 pub returns-clause-first : goal.returns-clause-first
-returns-clause-first c = ?
+returns-clause-first c =
+    column_first c.self.inside.room c.args.at c.self.inside.values.items c.split_off.new.self.items
+    c.args.self.now c.in_ok-rest.ensures.items c.self.view_is
 
--- src/columns.rt:114:5
 pub returns-clause-rest : goal.returns-clause-rest
-returns-clause-rest c = ?
+returns-clause-rest c =
+    c.from_values.ensures
+    ∙ column_rest c.self.inside.room c.args.at c.self.inside.values.items c.in_ok-rest.rest.items
+        c.args.self.now c.in_ok-rest.ensures.tail c.self.view_is

@@ -1,12 +1,7 @@
-use Rattle.std.proofs.Common.{rules, ◌≡◌, ◌<◌, ◌≤◌, ◌++◌, ◌∷◌, [], length, map, take, drop, replicate, IfOk, OnOk, OnErr, Some, option_map, slice_get, slice_set, ℕ, ◌+◌, ◌-◌, ◌*◌, ◌/◌, ◌%◌, Bool, true, false, nat_eq, nat_lt, List, slice_index_or, bit_and, bit_or, Fits, w8, w32, w64, Bor, MutBor}
-use Rattle.std.specs.List.{AllByRecursion}
-use Rattle.aql_value.specs.Datum.{null}
-use Rattle.aql_value.specs.View.{datum_of, datums_in}
-use Rattle.aql_block.specs.Rows.{row_of, HasAll}
-use Rattle.aql_block.specs.Tables.{cells, marked}
-use Rattle.aql_block.specs.Columns.{HasRoom, single_columns, pushed, taken, values_at, without, first_of, rest_of, marked_of}
+use Rattle.aql_block.proofs.Cut.{column_first}
 use Rattle.aql_block.proofs.columns.Column.truncate.Goals as goal
 
--- src/columns.rt:107:5
 pub returns : goal.returns
-returns c = ?
+returns c =
+    column_first c.self.inside.room c.args.len c.self.inside.values.items c.truncate.new.self.items
+    c.args.self.now c.truncate.ensures.items c.self.view_is
