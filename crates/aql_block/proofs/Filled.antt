@@ -1,5 +1,5 @@
 -- The columns of a block stay filled.
-use Rattle.std.proofs.Common.{◌≡◌, ◌∙◌, ℕ, zero, suc, ◌+◌, ◌-◌, ◌<◌, ◌≤◌, min, List, [], ◌∷◌, ◌++◌, length, take, drop, map, replicate, Bool, true, false, refl, ap, ap₂, sym, arith, length-append, length-take, length-drop, length-set, add-one}
+use Rattle.std.proofs.Common.{◌≡◌, ◌∙◌, ℕ, zero, suc, ◌+◌, ◌-◌, ◌<◌, ◌≤◌, min, List, [], ◌∷◌, ◌++◌, length, take, drop, map, replicate, Bool, true, false, refl, ap, sym, subst, arith, length-append, length-take, length-drop, length-set, add-one}
 use Rattle.std.proofs.lemmas.List.{length-map}
 use Rattle.std.specs.Prelude.{slice_set}
 use Rattle.std.specs.List.{AllByRecursion}
@@ -131,3 +131,13 @@ filled_marked xs cs n room marks h e = record {
     fit = each_map (Fits n room) (Fits (length (marked marks marks)) room) (marked_of marks)
         (λ c f. (length-marked c.held marks marks (f.0 ∙ sym e), f.1)) cs h.fit;
     within = (let b = h.within in let k = length-marked-le marks marks in omega arith) }
+
+pub filled_made : (xs : List ℕ) (k room : ℕ) (cs : List Places)
+    → cs ≡ replicate k (record { room = room; held = [] }) → k ≡ length xs → IsFilled xs cs 0 room
+filled_made xs k room cs e same =
+    subst (λ (ds : List Places). IsFilled xs ds 0 room)
+    (sym (e ∙ ap (λ (n : ℕ). replicate {A = Places} n (record { room = room; held = [] })) same))
+    (filled_new xs room)
+
+pub below_room : (n room : ℕ) → n ≤ room → (n ≡ room → ⊥) → n < room
+below_room n room le ne = omega arith

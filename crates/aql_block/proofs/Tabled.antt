@@ -16,7 +16,7 @@ use Rattle.aql_block.specs.Tables.{Table, cells, marked}
 use Rattle.aql_block.specs.Columns.{Places, blanks, beside, rows_in, Fits, IsFilled, pushed, taken, single_columns, values_at, without, first_of, rest_of, marked_of}
 use Rattle.aql_block.specs.laws.Registers.{only_taken}
 use Rattle.aql_block.proofs.Beside.{length-rows_in, rows_in-pushed, row_in_at, rows_in-without, rows_in-first_of, rows_in-rest_of, rows_in-marked_of}
-use Rattle.aql_block.proofs.Filled.{length-taken}
+use Rattle.aql_block.proofs.Filled.{length-taken, length-pushed}
 use Rattle.aql_block.proofs.Found.{first_cell, no_cell}
 
 -- the rows of a block with these registers and columns
@@ -179,3 +179,7 @@ pub looked_up : (xs : List ℕ) (rows : List (List Datum)) (x : ℕ)
     → map (λ (row : Row). row (Num x)) (rows_by xs rows) ≡ map (λ vs. row_of (cells xs vs) (Num x)) rows
 looked_up xs [] x = refl
 looked_up xs (row ∷ rows) x = ap (λ rest. row_of (cells xs row) (Num x) ∷ rest) (looked_up xs rows x)
+
+pub with_pushed : {Z : Type 0} (v : Vec Places Z) (ws : List Places) (vs : List Datum) → ws ≡ pushed v.items vs
+    → v.len ≡ length v.items → (with_items v ws).items ≡ pushed v.items vs
+with_pushed v ws vs e l = with_items_is v ws (ap length e ∙ length-pushed v.items vs ∙ sym l) ∙ e

@@ -248,7 +248,13 @@ impl Block {
         ensures registers { self.new.registers ≡ self.old.registers }
         ensures room { self.new.room ≡ self.old.room }
     {
-        take_values(alloc, &self.registers, &mut self.columns, at as usize)
+        let entries = Vec::with_capacity(alloc, self.registers.len())?;
+        Ok(take_values(
+            &self.registers,
+            &mut self.columns,
+            at as usize,
+            entries,
+        ))
     }
 
     /// Sets a variable in each row, to the value at the row's place. The values are moved, and the

@@ -194,20 +194,21 @@ pub(crate) fn push_values(registers: &[u32], columns: &mut [Column], row: &mut R
     }
 }
 
-// Moves the values at a place out of the columns, as a row; null takes their place.
+// Moves the values at a place out of the columns, as a row; null takes their place. The row is made
+// in `entries`, which is empty and has the memory for it.
 pub(crate) fn take_values(
-    alloc: Global,
     registers: &[u32],
     columns: &mut [Column],
     at: usize,
-) -> Result<Row, OutOfMemory>
+    mut entries: Vec<Entry>,
+) -> Row
     requires count { length columns.old ≡ length registers.now }
     requires place { AllByRecursion (λ c. at < length c.held) columns.old }
-    ensures row { IfOk result (λ row. row ≡ cells registers.now (values_at columns.old at)) }
-    ensures rest { OnOk result (columns.new ≡ map (without at) columns.old) }
-    ensures err { OnErr result (columns.new ≡ columns.old) }
+    requires empty { entries.items ≡ [] }
+    requires memory { length registers.now ≤ vec_capacity entries }
+    ensures row { result ≡ cells registers.now (values_at columns.old at) }
+    ensures rest { columns.new ≡ map (without at) columns.old }
 {
-    let mut entries = Vec::with_capacity(alloc, registers.len())?;
     for (place, register) in registers.iter().enumerate() {
         let value = columns[place].take(at);
         match entries.push(Entry {
@@ -218,7 +219,7 @@ pub(crate) fn take_values(
             Err(_) => unreachable!(),
         }
     }
-    Ok(Row { entries })
+    Row { entries }
 }
 
 // A copy of the values at a place, as a row with room for one more.
