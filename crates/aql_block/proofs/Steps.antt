@@ -1,0 +1,256 @@
+-- Steps of the loops that go over the columns of a block.
+use Rattle.std.proofs.Common.{◌≡◌, ◌∙◌, ℕ, zero, suc, ◌+◌, ◌<◌, ◌≤◌, List, [], ◌∷◌, ◌++◌, length, take, drop, set, get_or, map, Bool, true, false, refl, ap, ap₂, sym, subst, arith, inl, inr, append_assoc, length-append, length-set, length-take, length-drop}
+use Rattle.std.proofs.lemmas.Bool.{cases_lt}
+use Rattle.std.proofs.lemmas.List.{length-map, map-append, append-nil, drop_more, take_more, take_more_set, take-set-le, take_all, drop_all, drop-drop, drop-set-lt, set-set, get_or-drop, get_or_at}
+use Rattle.std.proofs.lemmas.List.Edits.{map_over_more, swap_is, length-swap}
+use Rattle.std.specs.Prelude.{Some, IsSome, slice_get, unwrap_or, swap}
+use Rattle.std.specs.List.{AllByRecursion}
+use Rattle.aql_value.specs.Datum.{Datum, null}
+use Rattle.aql_tree.specs.declared.syntax.Ident.TheVariants.{Num}
+use Rattle.aql_meaning.specs.Row.{Row, bind, value_at}
+use Rattle.aql_block.specs.Rows.{Entries, row_of, HasAll}
+use Rattle.aql_block.specs.Tables.{cells, marked}
+use Rattle.aql_block.specs.Columns.{Places, HasRoom, pushed, taken, values_at}
+use Rattle.aql_block.specs.laws.Registers.{has_all_bind}
+
+-- ---- each column
+
+pub each_at : (P : Places → Type 0) (cs : List Places) (i : ℕ) (c : Places) → AllByRecursion P cs
+    → i < length cs → c ≡ get_or cs i c → P c
+each_at P [] i c h l is = absurd (omega arith)
+each_at P (d ∷ cs) zero c h l is = subst P (sym is) h.0
+each_at P (d ∷ cs) (suc i) c h l is = each_at P cs i c h.1 (omega arith) is
+
+-- the columns of which the first ones were worked on
+abbrev pub Worked : (Places → Places) → ℕ → List Places → List Places → Type 0
+Worked f i now old = now ≡ map f (take i old) ++ drop i old
+
+pub length-worked : (f : Places → Places) (i : ℕ) (now old : List Places) → Worked f i now old
+    → length now ≡ length old
+length-worked f i now old w =
+    ap length w
+    ∙ (omega (arith, length-append (map f (take i old)) (drop i old), length-map (take i old) f,
+        length-take i old, length-drop i old))
+
+-- the column that comes next is as it was
+pub worked_next : (f : Places → Places) (i : ℕ) (now old : List Places) (c : Places) → Worked f i now old
+    → i < length old → c ≡ get_or now i c → c ≡ get_or old i c
+worked_next f i now old c w l is =
+    let e : length (map f (take i old)) ≡ i = length-map (take i old) f ∙ (omega (arith, length-take i old)) in
+    is ∙ ap (λ cs. get_or cs i c) w
+    ∙ ap (λ cs. get_or (map f (take i old) ++ cs) i c) (drop_more old i c l)
+    ∙ get_or_at (map f (take i old)) (get_or old i c) (drop (i + 1) old) c i e
+
+pub worked_more : (f : Places → Places) (i : ℕ) (now old : List Places) (c : Places) → Worked f i now old
+    → i < length old → c ≡ get_or now i c → Worked f (i + 1) (set now i (f c)) old
+worked_more f i now old c w l is = map_over_more f old now i c l w is
+
+pub worked_all : (f : Places → Places) (i : ℕ) (now old : List Places) → Worked f i now old
+    → length old ≤ i → now ≡ map f old
+worked_all f i now old w l =
+    w ∙ ap₂ (λ cs ds. map f cs ++ ds) (take_all i old l) (drop_all i old l) ∙ append-nil (map f old)
+
+-- what was handed on of the first columns
+pub handed_more : (f : Places → Places) (i : ℕ) (old out : List Places) (c : Places)
+    → out ≡ map f (take i old) → i < length old → c ≡ get_or old i c
+    → out ++ f c ∷ [] ≡ map f (take (i + 1) old)
+handed_more f i old out c e l is =
+    ap₂ (λ cs d. cs ++ f d ∷ []) e is
+    ∙ sym (map-append f (take i old) (get_or old i c ∷ []))
+    ∙ ap (λ cs. map f cs) (sym (take_more old i c l))
+
+pub handed_all : (f : Places → Places) (i : ℕ) (old out : List Places) → out ≡ map f (take i old)
+    → length old ≤ i → out ≡ map f old
+handed_all f i old out e l = e ∙ ap (λ cs. map f cs) (take_all i old l)
+
+-- ---- the cells of one row
+
+pub length-cells : (xs : List ℕ) (vs : List Datum) → length (cells xs vs) ≡ length xs
+length-cells [] vs = refl
+length-cells (x ∷ xs) [] = ap suc (length-cells xs [])
+length-cells (x ∷ xs) (v ∷ vs) = ap suc (length-cells xs vs)
+
+cell_more : (xs : List ℕ) (cs : List Places) (at i x : ℕ) (c : Places) (v : Datum)
+    → i < length xs → length cs ≡ length xs → x ≡ get_or xs i x → c ≡ get_or cs i c
+    → slice_get c.held at ≡ Some v
+    → take (suc i) (cells xs (values_at cs at)) ≡ take i (cells xs (values_at cs at)) ++ (x, v) ∷ []
+cell_more [] cs at i x c v l e isx isc h = absurd (omega arith)
+cell_more (y ∷ xs) [] at i x c v l e isx isc h = absurd (cc)
+cell_more (y ∷ xs) (d ∷ cs) at zero x c v l e isx isc h =
+    let value : unwrap_or (slice_get d.held at) null ≡ v =
+        ap (λ (p : Places). unwrap_or (slice_get p.held at) null) (sym isc) ∙ ap (λ o. unwrap_or o null) h in
+    ap₂ (λ z w. (z, w) ∷ []) (sym isx) value
+cell_more (y ∷ xs) (d ∷ cs) at (suc i) x c v l e isx isc h =
+    ap (λ es. (y, unwrap_or (slice_get d.held at) null) ∷ es)
+    (cell_more xs cs at i x c v (omega arith) (cc) isx isc h)
+
+pub cell_there : (xs : List ℕ) (cs : List Places) (at i x : ℕ) (c : Places) (v : Datum) (es : Entries)
+    → es ≡ take i (cells xs (values_at cs at)) → i < length xs → length cs ≡ length xs
+    → x ≡ get_or xs i x → c ≡ get_or cs i c → slice_get c.held at ≡ Some v
+    → es ++ (x, v) ∷ [] ≡ take (i + 1) (cells xs (values_at cs at))
+cell_there xs cs at i x c v es is l e isx isc h =
+    let next : suc i ≡ i + 1 = omega arith in
+    ap (λ fs. fs ++ (x, v) ∷ []) is ∙ sym (cell_more xs cs at i x c v l e isx isc h)
+    ∙ ap (λ k. take k (cells xs (values_at cs at))) next
+
+pub all_cells : (xs : List ℕ) (vs : List Datum) (i : ℕ) (es : Entries) → es ≡ take i (cells xs vs)
+    → length xs ≤ i → es ≡ cells xs vs
+all_cells xs vs i es is l = is ∙ take_all i (cells xs vs) (omega (arith, length-cells xs vs))
+
+-- ---- values that are pushed
+
+pub record Pushing (registers : List ℕ) (i : ℕ) (now : List Places) (row : Row) (old : List Places)
+    (start : Row) : Type 0 where
+  pub count : length now ≡ length registers
+  pub room : AllByRecursion HasRoom (drop i now)
+  pub all : HasAll (drop i registers) row
+  pub leads : take i now ++ pushed (drop i now) (taken (drop i registers) row)
+      ≡ pushed old (taken registers start)
+
+abbrev pub with_value : Places → Datum → Places
+with_value c v = record { room = c.room; held = c.held ++ v ∷ [] }
+
+pub pushing_next : (registers : List ℕ) (i : ℕ) (now : List Places) (row : Row) (old : List Places)
+    (start : Row) (x : ℕ) (c : Places) → Pushing registers i now row old start → i < length registers
+    → x ≡ get_or registers i x → c ≡ get_or now i c
+    → HasRoom c × IsSome (row (Num x))
+pushing_next registers i now row old start x c p l isx isc =
+    let lc : i < length now = omega (arith, p.count) in
+    let rooms : AllByRecursion HasRoom (c ∷ drop (i + 1) now) =
+        subst (λ cs. AllByRecursion HasRoom cs)
+        (drop_more now i c lc ∙ ap (λ d. d ∷ drop (i + 1) now) (sym isc)) p.room in
+    let has : HasAll (x ∷ drop (i + 1) registers) row =
+        subst (λ xs. HasAll xs row)
+        (drop_more registers i x l ∙ ap (λ y. y ∷ drop (i + 1) registers) (sym isx)) p.all in
+    (rooms.0, has.0)
+
+pub pushing_more : (registers : List ℕ) (i : ℕ) (now : List Places) (row next : Row) (old : List Places)
+    (start : Row) (x : ℕ) (c : Places) (v : Datum) → Pushing registers i now row old start
+    → i < length registers → x ≡ get_or registers i x → c ≡ get_or now i c
+    → v ≡ value_at row (Num x) → next ≡ bind (Num x) row null
+    → Pushing registers (i + 1) (set now i (with_value c v)) next old start
+pushing_more registers i now row next old start x c v p l isx isc isv isn =
+    let lc : i < length now = omega (arith, p.count) in
+    let columns : drop i now ≡ c ∷ drop (i + 1) now =
+        drop_more now i c lc ∙ ap (λ d. d ∷ drop (i + 1) now) (sym isc) in
+    let names : drop i registers ≡ x ∷ drop (i + 1) registers =
+        drop_more registers i x l ∙ ap (λ y. y ∷ drop (i + 1) registers) (sym isx) in
+    let later : drop (i + 1) (set now i (with_value c v)) ≡ drop (i + 1) now =
+        drop-set-lt (i + 1) now i (with_value c v) (omega arith) in
+    let rooms : AllByRecursion HasRoom (c ∷ drop (i + 1) now) =
+        subst (λ cs. AllByRecursion HasRoom cs) columns p.room in
+    let has : HasAll (x ∷ drop (i + 1) registers) row = subst (λ xs. HasAll xs row) names p.all in
+    record {
+      count = length-set now i (with_value c v) ∙ p.count;
+      room = subst (λ cs. AllByRecursion HasRoom cs) (sym later) rooms.1;
+      all = subst (λ (r : Row). HasAll (drop (i + 1) registers) r) (sym isn)
+          (has_all_bind (drop (i + 1) registers) x row null has.1);
+      leads =
+          ap₂ (λ cs ds. cs ++ pushed ds (taken (drop (i + 1) registers) next))
+              (take_more_set now i (with_value c v) lc) later
+          ∙ append_assoc (take i now) (with_value c v ∷ [])
+              (pushed (drop (i + 1) now) (taken (drop (i + 1) registers) next))
+          ∙ ap₂ (λ w (r : Row). take i now
+              ++ (with_value c w ∷ pushed (drop (i + 1) now) (taken (drop (i + 1) registers) r))) isv isn
+          ∙ ap₂ (λ cs xs. take i now ++ pushed cs (taken xs row)) (sym columns) (sym names)
+          ∙ p.leads }
+
+pub pushing_all : (registers : List ℕ) (i : ℕ) (now : List Places) (row : Row) (old : List Places)
+    (start : Row) → Pushing registers i now row old start → length registers ≤ i
+    → now ≡ pushed old (taken registers start)
+pushing_all registers i now row old start p l =
+    let none : drop i now ≡ [] = drop_all i now (omega (arith, p.count)) in
+    let all : take i now ≡ now = take_all i now (omega (arith, p.count)) in
+    sym (ap₂ (λ cs ds. cs ++ pushed ds (taken (drop i registers) row)) all none ∙ append-nil now) ∙ p.leads
+
+-- ---- values that are kept by marks
+
+pub record Sifted {X : Type 0} (old : List X) (marks : List Bool) (i kept : ℕ) (now : List X) : Type 0 where
+  pub le : kept ≤ i
+  pub len : length now ≡ length old
+  pub front : take kept now ≡ marked (take i old) (take i marks)
+  pub back : drop i now ≡ drop i old
+
+marked_end : {X : Type 0} (xs : List X) (x : X) (marks : List Bool) (m : Bool) → length xs ≡ length marks
+    → marked (xs ++ x ∷ []) (marks ++ m ∷ []) ≡ marked xs marks ++ marked (x ∷ []) (m ∷ [])
+marked_end [] x [] m e = refl
+marked_end [] x (n ∷ marks) m e = absurd (cc)
+marked_end (y ∷ xs) x [] m e = absurd (cc)
+marked_end (y ∷ xs) x (true ∷ marks) m e = ap (λ zs. y ∷ zs) (marked_end xs x marks m (cc))
+marked_end (y ∷ xs) x (false ∷ marks) m e = marked_end xs x marks m (cc)
+
+marked_next : {X : Type 0} (old : List X) (marks : List Bool) (i : ℕ) (d : X) (m : Bool)
+    → i < length old → length old ≡ length marks → get_or marks i m ≡ m
+    → marked (take (i + 1) old) (take (i + 1) marks)
+    ≡ marked (take i old) (take i marks) ++ marked (get_or old i d ∷ []) (m ∷ [])
+marked_next old marks i d m l e is =
+    ap₂ (λ xs ms. marked xs ms) (take_more old i d l)
+        (take_more marks i m (omega arith) ∙ ap (λ b. take i marks ++ b ∷ []) is)
+    ∙ marked_end (take i old) (get_or old i d) (take i marks) m
+        (omega (arith, length-take i old, length-take i marks))
+
+back_get : {X : Type 0} (old now : List X) (i : ℕ) (d : X) → drop i now ≡ drop i old
+    → get_or now i d ≡ get_or old i d
+back_get old now i d e =
+    let whole : i + 0 ≡ i = omega arith in
+    ap (λ k. get_or now k d) (sym whole) ∙ sym (get_or-drop i now 0 d) ∙ ap (λ xs. get_or xs 0 d) e
+    ∙ get_or-drop i old 0 d ∙ ap (λ k. get_or old k d) whole
+
+back_more : {X : Type 0} (old now : List X) (i : ℕ) → drop i now ≡ drop i old
+    → drop (i + 1) now ≡ drop (i + 1) old
+back_more old now i e = sym (drop-drop 1 i now) ∙ ap (λ xs. drop 1 xs) e ∙ drop-drop 1 i old
+
+pub sifted_past : {X : Type 0} (old : List X) (marks : List Bool) (i kept : ℕ) (now : List X)
+    → Sifted old marks i kept now → i < length marks → length old ≡ length marks
+    → get_or marks i false ≡ false → Sifted old marks (i + 1) kept now
+sifted_past [] marks i kept now s l e is = absurd (omega arith)
+sifted_past (d ∷ old) marks i kept now s l e is = record {
+    le = (let h = s.le in omega arith);
+    len = s.len;
+    front = s.front ∙ sym (marked_next (d ∷ old) marks i d false (omega arith) e is ∙ append-nil _);
+    back = back_more (d ∷ old) now i s.back }
+
+swap_front : {X : Type 0} (now : List X) (k i : ℕ) (d : X) → k ≤ i → i < length now
+    → take (k + 1) (swap now k i) ≡ take k now ++ get_or now i d ∷ []
+swap_front now k i d le l =
+    ap (λ xs. take (k + 1) xs) (sym (swap_is now k i d (omega arith) l))
+    ∙ elim (cases_lt k i) [
+        inl below ↦
+          take-set-le (k + 1) (set now k (get_or now i d)) i (get_or now k d) (omega arith)
+          ∙ take_more_set now k (get_or now i d) (omega arith)
+      | inr above ↦
+          let same : k ≡ i = omega arith in
+          ap (λ j. take (k + 1) (set (set now k (get_or now j d)) j (get_or now k d))) (sym same)
+          ∙ ap (λ xs. take (k + 1) xs) (set-set now k (get_or now k d) (get_or now k d))
+          ∙ take_more_set now k (get_or now k d) (omega arith)
+          ∙ ap (λ j. take k now ++ get_or now j d ∷ []) same ]
+
+swap_back : {X : Type 0} (now : List X) (k i : ℕ) (d : X) → k ≤ i → i < length now
+    → drop (i + 1) (swap now k i) ≡ drop (i + 1) now
+swap_back now k i d le l =
+    ap (λ xs. drop (i + 1) xs) (sym (swap_is now k i d (omega arith) l))
+    ∙ drop-set-lt (i + 1) (set now k (get_or now i d)) i (get_or now k d) (omega arith)
+    ∙ drop-set-lt (i + 1) now k (get_or now i d) (omega arith)
+
+pub sifted_kept : {X : Type 0} (old : List X) (marks : List Bool) (i kept : ℕ) (now : List X)
+    → Sifted old marks i kept now → i < length marks → length old ≡ length marks
+    → get_or marks i true ≡ true → Sifted old marks (i + 1) (kept + 1) (swap now kept i)
+sifted_kept [] marks i kept now s l e is = absurd (omega arith)
+sifted_kept (d ∷ old) marks i kept now s l e is =
+    let le = s.le in
+    let len = s.len in
+    let within : i < length now = omega arith in
+    record {
+      le = omega arith;
+      len = length-swap now kept i ∙ s.len;
+      front =
+          swap_front now kept i d le within
+          ∙ ap₂ (λ xs y. xs ++ y ∷ []) s.front (back_get (d ∷ old) now i d s.back)
+          ∙ sym (marked_next (d ∷ old) marks i d true (omega arith) e is);
+      back = swap_back now kept i d le within ∙ back_more (d ∷ old) now i s.back }
+
+pub sifted_all : {X : Type 0} (old : List X) (marks : List Bool) (i kept : ℕ) (now : List X)
+    → Sifted old marks i kept now → length marks ≤ i → length old ≡ length marks
+    → take kept now ≡ marked old marks
+sifted_all old marks i kept now s l e =
+    s.front ∙ ap₂ (λ xs ms. marked xs ms) (take_all i old (omega arith)) (take_all i marks l)

@@ -1,0 +1,7 @@
+pub mod Rows
+pub mod Entries
+pub mod Tables
+pub mod Columns
+pub mod Calls
+pub mod Counts
+pub mod laws

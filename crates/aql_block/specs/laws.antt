@@ -1,0 +1,4 @@
+pub mod Registers
+pub mod BlockRows
+pub mod Marked
+pub mod Added
