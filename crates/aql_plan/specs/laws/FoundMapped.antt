@@ -1,17 +1,17 @@
 -- A node finds what it uses in the rows of its input where their variables, as far as they are used, are
 -- there under their names by g, and its expressions use them by these names. The bodies of subqueries go
 -- along, and what a plan sets has the name that it had.
-use Rattle.std.proofs.Common.{◌≡◌, ◌∙◌, List, [], ◌∷◌, ◌++◌, Bool, true, false, true≢false, refl, ap, ap₂, sym, subst}
+use Rattle.std.proofs.Common.{◌≡◌, List, [], ◌∷◌, ◌++◌, Bool, true, false, true≢false, refl, ap, sym, subst}
 use Rattle.std.proofs.Common.{⊎_elim}
-use Rattle.std.specs.Prelude.{◌&&◌, ◌||◌}
-use Rattle.std.specs.List.{list_any, list_all, AllByRecursion}
+use Rattle.std.specs.Prelude.{◌||◌}
+use Rattle.std.specs.List.{list_any, AllByRecursion}
 use Rattle.std.proofs.lemmas.Bool.{and_parts, and_from}
 use Rattle.aql_tree.specs.declared.syntax.Ident.{Ident}
 use Rattle.aql_tree.specs.declared.syntax.Ident.TheVariants.{Num}
 use Rattle.aql_tree.specs.Tree.{ExprTree}
 use Rattle.aql_meaning.specs.Row.{same_ident}
 use Rattle.aql_meaning.specs.Uses.{Use, Whole, Part, Uses, used_variable, uses, all_uses, maybe_uses}
-use Rattle.aql_plan.specs.Plan.{Plan, Singleton, Over, Node, EnumerateCollection, Index, EnumerateList, Traversal, Calculation, Subquery, Collect, Return}
+use Rattle.aql_plan.specs.Plan.{Plan, Singleton, Over, Node, EnumerateCollection, Index, Traversal, Subquery, Collect, Return}
 use Rattle.aql_plan.specs.Needs.{sets, last_uses, own_uses, result_uses, under, needs}
 use Rattle.aql_plan.specs.Variables.{filter_uses, input_uses, vars_of, are_among, FindsAll, FindsInside}
 use Rattle.aql_plan.specs.Renaming.{PlanSets, NodeSets}

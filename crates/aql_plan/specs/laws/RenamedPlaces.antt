@@ -1,6 +1,6 @@
 -- A well-formed plan without fragments stays well formed where a part of it gives way to another part and the
 -- nodes above go by other names: those at their expressions, and the bodies of their subqueries too.
-use Rattle.std.proofs.Common.{◌≡◌, ◌∙◌, ℕ, suc, ◌+◌, ◌≤◌, List, [], ◌∷◌, ◌++◌, map, Bool, true, false, true≢false, cond, refl, ap, ap₂, sym, subst, arith}
+use Rattle.std.proofs.Common.{◌≡◌, suc, ◌≤◌, List, [], ◌∷◌, ◌++◌, map, Bool, true, false, true≢false, cond, refl, ap, sym, subst, arith}
 use Rattle.std.proofs.Math.Dec.{eqb-suc-zero}
 use Rattle.std.specs.Prelude.{Some}
 use Rattle.std.specs.List.{list_any, AllByRecursion}
@@ -13,22 +13,21 @@ use Rattle.aql_meaning.specs.Plain.{IsPlain}
 use Rattle.aql_meaning.specs.Numbered.{IsNumber}
 use Rattle.aql_meaning.specs.Uses.{Uses}
 use Rattle.aql_plan.specs.declared.facts.Facts.{Facts}
-use Rattle.aql_plan.specs.Plan.{Plan, Over, Node, Index, Subquery, Collect}
+use Rattle.aql_plan.specs.Plan.{Plan, Over, Node, Index, Collect}
 use Rattle.aql_plan.specs.Needs.{result_uses, under}
 use Rattle.aql_plan.specs.Above.{raised, uses_above}
 use Rattle.aql_plan.specs.Variables.{vars_of, FindsAll, vars_set, set_once}
 use Rattle.aql_plan.specs.Renaming.{NodeSets, renamed_node}
-use Rattle.aql_plan.specs.Exprs.{map_plan, map_node}
-use Rattle.aql_plan.specs.Shapes.{Shape, Rows, Result, Shaped, one_row, calculated, with_subquery, plain_rows, ordered_rows, scatter, distribute, remote, lowest, lowest_in_order, other_reading, passing, sorting, gather, gather_in_order, partial, joining, finishing, returning, is_inside, HasNoFragment, IsNoFragment}
+use Rattle.aql_plan.specs.Exprs.{map_node}
+use Rattle.aql_plan.specs.Shapes.{Rows, Result, calculated, with_subquery, plain_rows, ordered_rows, gather, gather_in_order, joining, finishing, returning, HasNoFragment, IsNoFragment}
 use Rattle.aql_plan.specs.WellFormed.{IsWellFormed}
-use Rattle.aql_plan.specs.laws.Idents.{same_is, same_self}
 use Rattle.aql_plan.specs.laws.Among.{count, count_append, counted_in, counted_once, once_distinct, counted_has, fewer_have}
 use Rattle.aql_plan.specs.laws.SetsHave.{node_sets}
-use Rattle.aql_plan.specs.laws.ShapesKept.{KeepsShape, kept_body}
+use Rattle.aql_plan.specs.laws.ShapesKept.{KeepsShape}
 use Rattle.aql_plan.specs.laws.ShapesMapped.{mapped_fit, mapped_outer, mapped_shaped}
 use Rattle.aql_plan.specs.laws.RenamedUses.{goes_by, uses_renamed, plain_renamed}
-use Rattle.aql_plan.specs.laws.UsesMapped.{Turns, IsKept, vars_set_kept, set_once_kept, lone_node}
-use Rattle.aql_plan.specs.laws.FoundMapped.{StaysAmong, stays_kept, StartStays, NodeFinds, rows_over, node_mapped}
+use Rattle.aql_plan.specs.laws.UsesMapped.{Turns, IsKept, set_once_kept, lone_node}
+use Rattle.aql_plan.specs.laws.FoundMapped.{StaysAmong, stays_kept, StartStays, rows_over, node_mapped}
 
 -- q keeps the place of p where the nodes above go by names under g: `outer` are the variables of the start
 -- row, and `us` is what these nodes use of the rows of p
@@ -79,38 +78,16 @@ module _ (f : ExprTree → ExprTree) (g : Ident → Ident) (plain : (e : ExprTre
   place_over facts outer us q p n lone clear start found k =
       let m = node_mapped f g result turns us (vars_of outer p) (vars_of outer q) n clear k.vars
       (found.1, found.2, found.3) in record {
-    shape = shape_over f plain facts q p n lone k.shape;
-    no_fragment = (k.no_fragment, lone_node f n lone);
-    found = (k.found, m.0, m.1, m.2);
-    vars = rows_over f g result us outer outer p q n clear (handed n) k.vars;
-    fewer = λ z. fewer_over f q p n z (k.fewer z);
-  }
+        shape = shape_over f plain facts q p n lone k.shape;
+        no_fragment = (k.no_fragment, lone_node f n lone);
+        found = (k.found, m.0, m.1, m.2);
+        vars = rows_over f g result us outer outer p q n clear (handed n) k.vars;
+        fewer = λ z. fewer_over f q p n z (k.fewer z);
+      }
     where
       handed : (n : Node) → StartStays g us outer outer n
       handed (Collect zs es gs i s) = stays_kept g us outer start
       handed n = tt
-
--- as the body of a subquery: its rows are the start rows of the body, and no name is another one outside
-pub place_body : (facts : Facts) (outer : List Ident) (g : Ident → Ident) (us : Uses) (x : Ident)
-    (t s b : Plan)
-    → HasNoFragment b → FindsAll outer b → KeepsPlace facts g (vars_of outer b) result_uses t s
-    → KeepsPlace facts (λ z. z) outer us (Over b (Subquery x t)) (Over b (Subquery x s))
-place_body facts outer g us x t s b lone found k = record {
-  shape = kept_body facts x b t s false k.shape;
-  no_fragment = (lone, k.no_fragment);
-  found = (found, refl, refl, k.found);
-  vars = λ z h m. m;
-  fewer = λ z. by z (same_ident z x) (k.fewer z) (count_append z (vars_set t) (vars_set b))
-      (count_append z (vars_set s) (vars_set b));
-}
-  where
-    by : (z : Ident) (c : Bool) → count z (vars_set t) ≤ count z (vars_set s)
-        → count z (vars_set t ++ vars_set b) ≡ count z (vars_set t) + count z (vars_set b)
-        → count z (vars_set s ++ vars_set b) ≡ count z (vars_set s) + count z (vars_set b)
-        → cond c (suc (count z (vars_set t ++ vars_set b))) (count z (vars_set t ++ vars_set b))
-        ≤ cond c (suc (count z (vars_set s ++ vars_set b))) (count z (vars_set s ++ vars_set b))
-    by z true h e d = omega (arith, h, e, d)
-    by z false h e d = omega (arith, h, e, d)
 
 -- the whole plan
 pub place_well_formed : (facts : Facts) (g : Ident → Ident) (outer : List Ident) (q p : Plan)
@@ -124,7 +101,8 @@ place_well_formed facts g outer q p well k = (
 )
   where
     fewer : (z : Ident) → count z (vars_set p ++ outer) ≤ 1 → count z (vars_set q ++ outer) ≤ 1
-    fewer z h = omega (arith, h, k.fewer z, count_append z (vars_set p) outer, count_append z (vars_set q) outer)
+    fewer z h =
+        omega (arith, h, k.fewer z, count_append z (vars_set p) outer, count_append z (vars_set q) outer)
 
 -- ---- a variable y for a variable x that the part sets
 
@@ -137,7 +115,7 @@ module _ (x y : Ident) where
   keeps_name : (z : Ident) → same_ident x z ≡ false → IsKept (goes_by x y) z
   keeps_name z h = ap (λ (b : Bool). cond b y z) h
 
-  -- where x is set once, another variable is not x
+  -- variables that are not x keep their names
   pub all_keep : (zs : List Ident) → count x zs ≤ 0 → AllByRecursion (IsKept (goes_by x y)) zs
   all_keep [] h = tt
   all_keep (z ∷ zs) h = by (same_ident x z) refl h (all_keep zs)

@@ -5,7 +5,7 @@ use Rattle.std.specs.Prelude.{Option, Some, None, option_map, option_to_list}
 use Rattle.std.specs.List.{AllByRecursion}
 use Rattle.aql_tree.specs.declared.syntax.Ident.{Ident}
 use Rattle.aql_tree.specs.Tree.{ExprTree, ExprTrees, no_exprs, expr_then, MaybeExpr, no_expr, one_expr, AggregateTrees, no_aggregates, aggregate_then, IntoTree, no_into, into}
-use Rattle.aql_meaning.specs.Visible.{aggregate_vars, into_var}
+use Rattle.aql_meaning.specs.Visible.{aggregate_vars}
 use Rattle.aql_meaning.specs.Uses.{Whole, Uses, uses, all_uses, maybe_uses, aggregate_uses, into_uses}
 use Rattle.aql_meaning.specs.declared.grouping.Stage.TheVariants as stage
 use Rattle.aql_meaning.specs.Documents.{End, Last, no_last, one_of, between, last_map, end_map}
