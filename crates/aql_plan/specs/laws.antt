@@ -14,3 +14,9 @@ pub mod RenamedAbove
 pub mod ShapesKept
 pub mod ShapeOnce
 pub mod ShapesMapped
+pub mod Among
+pub mod SetsHave
+pub mod RenamedUses
+pub mod UsesMapped
+pub mod FoundMapped
+pub mod RenamedPlaces

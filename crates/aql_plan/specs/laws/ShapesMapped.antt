@@ -110,7 +110,7 @@ module _ (f : ExprTree → ExprTree) (plain : (e : ExprTree) → IsPlain e → I
   mapped_fit facts Remote h = tt
   mapped_fit facts (Gather directions es) h = exprs_plain es h
 
-  mapped_outer : (n : Node) → IsOuter n → IsOuter (map_node f n)
+  pub mapped_outer : (n : Node) → IsOuter n → IsOuter (map_node f n)
   mapped_outer (EnumerateCollection x) h = h
   mapped_outer (Index x index equal last None) h = h
   mapped_outer (Index x index equal last (Some descending)) h = absurd h
