@@ -69,7 +69,7 @@ pub row_in_at : (n room : ℕ) (cs : List Places) (at : ℕ) → AllByRecursion 
 row_in_at n room [] at h l = blank_at n at l
 row_in_at n room (c ∷ cs) at h l =
     beside_at c.held (rows_in n cs) (values_at cs at) at
-        (h.0.0 ∙ sym (length-rows_in n room cs h.1)) (row_in_at n room cs at h.1 l)
+    (h.0.0 ∙ sym (length-rows_in n room cs h.1)) (row_in_at n room cs at h.1 l)
 
 -- ---- null at a place
 

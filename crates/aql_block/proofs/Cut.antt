@@ -27,8 +27,8 @@ pub column_rest : (room at : ℕ) (items rest : List Value) (now : Places) → r
 column_rest room at items rest now e v =
     ap (λ (ws : List Value). column_of (length ws) (datums_in ws)) e
     ∙ ap₂ (λ n ds. column_of n ds)
-        (sym (length-map (drop at items) datum_of) ∙ ap length (sym (drop-map datum_of at items)))
-        (sym (drop-map datum_of at items))
+    (sym (length-map (drop at items) datum_of) ∙ ap length (sym (drop-map datum_of at items)))
+    (sym (drop-map datum_of at items))
     ∙ ap (λ (p : Places). column_of (length (drop at p.held)) (drop at p.held)) v
 
 pub column_without : (room at : ℕ) (items : List Value) (d : Value) (now : Places) → d ≡ Null

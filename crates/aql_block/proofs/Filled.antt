@@ -55,6 +55,7 @@ filled_new xs room = record { count = counts xs; fit = fits xs; within = omega a
         → length (replicate {A = Places} (length ys) (record { room = room; held = [] })) ≡ length ys
     counts [] = refl
     counts (y ∷ ys) = ap suc (counts ys)
+
     fits : (ys : List ℕ)
         → AllByRecursion (Fits 0 room) (replicate (length ys) (record { room = room; held = [] }))
     fits [] = tt
@@ -66,6 +67,7 @@ filled_single es = record { count = counts es; fit = fits es; within = omega ari
     counts : (fs : Entries) → length (single_columns fs) ≡ length (map (λ (e : ℕ × Datum). e.0) fs)
     counts [] = refl
     counts (f ∷ fs) = ap suc (counts fs)
+
     fits : (fs : Entries) → AllByRecursion (Fits 1 1) (single_columns fs)
     fits [] = tt
     fits (f ∷ fs) = ((refl, omega arith), fits fs)
@@ -74,39 +76,44 @@ pub filled_set : (xs : List ℕ) (cs : List Places) (n room x more : ℕ) (vs : 
     → IsFilled xs cs n room → length vs ≡ n → n ≤ more
     → IsFilled (x ∷ xs) (record { room = more; held = vs } ∷ cs) n n
 filled_set xs cs n room x more vs h e le = record {
-    count = ap suc h.count;
-    fit = ((e, le), each (λ c f. (f.0, (let a = f.1 in let b = h.within in omega arith))) cs h.fit);
-    within = omega arith }
+  count = ap suc h.count;
+  fit = ((e, le), each (λ c f. (f.0, (let a = f.1 in let b = h.within in omega arith))) cs h.fit);
+  within = omega arith;
+}
 
 pub filled_pushed : (xs : List ℕ) (cs : List Places) (n room : ℕ) (row : Row) → IsFilled xs cs n room
     → n < room → IsFilled xs (pushed cs (taken xs row)) (n + 1) room
 filled_pushed xs cs n room row h l = record {
-    count = length-pushed cs (taken xs row) ∙ h.count;
-    fit = rw add-one (fits_pushed n room cs (taken xs row) h.fit (h.count ∙ sym (length-taken xs row)));
-    within = omega arith }
+  count = length-pushed cs (taken xs row) ∙ h.count;
+  fit = rw add-one (fits_pushed n room cs (taken xs row) h.fit (h.count ∙ sym (length-taken xs row)));
+  within = omega arith;
+}
 
 pub filled_without : (xs : List ℕ) (cs : List Places) (n room at : ℕ) → IsFilled xs cs n room
     → IsFilled xs (map (without at) cs) n room
 filled_without xs cs n room at h = record {
-    count = length-map cs (without at) ∙ h.count;
-    fit = each_map (Fits n room) (Fits n room) (without at) (λ c f. (length-set c.held at null ∙ f.0, f.1)) cs h.fit;
-    within = h.within }
+  count = length-map cs (without at) ∙ h.count;
+  fit = each_map (Fits n room) (Fits n room) (without at) (λ c f. (length-set c.held at null ∙ f.0, f.1)) cs h.fit;
+  within = h.within;
+}
 
 pub filled_first : (xs : List ℕ) (cs : List Places) (n room k : ℕ) → IsFilled xs cs n room
     → IsFilled xs (map (first_of k) cs) (min n k) room
 filled_first xs cs n room k h = record {
-    count = length-map cs (first_of k) ∙ h.count;
-    fit = each_map (Fits n room) (Fits (min n k) room) (first_of k)
-        (λ c f. ((let e = length-take k c.held in let g = f.0 in omega arith), f.1)) cs h.fit;
-    within = (let b = h.within in omega arith) }
+  count = length-map cs (first_of k) ∙ h.count;
+  fit = each_map (Fits n room) (Fits (min n k) room) (first_of k)
+      (λ c f. ((let e = length-take k c.held in let g = f.0 in omega arith), f.1)) cs h.fit;
+  within = (let b = h.within in omega arith);
+}
 
 pub filled_rest : (xs : List ℕ) (cs : List Places) (n room k : ℕ) → IsFilled xs cs n room
     → IsFilled xs (map (rest_of k) cs) (n - k) (n - k)
 filled_rest xs cs n room k h = record {
-    count = length-map cs (rest_of k) ∙ h.count;
-    fit = each_map (Fits n room) (Fits (n - k) (n - k)) (rest_of k)
-        (λ c f. (let e = length-drop k c.held in let g = f.0 in (omega arith, omega arith))) cs h.fit;
-    within = omega arith }
+  count = length-map cs (rest_of k) ∙ h.count;
+  fit = each_map (Fits n room) (Fits (n - k) (n - k)) (rest_of k)
+      (λ c f. (let e = length-drop k c.held in let g = f.0 in (omega arith, omega arith))) cs h.fit;
+  within = omega arith;
+}
 
 pub length-marked : {X Y : Type 0} (xs : List X) (ys : List Y) (marks : List Bool) → length xs ≡ length ys
     → length (marked xs marks) ≡ length (marked ys marks)
@@ -127,10 +134,11 @@ pub filled_marked : (xs : List ℕ) (cs : List Places) (n room : ℕ) (marks : L
     → IsFilled xs cs n room → length marks ≡ n
     → IsFilled xs (map (marked_of marks) cs) (length (marked marks marks)) room
 filled_marked xs cs n room marks h e = record {
-    count = length-map cs (marked_of marks) ∙ h.count;
-    fit = each_map (Fits n room) (Fits (length (marked marks marks)) room) (marked_of marks)
-        (λ c f. (length-marked c.held marks marks (f.0 ∙ sym e), f.1)) cs h.fit;
-    within = (let b = h.within in let k = length-marked-le marks marks in omega arith) }
+  count = length-map cs (marked_of marks) ∙ h.count;
+  fit = each_map (Fits n room) (Fits (length (marked marks marks)) room) (marked_of marks)
+      (λ c f. (length-marked c.held marks marks (f.0 ∙ sym e), f.1)) cs h.fit;
+  within = (let b = h.within in let k = length-marked-le marks marks in omega arith);
+}
 
 pub filled_made : (xs : List ℕ) (k room : ℕ) (cs : List Places)
     → cs ≡ replicate k (record { room = room; held = [] }) → k ≡ length xs → IsFilled xs cs 0 room

@@ -76,7 +76,7 @@ pushed_entry [] x v h = refl
 pushed_entry (e ∷ es) x v h =
     let ne = differs e.0 x (row_of es) e.1 h in
     ap (λ r. bind (Num e.0) r e.1)
-        (pushed_entry es x v (sym (bind_other e.0 x (row_of es) e.1 ne) ∙ h))
+    (pushed_entry es x v (sym (bind_other e.0 x (row_of es) e.1 ne) ∙ h))
     ∙ swapped e.0 x (row_of es) e.1 v ne
 
 -- ---- cells
@@ -125,7 +125,7 @@ first_column y x ys [] rows h e = refl
 first_column y x ys (v ∷ held) [] h e = absurd (cc)
 first_column y x ys (v ∷ held) (vs ∷ rows) h e =
     ap (λ o. o ∷ map (λ ws. row_of (cells (y ∷ ys) ws) (Num x)) (beside held rows))
-        (bind_is y x (row_of (cells ys vs)) v h)
+    (bind_is y x (row_of (cells ys vs)) v h)
     ∙ ap (λ rest. Some v ∷ rest) (first_column y x ys held rows h (cc))
 
 later_column : (y x : ℕ) (ys : List ℕ) (held : List Datum) (rows : List (List Datum)) → y ≢ x
@@ -137,7 +137,7 @@ later_column y x ys [] (vs ∷ rows) h e = absurd (cc)
 later_column y x ys (v ∷ held) [] h e = absurd (cc)
 later_column y x ys (v ∷ held) (vs ∷ rows) h e =
     ap (λ o. o ∷ map (λ ws. row_of (cells (y ∷ ys) ws) (Num x)) (beside held rows))
-        (bind_other y x (row_of (cells ys vs)) v h)
+    (bind_other y x (row_of (cells ys vs)) v h)
     ∙ ap (λ rest. row_of (cells ys vs) (Num x) ∷ rest) (later_column y x ys held rows h (cc))
 
 pub column_values : (xs : List ℕ) (cs : List Places) (n room x at : ℕ) (d : Places) → IsFirst xs x at

@@ -41,10 +41,10 @@ pub finds_entry : (es : List Entry) (i x : ℕ) (e : Entry) → i < length es �
     → (e.var == x) ≡ false → FindsEntry x es i → FindsEntry x es (i + 1)
 finds_entry es i x e l is other h j first =
     let here : (get_or es i e).var ≢ x =
-        λ same. eqb-false e.var x other (ap (λ (d : Entry). d.var) is ∙ same) in
+    λ same. eqb-false e.var x other (ap (λ (d : Entry). d.var) is ∙ same) in
     let there : IsFirst (variables_of (entries_in (drop i es))) x (suc j) =
-        subst (λ (ds : List Entry). IsFirst (variables_of (entries_in ds)) x (suc j))
-        (sym (drop_more es i e l)) (here, first) in
+    subst (λ (ds : List Entry). IsFirst (variables_of (entries_in ds)) x (suc j))
+    (sym (drop_more es i e l)) (here, first) in
     let same : i + suc j ≡ (i + 1) + j = omega arith in
     subst (λ k. IsFirst (variables_of (entries_in es)) x k) same (h (suc j) there)
 
@@ -53,8 +53,8 @@ pub found_entry : (es : List Entry) (i x : ℕ) (e : Entry) → i < length es �
 found_entry es i x e l is same h =
     let here : (get_or es i e).var ≡ x = ap (λ (d : Entry). d.var) (sym is) ∙ eqb-true e.var x same in
     let there : IsFirst (variables_of (entries_in (drop i es))) x 0 =
-        subst (λ (ds : List Entry). IsFirst (variables_of (entries_in ds)) x 0)
-        (sym (drop_more es i e l)) here in
+    subst (λ (ds : List Entry). IsFirst (variables_of (entries_in ds)) x 0)
+    (sym (drop_more es i e l)) here in
     let whole : i + 0 ≡ i = omega arith in
     subst (λ k. IsFirst (variables_of (entries_in es)) x k) whole (h 0 there)
 
@@ -106,7 +106,7 @@ pub finds_register : (xs : List ℕ) (i x y : ℕ) → i < length xs → y ≡ g
 finds_register xs i x y l is other h j first =
     let here : get_or xs i y ≢ x = λ same. eqb-false y x other (is ∙ same) in
     let there : IsFirst (drop i xs) x (suc j) =
-        subst (λ (ys : List ℕ). IsFirst ys x (suc j)) (sym (drop_more xs i y l)) (here, first) in
+    subst (λ (ys : List ℕ). IsFirst ys x (suc j)) (sym (drop_more xs i y l)) (here, first) in
     let same : i + suc j ≡ (i + 1) + j = omega arith in
     subst (λ k. IsFirst xs x k) same (h (suc j) there)
 
@@ -115,6 +115,6 @@ pub found_register : (xs : List ℕ) (i x y : ℕ) → i < length xs → y ≡ g
 found_register xs i x y l is same h =
     let here : get_or xs i y ≡ x = sym is ∙ eqb-true y x same in
     let there : IsFirst (drop i xs) x 0 =
-        subst (λ (ys : List ℕ). IsFirst ys x 0) (sym (drop_more xs i y l)) here in
+    subst (λ (ys : List ℕ). IsFirst ys x 0) (sym (drop_more xs i y l)) here in
     let whole : i + 0 ≡ i = omega arith in
     subst (λ k. IsFirst xs x k) whole (h 0 there)

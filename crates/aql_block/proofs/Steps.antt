@@ -29,8 +29,13 @@ pub length-worked : (f : Places → Places) (i : ℕ) (now old : List Places) �
     → length now ≡ length old
 length-worked f i now old w =
     ap length w
-    ∙ (omega (arith, length-append (map f (take i old)) (drop i old), length-map (take i old) f,
-        length-take i old, length-drop i old))
+    ∙ (omega (
+      arith,
+      length-append (map f (take i old)) (drop i old),
+      length-map (take i old) f,
+      length-take i old,
+      length-drop i old,
+    ))
 
 -- the column that comes next is as it was
 pub worked_next : (f : Places → Places) (i : ℕ) (now old : List Places) (c : Places) → Worked f i now old
@@ -78,7 +83,7 @@ cell_more [] cs at i x c v l e isx isc h = absurd (omega arith)
 cell_more (y ∷ xs) [] at i x c v l e isx isc h = absurd (cc)
 cell_more (y ∷ xs) (d ∷ cs) at zero x c v l e isx isc h =
     let value : unwrap_or (slice_get d.held at) null ≡ v =
-        ap (λ (p : Places). unwrap_or (slice_get p.held at) null) (sym isc) ∙ ap (λ o. unwrap_or o null) h in
+    ap (λ (p : Places). unwrap_or (slice_get p.held at) null) (sym isc) ∙ ap (λ o. unwrap_or o null) h in
     ap₂ (λ z w. (z, w) ∷ []) (sym isx) value
 cell_more (y ∷ xs) (d ∷ cs) at (suc i) x c v l e isx isc h =
     ap (λ es. (y, unwrap_or (slice_get d.held at) null) ∷ es)
@@ -117,11 +122,11 @@ pub pushing_next : (registers : List ℕ) (i : ℕ) (now : List Places) (row : R
 pushing_next registers i now row old start x c p l isx isc =
     let lc : i < length now = omega (arith, p.count) in
     let rooms : AllByRecursion HasRoom (c ∷ drop (i + 1) now) =
-        subst (λ cs. AllByRecursion HasRoom cs)
-        (drop_more now i c lc ∙ ap (λ d. d ∷ drop (i + 1) now) (sym isc)) p.room in
+    subst (λ cs. AllByRecursion HasRoom cs)
+    (drop_more now i c lc ∙ ap (λ d. d ∷ drop (i + 1) now) (sym isc)) p.room in
     let has : HasAll (x ∷ drop (i + 1) registers) row =
-        subst (λ xs. HasAll xs row)
-        (drop_more registers i x l ∙ ap (λ y. y ∷ drop (i + 1) registers) (sym isx)) p.all in
+    subst (λ xs. HasAll xs row)
+    (drop_more registers i x l ∙ ap (λ y. y ∷ drop (i + 1) registers) (sym isx)) p.all in
     (rooms.0, has.0)
 
 pub pushing_more : (registers : List ℕ) (i : ℕ) (now : List Places) (row next : Row) (old : List Places)
@@ -132,13 +137,13 @@ pub pushing_more : (registers : List ℕ) (i : ℕ) (now : List Places) (row nex
 pushing_more registers i now row next old start x c v p l isx isc isv isn =
     let lc : i < length now = omega (arith, p.count) in
     let columns : drop i now ≡ c ∷ drop (i + 1) now =
-        drop_more now i c lc ∙ ap (λ d. d ∷ drop (i + 1) now) (sym isc) in
+    drop_more now i c lc ∙ ap (λ d. d ∷ drop (i + 1) now) (sym isc) in
     let names : drop i registers ≡ x ∷ drop (i + 1) registers =
-        drop_more registers i x l ∙ ap (λ y. y ∷ drop (i + 1) registers) (sym isx) in
+    drop_more registers i x l ∙ ap (λ y. y ∷ drop (i + 1) registers) (sym isx) in
     let later : drop (i + 1) (set now i (with_value c v)) ≡ drop (i + 1) now =
-        drop-set-lt (i + 1) now i (with_value c v) (omega arith) in
+    drop-set-lt (i + 1) now i (with_value c v) (omega arith) in
     let rooms : AllByRecursion HasRoom (c ∷ drop (i + 1) now) =
-        subst (λ cs. AllByRecursion HasRoom cs) columns p.room in
+    subst (λ cs. AllByRecursion HasRoom cs) columns p.room in
     let has : HasAll (x ∷ drop (i + 1) registers) row = subst (λ xs. HasAll xs row) names p.all in
     record {
       count = length-set now i (with_value c v) ∙ p.count;
@@ -147,13 +152,14 @@ pushing_more registers i now row next old start x c v p l isx isc isv isn =
           (has_all_bind (drop (i + 1) registers) x row null has.1);
       leads =
           ap₂ (λ cs ds. cs ++ pushed ds (taken (drop (i + 1) registers) next))
-              (take_more_set now i (with_value c v) lc) later
+          (take_more_set now i (with_value c v) lc) later
           ∙ append_assoc (take i now) (with_value c v ∷ [])
-              (pushed (drop (i + 1) now) (taken (drop (i + 1) registers) next))
+          (pushed (drop (i + 1) now) (taken (drop (i + 1) registers) next))
           ∙ ap₂ (λ w (r : Row). take i now
-              ++ (with_value c w ∷ pushed (drop (i + 1) now) (taken (drop (i + 1) registers) r))) isv isn
+          ++ (with_value c w ∷ pushed (drop (i + 1) now) (taken (drop (i + 1) registers) r))) isv isn
           ∙ ap₂ (λ cs xs. take i now ++ pushed cs (taken xs row)) (sym columns) (sym names)
-          ∙ p.leads }
+          ∙ p.leads;
+    }
 
 pub pushing_all : (registers : List ℕ) (i : ℕ) (now : List Places) (row : Row) (old : List Places)
     (start : Row) → Pushing registers i now row old start → length registers ≤ i
@@ -185,9 +191,9 @@ marked_next : {X : Type 0} (old : List X) (marks : List Bool) (i : ℕ) (d : X) 
     ≡ marked (take i old) (take i marks) ++ marked (get_or old i d ∷ []) (m ∷ [])
 marked_next old marks i d m l e is =
     ap₂ (λ xs ms. marked xs ms) (take_more old i d l)
-        (take_more marks i m (omega arith) ∙ ap (λ b. take i marks ++ b ∷ []) is)
+    (take_more marks i m (omega arith) ∙ ap (λ b. take i marks ++ b ∷ []) is)
     ∙ marked_end (take i old) (get_or old i d) (take i marks) m
-        (omega (arith, length-take i old, length-take i marks))
+    (omega (arith, length-take i old, length-take i marks))
 
 back_get : {X : Type 0} (old now : List X) (i : ℕ) (d : X) → drop i now ≡ drop i old
     → get_or now i d ≡ get_or old i d
@@ -205,17 +211,18 @@ pub sifted_past : {X : Type 0} (old : List X) (marks : List Bool) (i kept : ℕ)
     → get_or marks i false ≡ false → Sifted old marks (i + 1) kept now
 sifted_past [] marks i kept now s l e is = absurd (omega arith)
 sifted_past (d ∷ old) marks i kept now s l e is = record {
-    le = (let h = s.le in omega arith);
-    len = s.len;
-    front = s.front ∙ sym (marked_next (d ∷ old) marks i d false (omega arith) e is ∙ append-nil _);
-    back = back_more (d ∷ old) now i s.back }
+  le = (let h = s.le in omega arith);
+  len = s.len;
+  front = s.front ∙ sym (marked_next (d ∷ old) marks i d false (omega arith) e is ∙ append-nil _);
+  back = back_more (d ∷ old) now i s.back;
+}
 
 swap_front : {X : Type 0} (now : List X) (k i : ℕ) (d : X) → k ≤ i → i < length now
     → take (k + 1) (swap now k i) ≡ take k now ++ get_or now i d ∷ []
 swap_front now k i d le l =
     ap (λ xs. take (k + 1) xs) (sym (swap_is now k i d (omega arith) l))
     ∙ elim (cases_lt k i) [
-        inl below ↦
+      | inl below ↦
           take-set-le (k + 1) (set now k (get_or now i d)) i (get_or now k d) (omega arith)
           ∙ take_more_set now k (get_or now i d) (omega arith)
       | inr above ↦
@@ -223,7 +230,8 @@ swap_front now k i d le l =
           ap (λ j. take (k + 1) (set (set now k (get_or now j d)) j (get_or now k d))) (sym same)
           ∙ ap (λ xs. take (k + 1) xs) (set-set now k (get_or now k d) (get_or now k d))
           ∙ take_more_set now k (get_or now k d) (omega arith)
-          ∙ ap (λ j. take k now ++ get_or now j d ∷ []) same ]
+          ∙ ap (λ j. take k now ++ get_or now j d ∷ []) same
+    ]
 
 swap_back : {X : Type 0} (now : List X) (k i : ℕ) (d : X) → k ≤ i → i < length now
     → drop (i + 1) (swap now k i) ≡ drop (i + 1) now
@@ -247,7 +255,8 @@ sifted_kept (d ∷ old) marks i kept now s l e is =
           swap_front now kept i d le within
           ∙ ap₂ (λ xs y. xs ++ y ∷ []) s.front (back_get (d ∷ old) now i d s.back)
           ∙ sym (marked_next (d ∷ old) marks i d true (omega arith) e is);
-      back = swap_back now kept i d le within ∙ back_more (d ∷ old) now i s.back }
+      back = swap_back now kept i d le within ∙ back_more (d ∷ old) now i s.back;
+    }
 
 pub sifted_all : {X : Type 0} (old : List X) (marks : List Bool) (i kept : ℕ) (now : List X)
     → Sifted old marks i kept now → length marks ≤ i → length old ≡ length marks

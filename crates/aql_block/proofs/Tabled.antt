@@ -34,7 +34,7 @@ pub rows_pushed : (xs : List ℕ) (cs : List Places) (n room : ℕ) (row : Row) 
 rows_pushed xs cs n room row h all =
     (let e : n + 1 ≡ suc n = omega arith in ap (λ k. rows_by xs (rows_in k (pushed cs (taken xs row)))) e)
     ∙ ap (λ rows. rows_by xs rows)
-        (rows_in-pushed n room cs (taken xs row) h.fit (h.count ∙ sym (length-taken xs row)))
+    (rows_in-pushed n room cs (taken xs row) h.fit (h.count ∙ sym (length-taken xs row)))
     ∙ map-append (λ vs. row_of (cells xs vs)) (rows_in n cs) (taken xs row ∷ [])
     ∙ ap (λ r. rows_by xs (rows_in n cs) ++ r ∷ []) (only_taken xs row all)
 
@@ -118,8 +118,8 @@ pub value_there : (xs : List ℕ) (cs : List Places) (n room at x place : ℕ) (
 value_there xs cs n room at x place c h l first there =
     first_cell xs (values_at cs at) x place first
     ∙ ap (λ o. Some (unwrap_or o null))
-        (slice_get-map (λ (d : Places). unwrap_or (slice_get d.held at) null) cs place
-        ∙ ap (λ o. option_map (λ (d : Places). unwrap_or (slice_get d.held at) null) o) there)
+    (slice_get-map (λ (d : Places). unwrap_or (slice_get d.held at) null) cs place
+    ∙ ap (λ o. option_map (λ (d : Places). unwrap_or (slice_get d.held at) null) o) there)
     ∙ held cs place h.fit there
   where
     within : (vs : List Datum) (k : ℕ) → k < length vs
@@ -127,6 +127,7 @@ value_there xs cs n room at x place c h l first there =
     within [] k g = absurd (omega arith)
     within (v ∷ vs) zero g = refl
     within (v ∷ vs) (suc k) g = within vs k (omega arith)
+
     held : (ds : List Places) (k : ℕ) → AllByRecursion (Fits n room) ds → slice_get ds k ≡ Some c
         → Some (unwrap_or (slice_get c.held at) null) ≡ slice_get c.held at
     held [] k g none_there = absurd (cc)

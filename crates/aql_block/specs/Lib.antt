@@ -3,5 +3,4 @@ pub mod Entries
 pub mod Tables
 pub mod Columns
 pub mod Calls
-pub mod Counts
 pub mod laws

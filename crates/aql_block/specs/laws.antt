@@ -1,4 +1,3 @@
 pub mod Registers
 pub mod BlockRows
 pub mod Marked
-pub mod Added

@@ -53,8 +53,11 @@ impl Model for Block {
 
     ghost use Rattle.aql_block.specs.Columns.{rows_in, IsFilled};
 
-    ghost view = { λ b. record { registers = b.registers.items; room = b.room;
-        values = rows_in b.rows b.columns.items } };
+    ghost view = { λ b. record {
+      registers = b.registers.items;
+      room = b.room;
+      values = rows_in b.rows b.columns.items;
+    } };
 
     ghost invariant = { λ b. IsFilled b.registers.items b.columns.items b.rows b.room };
 }
@@ -249,12 +252,7 @@ impl Block {
         ensures room { self.new.room ≡ self.old.room }
     {
         let entries = Vec::with_capacity(alloc, self.registers.len())?;
-        Ok(take_values(
-            &self.registers,
-            &mut self.columns,
-            at as usize,
-            entries,
-        ))
+        Ok(take_values(&self.registers, &mut self.columns, at as usize, entries))
     }
 
     /// Sets a variable in each row, to the value at the row's place. The values are moved, and the

@@ -164,10 +164,7 @@ pub(crate) fn new_columns(
 }
 
 // The variables of a row, and a column of the one value for each.
-pub(crate) fn filled(
-    alloc: Global,
-    row: Row,
-) -> Result<(Vec<u32>, Vec<Column>), OutOfMemory>
+pub(crate) fn filled(alloc: Global, row: Row) -> Result<(Vec<u32>, Vec<Column>), OutOfMemory>
     ensures registers { IfOk result (λ both. both.0.items ≡ map (λ e. e.0) row) }
     ensures columns { IfOk result (λ both. both.1.items ≡ single_columns row) }
 {

@@ -1,7 +1,6 @@
 //! What a run counts.
 
-ghost use Rattle.std.specs.Prelude.{◌≡◌};
-ghost use Rattle.aql_block.specs.Counts.{saturated};
+ghost use Rattle.std.specs.Prelude.{◌≡◌, ◌+◌, ◌-◌, ◌^◌, min};
 
 /// How many documents scans of whole collections and indexes handed out, and how many rows filters
 /// dropped. Each number stops at the largest of its type.
@@ -27,7 +26,7 @@ impl Tally {
     /// Counts documents that scans of whole collections handed out.
     pub fn add_full(&mut self, n: u64)
         ensures { self.new ≡
-            record self.old { scanned_full = saturated self.old.scanned_full n } }
+            record self.old { scanned_full = min (self.old.scanned_full + n) (2 ^ 64 - 1) } }
     {
         self.scanned_full = self.scanned_full.saturating_add(n);
     }
@@ -35,14 +34,15 @@ impl Tally {
     /// Counts documents that indexes handed out.
     pub fn add_indexed(&mut self, n: u64)
         ensures { self.new ≡
-            record self.old { scanned_index = saturated self.old.scanned_index n } }
+            record self.old { scanned_index = min (self.old.scanned_index + n) (2 ^ 64 - 1) } }
     {
         self.scanned_index = self.scanned_index.saturating_add(n);
     }
 
     /// Counts rows that filters dropped.
     pub fn add_filtered(&mut self, n: u64)
-        ensures { self.new ≡ record self.old { filtered = saturated self.old.filtered n } }
+        ensures { self.new ≡
+            record self.old { filtered = min (self.old.filtered + n) (2 ^ 64 - 1) } }
     {
         self.filtered = self.filtered.saturating_add(n);
     }

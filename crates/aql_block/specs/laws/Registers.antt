@@ -41,12 +41,14 @@ has_all_bind (y ∷ ys) x row v h =
 -- the row of some cells has each register
 pub has_all_cells : (xs : List ℕ) (vs : List Datum) → HasAll xs (row_of (cells xs vs))
 has_all_cells [] vs = tt
-has_all_cells (x ∷ xs) [] =
-    (ap is_some (bind_self x (row_of (cells xs [])) null),
-    has_all_bind xs x (row_of (cells xs [])) null (has_all_cells xs []))
-has_all_cells (x ∷ xs) (v ∷ vs) =
-    (ap is_some (bind_self x (row_of (cells xs vs)) v),
-    has_all_bind xs x (row_of (cells xs vs)) v (has_all_cells xs vs))
+has_all_cells (x ∷ xs) [] = (
+  ap is_some (bind_self x (row_of (cells xs [])) null),
+  has_all_bind xs x (row_of (cells xs [])) null (has_all_cells xs []),
+)
+has_all_cells (x ∷ xs) (v ∷ vs) = (
+  ap is_some (bind_self x (row_of (cells xs vs)) v),
+  has_all_bind xs x (row_of (cells xs vs)) v (has_all_cells xs vs),
+)
 
 cond_or : {A : Type 0} (b a : Bool) (s t n : A) → cond (b || a) (cond b s t) n ≡ cond b s (cond a t n)
 cond_or true a s t n = refl
@@ -76,7 +78,7 @@ pub only_taken : (xs : List ℕ) (row : Row) → HasAll xs row
 only_taken [] row h = refl
 only_taken (x ∷ xs) row h =
     ap (λ r. bind (Num x) r (value_at row (Num x)))
-        (only_taken xs (bind (Num x) row null) (has_all_bind xs x row null h.1))
+    (only_taken xs (bind (Num x) row null) (has_all_bind xs x row null h.1))
     ∙ fun_ext (λ y. by y (same_ident (Num x) y) refl)
   where
     by : (y : Ident) (b : Bool) → same_ident (Num x) y ≡ b
@@ -87,5 +89,5 @@ only_taken (x ∷ xs) row h =
         ∙ sym (ap (λ b. cond (b || is_among xs y) (row y) None) e)
     by y false e =
         ap (λ b. cond b (Some (value_at row (Num x)))
-            (cond (is_among xs y) (cond b (Some null) (row y)) None)) e
+        (cond (is_among xs y) (cond b (Some null) (row y)) None)) e
         ∙ sym (ap (λ b. cond (b || is_among xs y) (row y) None) e)

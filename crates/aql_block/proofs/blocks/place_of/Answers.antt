@@ -10,15 +10,16 @@ returns-then-register-var c =
     let i = c.loop-at.at in
     let l : i < length xs = omega arith in
     found_register xs i c.args.var (get_or xs i 0) l (get_or_default xs i 0 (get_or xs i 0) l)
-        (eq-eqb _ _ c.if-register-var.true) c.loop-at.invariant.1
+    (eq-eqb _ _ c.if-register-var.true) c.loop-at.invariant.1
 
 pub loop-at-preserved : goal.loop-at-preserved
 loop-at-preserved c =
     let xs = c.args.registers.now in
     let i = c.loop-at.at in
-    let l : i < length xs = omega arith in
-    (sym (register_passed xs i c.args.var (get_or xs i 0) l (get_or_default xs i 0 (get_or xs i 0) l)
-        (ne_eqb _ _ c.if-register-var.false))
-        ∙ c.loop-at.invariant.0,
-    finds_register xs i c.args.var (get_or xs i 0) l (get_or_default xs i 0 (get_or xs i 0) l)
-        (ne_eqb _ _ c.if-register-var.false) c.loop-at.invariant.1)
+    let l : i < length xs = omega arith in (
+      sym (register_passed xs i c.args.var (get_or xs i 0) l (get_or_default xs i 0 (get_or xs i 0) l)
+          (ne_eqb _ _ c.if-register-var.false))
+          ∙ c.loop-at.invariant.0,
+      finds_register xs i c.args.var (get_or xs i 0) l (get_or_default xs i 0 (get_or xs i 0) l)
+          (ne_eqb _ _ c.if-register-var.false) c.loop-at.invariant.1,
+    )

@@ -14,11 +14,11 @@ loop-place-preserved c =
     let l : i < length xs = omega arith in
     ap entries_in c.in_ok-push.ensures.items
     ∙ map-append (λ (e : Entry). (e.var, datum_of e.value)) c.loop-place.entries.items
-        (record { var = get_or xs i 0; value = c.in_ok-value.value } ∷ [])
+    (record { var = get_or xs i 0; value = c.in_ok-value.value } ∷ [])
     ∙ cell_there xs c.args.columns.now c.args.at i (get_or xs i 0) c.index-columns-place.result
-        (datum_of c.in_ok-value.value) (entries_in c.loop-place.entries.items) c.loop-place.invariant l
-        c.requires.count (get_or_default xs i 0 (get_or xs i 0) l) c.index-columns-place.is
-        c.in_ok-value.ensures
+    (datum_of c.in_ok-value.value) (entries_in c.loop-place.entries.items) c.loop-place.invariant l
+    c.requires.count (get_or_default xs i 0 (get_or xs i 0) l) c.index-columns-place.is
+    c.in_ok-value.ensures
 
 pub returns : goal.returns
 returns c =

@@ -13,12 +13,15 @@ loop-at-preserved c =
     let kept = c.loop-at.kept in
     let l = c.loop-at-test.true in
     elim c.if-mark.branch [
-        then-mark w ↦ rw (w.values-is, w.kept-is)
-          (subst (λ (vs : List Value). Sifted old marks (i + 1) (kept + 1) vs) (sym w.swap.ensures.items)
-          (sifted_kept old marks i kept c.loop-at.values.items c.loop-at.invariant.0 l c.requires
-          (get_or_default marks i true _ l ∙ w.if-mark.true)),
-          w.swap.ensures.capacity ∙ c.loop-at.invariant.1)
-      | else-mark w ↦ rw (w.values-is, w.kept-is)
-          (sifted_past old marks i kept c.loop-at.values.items c.loop-at.invariant.0 l c.requires
-          (get_or_default marks i false _ l ∙ w.if-mark.false),
-          c.loop-at.invariant.1) ]
+      | then-mark w ↦ rw (w.values-is, w.kept-is) (
+        subst (λ (vs : List Value). Sifted old marks (i + 1) (kept + 1) vs) (sym w.swap.ensures.items)
+            (sifted_kept old marks i kept c.loop-at.values.items c.loop-at.invariant.0 l c.requires
+            (get_or_default marks i true _ l ∙ w.if-mark.true)),
+        w.swap.ensures.capacity ∙ c.loop-at.invariant.1,
+      )
+      | else-mark w ↦ rw (w.values-is, w.kept-is) (
+        sifted_past old marks i kept c.loop-at.values.items c.loop-at.invariant.0 l c.requires
+            (get_or_default marks i false _ l ∙ w.if-mark.false),
+        c.loop-at.invariant.1,
+      )
+    ]

@@ -13,9 +13,9 @@ loop-at-preserved c =
     let l = c.loop-at-test.true in
     let v = datum_of c.take-value.result in
     subst (λ (p : Places). Pushing xs (i + 1) (set c.loop-at.columns i p) (row_of c.take-value.new.self)
-            c.args.columns.now (row_of c.args.row.now))
-        (sym (c.push.ensures ∙ ap (λ (p : Places). with_value p v) (sym c.index-columns-at.is)))
-        (pushing_more xs i c.loop-at.columns (row_of c.loop-at.row) (row_of c.take-value.new.self)
-        c.args.columns.now (row_of c.args.row.now) (get_or xs i 0) c.index-columns-at.result v
-        c.loop-at.invariant l (get_or_default xs i 0 (get_or xs i 0) l) c.index-columns-at.is
-        c.take-value.ensures.value c.take-value.ensures.rest)
+    c.args.columns.now (row_of c.args.row.now))
+    (sym (c.push.ensures ∙ ap (λ (p : Places). with_value p v) (sym c.index-columns-at.is)))
+    (pushing_more xs i c.loop-at.columns (row_of c.loop-at.row) (row_of c.take-value.new.self)
+    c.args.columns.now (row_of c.args.row.now) (get_or xs i 0) c.index-columns-at.result v
+    c.loop-at.invariant l (get_or_default xs i 0 (get_or xs i 0) l) c.index-columns-at.is
+    c.take-value.ensures.value c.take-value.ensures.rest)

@@ -10,5 +10,5 @@ loop-column-preserved c =
     let old = c.args.columns.now in
     let l : i < length old = omega arith in
     subst (λ (p : Places). Worked (marked_of c.args.marks.now) (i + 1) (set now i p) old)
-        (sym (c.retain.ensures ∙ ap (λ (p : Places). marked_of c.args.marks.now p) (sym c.column-item.is)))
-        (worked_more (marked_of c.args.marks.now) i now old c.column-item.result c.loop-column.invariant l c.column-item.is)
+    (sym (c.retain.ensures ∙ ap (λ (p : Places). marked_of c.args.marks.now p) (sym c.column-item.is)))
+    (worked_more (marked_of c.args.marks.now) i now old c.column-item.result c.loop-column.invariant l c.column-item.is)

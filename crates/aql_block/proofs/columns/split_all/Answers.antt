@@ -11,11 +11,12 @@ loop-column-preserved c =
     let at = c.args.at in
     let l : i < length old = omega arith in
     let was = worked_next (first_of at) i now old c.column-item.result c.loop-column.invariant.0 l
-        c.column-item.is in
-    (subst (λ (p : Places). Worked (first_of at) (i + 1) (set now i p) old)
-        (sym (c.in_ok-split.ensures.first ∙ ap (λ (p : Places). first_of at p) (sym c.column-item.is)))
-        (worked_more (first_of at) i now old c.column-item.result c.loop-column.invariant.0 l c.column-item.is),
-    c.in_ok-push.ensures.items
-    ∙ ap (λ (p : Places). c.loop-column.rest.items ++ p ∷ [])
-        (c.in_ok-split.ensures.rest ∙ ap (λ (p : Places). rest_of at p) (sym c.column-item.is))
-    ∙ handed_more (rest_of at) i old c.loop-column.rest.items c.column-item.result c.loop-column.invariant.1 l was)
+    c.column-item.is in (
+      subst (λ (p : Places). Worked (first_of at) (i + 1) (set now i p) old)
+          (sym (c.in_ok-split.ensures.first ∙ ap (λ (p : Places). first_of at p) (sym c.column-item.is)))
+          (worked_more (first_of at) i now old c.column-item.result c.loop-column.invariant.0 l c.column-item.is),
+      c.in_ok-push.ensures.items
+          ∙ ap (λ (p : Places). c.loop-column.rest.items ++ p ∷ [])
+          (c.in_ok-split.ensures.rest ∙ ap (λ (p : Places). rest_of at p) (sym c.column-item.is))
+          ∙ handed_more (rest_of at) i old c.loop-column.rest.items c.column-item.result c.loop-column.invariant.1 l was,
+    )

@@ -10,5 +10,5 @@ loop-column-preserved c =
     let old = c.args.columns.now in
     let l : i < length old = omega arith in
     subst (λ (p : Places). Worked (first_of c.args.len) (i + 1) (set now i p) old)
-        (sym (c.truncate.ensures ∙ ap (λ (p : Places). first_of c.args.len p) (sym c.column-item.is)))
-        (worked_more (first_of c.args.len) i now old c.column-item.result c.loop-column.invariant l c.column-item.is)
+    (sym (c.truncate.ensures ∙ ap (λ (p : Places). first_of c.args.len p) (sym c.column-item.is)))
+    (worked_more (first_of c.args.len) i now old c.column-item.result c.loop-column.invariant l c.column-item.is)

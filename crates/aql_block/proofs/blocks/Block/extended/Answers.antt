@@ -16,4 +16,4 @@ returns c =
     c.in_ok-columns.columns.items
     (c.in_ok-insert.ensures.items
     ∙ ap (λ (xs : List ℕ). c.args.var ∷ xs)
-        (c.in_ok-registers.ensures ∙ c.deref.ensures.value ∙ ap (λ (t : Table). t.registers) c.self.view_is))
+    (c.in_ok-registers.ensures ∙ c.deref.ensures.value ∙ ap (λ (t : Table). t.registers) c.self.view_is))

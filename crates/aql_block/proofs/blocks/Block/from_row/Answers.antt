@@ -16,6 +16,6 @@ invariant_of-result c =
 pub returns-clause-rows : goal.returns-clause-rows
 returns-clause-rows c =
     ap₂ (λ (xs : List ℕ) (cs : List Places). rows_by xs (rows_in 1 cs)) c.in_ok-registers.ensures.registers
-        c.in_ok-registers.ensures.columns
+    c.in_ok-registers.ensures.columns
     ∙ ap (λ rows. rows_by (map (λ (e : ℕ × Datum). e.0) c.args.row) rows) (single_row c.args.row)
     ∙ ap (λ (es : Entries). row_of es ∷ []) (rows_single c.args.row)

@@ -10,9 +10,9 @@ returns-clause-rows c =
     let v = c.args.values in
     let ds = datums_in v.items in
     let held : c.len-rows.result ≡ length ds =
-        omega (arith, c.len-rows.ensures, v.ok.0, length-map v.items datum_of) in
+    omega (arith, c.len-rows.ensures, v.ok.0, length-map v.items datum_of) in
     ap₂ (λ (xs : List ℕ) (cs : List Places). rows_by xs (rows_in c.len-rows.result cs))
-        c.in_ok-registers.ensures.items
-        (c.in_ok-columns.ensures.items ∙ ap (λ (p : Places). p ∷ []) c.from_values.ensures)
+    c.in_ok-registers.ensures.items
+    (c.in_ok-columns.ensures.items ∙ ap (λ (p : Places). p ∷ []) c.from_values.ensures)
     ∙ ap (λ k. rows_by (c.args.var ∷ []) (beside ds (blanks k))) held
     ∙ rows_of_values c.args.var ds

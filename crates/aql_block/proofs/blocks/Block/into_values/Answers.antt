@@ -14,7 +14,7 @@ pub swap_remove-requires : goal.swap_remove-requires
 swap_remove-requires c =
     let b = c.self.inside in
     let first : IsFirst b.registers.items c.args.var c.in_ok-at.at =
-        subst (λ (xs : List ℕ). IsFirst xs c.args.var c.in_ok-at.at) c.deref.ensures.value c.in_ok-at.ensures in
+    subst (λ (xs : List ℕ). IsFirst xs c.args.var c.in_ok-at.at) c.deref.ensures.value c.in_ok-at.ensures in
     let l = first_register b.registers.items c.args.var c.in_ok-at.at first in
     omega (arith, l, c.self.invariant.count, b.columns.ok.0)
 
@@ -22,20 +22,20 @@ pub returns-clause-found : goal.returns-clause-found
 returns-clause-found c =
     let b = c.self.inside in
     let first : IsFirst b.registers.items c.args.var c.in_ok-at.at =
-        subst (λ (xs : List ℕ). IsFirst xs c.args.var c.in_ok-at.at) c.deref.ensures.value c.in_ok-at.ensures in
+    subst (λ (xs : List ℕ). IsFirst xs c.args.var c.in_ok-at.at) c.deref.ensures.value c.in_ok-at.ensures in
     let there : true ≡ is_among c.args.self.registers (Num c.args.var) =
-        sym (among b.registers.items c.args.var c.in_ok-at.at first)
-        ∙ ap (λ (t : Table). is_among t.registers (Num c.args.var)) c.self.view_is in
+    sym (among b.registers.items c.args.var c.in_ok-at.at first)
+    ∙ ap (λ (t : Table). is_among t.registers (Num c.args.var)) c.self.view_is in
     (λ h. absurd (cc), λ h. there ∙ h)
 
 pub returns-clause-values : goal.returns-clause-values
 returns-clause-values c =
     let b = c.self.inside in
     let first : IsFirst b.registers.items c.args.var c.in_ok-at.at =
-        subst (λ (xs : List ℕ). IsFirst xs c.args.var c.in_ok-at.at) c.deref.ensures.value c.in_ok-at.ensures in
+    subst (λ (xs : List ℕ). IsFirst xs c.args.var c.in_ok-at.at) c.deref.ensures.value c.in_ok-at.ensures in
     ap (λ (t : Table). map (λ (row : Row). row (Num c.args.var)) (rows_of t)) (sym c.self.view_is)
     ∙ looked_up b.registers.items (rows_in b.rows b.columns.items) c.args.var
     ∙ column_values b.registers.items b.columns.items b.rows b.room c.args.var c.in_ok-at.at
-        c.swap_remove.result first c.self.invariant.fit c.self.invariant.count
+    c.swap_remove.result first c.self.invariant.fit c.self.invariant.count
     ∙ ap (λ (p : Places). map (λ (v : Datum). Some v) p.held) (sym c.swap_remove.ensures.value)
     ∙ ap (λ (ds : List Datum). map (λ (v : Datum). Some v) ds) (sym c.into_values.ensures)

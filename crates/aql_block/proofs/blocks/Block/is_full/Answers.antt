@@ -8,5 +8,5 @@ pub returns : goal.returns
 returns c =
     let b = c.self.inside in
     subst (λ (t : Table). IsTrue (b.rows == b.room) ↔ (length (rows_of t) ≡ t.room)) c.self.view_is
-        (is_full_when b.rows b.room _
-        (rows_held b.registers.items b.columns.items b.rows b.room c.self.invariant))
+    (is_full_when b.rows b.room _
+    (rows_held b.registers.items b.columns.items b.rows b.room c.self.invariant))

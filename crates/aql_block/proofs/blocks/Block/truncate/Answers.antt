@@ -9,21 +9,21 @@ pub invariant_of-self : goal.invariant_of-self
 invariant_of-self c =
     let b = c.self.inside in
     let w = with_mapped (first_of c.args.len) b.columns c.truncate_all.new.columns
-        (c.truncate_all.ensures
-        ∙ ap (λ (cs : List Places). map (first_of c.args.len) cs) c.deref_mut.ensures.value)
-        b.columns.ok.0 in
+    (c.truncate_all.ensures
+    ∙ ap (λ (cs : List Places). map (first_of c.args.len) cs) c.deref_mut.ensures.value)
+    b.columns.ok.0 in
     subst (λ (cs : List Places). IsFilled b.registers.items cs c.min-self-inside.result b.room) (sym w)
-        (subst (λ (n : ℕ). IsFilled b.registers.items (map (first_of c.args.len) b.columns.items) n b.room)
-        (sym c.min-self-inside.ensures)
-        (filled_first b.registers.items b.columns.items b.rows b.room c.args.len c.self.invariant))
+    (subst (λ (n : ℕ). IsFilled b.registers.items (map (first_of c.args.len) b.columns.items) n b.room)
+    (sym c.min-self-inside.ensures)
+    (filled_first b.registers.items b.columns.items b.rows b.room c.args.len c.self.invariant))
 
 pub returns-clause-rows : goal.returns-clause-rows
 returns-clause-rows c =
     let b = c.self.inside in
     let w = with_mapped (first_of c.args.len) b.columns c.truncate_all.new.columns
-        (c.truncate_all.ensures
-        ∙ ap (λ (cs : List Places). map (first_of c.args.len) cs) c.deref_mut.ensures.value)
-        b.columns.ok.0 in
+    (c.truncate_all.ensures
+    ∙ ap (λ (cs : List Places). map (first_of c.args.len) cs) c.deref_mut.ensures.value)
+    b.columns.ok.0 in
     ap₂ (λ (n : ℕ) (cs : List Places). rows_by b.registers.items (rows_in n cs)) c.min-self-inside.ensures w
     ∙ rows_first b.registers.items b.columns.items b.rows c.args.len
     ∙ ap (λ (t : Table). take c.args.len (rows_of t)) c.self.view_is

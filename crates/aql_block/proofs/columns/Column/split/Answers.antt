@@ -11,4 +11,4 @@ pub returns-clause-rest : goal.returns-clause-rest
 returns-clause-rest c =
     c.from_values.ensures
     ∙ column_rest c.self.inside.room c.args.at c.self.inside.values.items c.in_ok-rest.rest.items
-        c.args.self.now c.in_ok-rest.ensures.tail c.self.view_is
+    c.args.self.now c.in_ok-rest.ensures.tail c.self.view_is
