@@ -12,6 +12,8 @@ mod pages;
 #[cfg(test)]
 mod parsing;
 #[cfg(test)]
+mod rewriting;
+#[cfg(test)]
 mod tokens;
 #[cfg(test)]
 mod values;

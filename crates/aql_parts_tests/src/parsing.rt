@@ -74,7 +74,7 @@ fn closing(expr: &Expr) -> &'static str {
 
 // An expression with all its brackets.
 #[cycle(write)]
-fn write_expr(before: &str, expr: &Expr, page: &mut Page) {
+pub fn write_expr(before: &str, expr: &Expr, page: &mut Page) {
     page.put_pair(before, opening(expr));
     write_parts(expr, page);
     page.put(closing(expr));
