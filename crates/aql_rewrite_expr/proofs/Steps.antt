@@ -1,5 +1,5 @@
 -- The steps of a walk over expressions that are lent: what stands at a place of a list, and what was passed.
-use Rattle.std.proofs.Common.{◌≡◌, ◌∙◌, ◌<◌, ◌≤◌, ◌+◌, ℕ, List, [], ◌∷◌, ◌++◌, length, map, take, drop, get_or, append_assoc, true, false, true≢false, ap, sym, subst, subst₂, arith}
+use Rattle.std.proofs.Common.{◌≡◌, ◌∙◌, ◌<◌, ◌≤◌, ◌+◌, ℕ, List, [], ◌∷◌, ◌++◌, length, map, take, drop, get_or, append_assoc, false, ap, sym, subst, subst₂, arith}
 use Rattle.std.specs.Prelude.{Bool, Option, Some, None, Result, Ok, Err, MatchOption, IfOk, IfSome, IsTrue, ◌↔◌}
 use Rattle.std.specs.Borrow.{Bor}
 use Rattle.std.proofs.lemmas.List.{take_more, take-append-drop, map-append}
@@ -13,7 +13,7 @@ use Rattle.aql_rewrite_expr.specs.FirstPart.{FirstIn, in_part, at_whole, FirstOf
 use Rattle.aql_rewrite_expr.specs.Constant.{is_open, IsConstant, constant, AreConstant, no_more, constant_then}
 use Rattle.aql_rewrite_expr.specs.Size.{size, size_all}
 use Rattle.aql_rewrite_expr.specs.View.{lent}
-use Rattle.aql_rewrite_expr.specs.laws.PartSizes.{append_size, parts_smaller}
+use Rattle.aql_rewrite_expr.specs.laws.PartSizes.{append_size}
 
 -- ---- the element at a place
 
@@ -32,8 +32,11 @@ module _ (all : List (Bor Expr)) (i : ℕ) (e : Bor Expr) (within : i < length a
   trees_split = ap (map lent) split ∙ map-append lent (take i all) (e ∷ drop (i + 1) all)
 
   pub is_smaller : size (lent e) ≤ size_all (map lent all)
-  is_smaller = omega (arith, ap size_all trees_split,
-      append_size (map lent (take i all)) (lent e ∷ map lent (drop (i + 1) all)))
+  is_smaller = omega (
+    arith,
+    ap size_all trees_split,
+    append_size (map lent (take i all)) (lent e ∷ map lent (drop (i + 1) all)),
+  )
 
 -- ---- rules
 

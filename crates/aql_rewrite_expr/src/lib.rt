@@ -8,8 +8,8 @@ mod rebuilding;
 mod rule;
 mod walk;
 
+pub use constants::is_constant;
 pub use looking::parts;
 pub use rebuilding::over_parts;
 pub use rule::ExprRule;
-pub use constants::is_constant;
 pub use walk::{first_of, first_part};

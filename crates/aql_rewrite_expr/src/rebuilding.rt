@@ -15,11 +15,7 @@ use aql_value::{OutOfMemory, Seq};
 use std::alloc::Global;
 use std::collections::VecDeque;
 
-fn next_part(
-    alloc: Global,
-    queue: &mut VecDeque<Expr>,
-    old: &Expr,
-) -> Result<Expr, OutOfMemory>
+fn next_part(alloc: Global, queue: &mut VecDeque<Expr>, old: &Expr) -> Result<Expr, OutOfMemory>
     ensures part { IfOk result (λ e. tree e ≡ first_or (tree old.now) (map tree queue.old.items)) }
     ensures left { map tree queue.new.items ≡ after_first (map tree queue.old.items) }
 {
@@ -76,11 +72,7 @@ fn over_exprs(
     Ok(out)
 }
 
-fn over_field(
-    alloc: Global,
-    queue: &mut VecDeque<Expr>,
-    old: &Field,
-) -> Result<Field, OutOfMemory>
+fn over_field(alloc: Global, queue: &mut VecDeque<Expr>, old: &Field) -> Result<Field, OutOfMemory>
     ensures part { IfOk result
         (λ f. member_part f ≡ member_over (member_part old.now) (map tree queue.old.items)) }
     ensures left { OnOk result (map tree queue.new.items
@@ -160,11 +152,7 @@ fn over_links(
     Ok(out)
 }
 
-fn over_queue(
-    alloc: Global,
-    expr: &Expr,
-    queue: &mut VecDeque<Expr>,
-) -> Result<Expr, OutOfMemory>
+fn over_queue(alloc: Global, expr: &Expr, queue: &mut VecDeque<Expr>) -> Result<Expr, OutOfMemory>
     ensures { IfOk result (λ e. tree e
         ≡ spec_over_parts (tree expr.now) (map tree queue.old.items)) }
 {
@@ -216,11 +204,7 @@ fn over_queue(
 
 /// The same form over other parts, taken in order. Where they run out, the old parts are copied, so
 /// without any this is a copy; what is too many is dropped.
-pub fn over_parts(
-    alloc: Global,
-    expr: &Expr,
-    new: VecDeque<Expr>,
-) -> Result<Expr, OutOfMemory>
+pub fn over_parts(alloc: Global, expr: &Expr, new: VecDeque<Expr>) -> Result<Expr, OutOfMemory>
     ensures { IfOk result (λ e. tree e ≡ spec_over_parts (tree expr.now) (map tree new.items)) }
 {
     let mut queue = new;

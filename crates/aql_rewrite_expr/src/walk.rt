@@ -19,11 +19,7 @@ use aql_value::OutOfMemory;
 use std::alloc::Global;
 use std::collections::VecDeque;
 
-fn add_copies(
-    alloc: Global,
-    all: &[&Expr],
-    to: &mut VecDeque<Expr>,
-) -> Result<(), OutOfMemory>
+fn add_copies(alloc: Global, all: &[&Expr], to: &mut VecDeque<Expr>) -> Result<(), OutOfMemory>
     ensures { OnOk result (map tree to.new.items ≡ map tree to.old.items ++ map lent all.now) }
 {
     for expr in all {

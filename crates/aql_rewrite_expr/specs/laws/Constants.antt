@@ -1,5 +1,5 @@
 -- A constant expression holds no subquery, uses no variable and has one value.
-use Rattle.std.proofs.Common.{◌≡◌, ◌∙◌, List, [], ◌∷◌, ◌++◌, map, Bool, true, false, true≢false, cond, refl, ap, ap₂, sym}
+use Rattle.std.proofs.Common.{◌≡◌, ◌∙◌, List, [], ◌∷◌, ◌++◌, map, true, false, true≢false, cond, refl, ap, ap₂}
 use Rattle.std.specs.List.{AllByRecursion}
 use Rattle.aql_value.specs.Datum.{Datum, boolean}
 use Rattle.aql_value.specs.Parts.{list, elements, at_name, at_value}

@@ -1,15 +1,14 @@
 -- What holds of each application of a rule holds of the first place of an expression.
-use Rattle.std.proofs.Common.{◌≡◌, ℕ, ◌+◌, ◌<◌, List, [], ◌∷◌, ◌++◌, Bool, false, refl, ap, ◌∙◌, sym, subst, arith}
+use Rattle.std.proofs.Common.{◌≡◌, ◌<◌, List, [], ◌∷◌, refl, ap, ◌∙◌, sym, subst, arith}
 use Rattle.std.specs.List.{AllZip}
 use Rattle.aql_tree.specs.Tree.{ExprTree, literal, variable, current, array_literal, object_literal, access}
 use Rattle.aql_tree.specs.Tree.{function_call, unary_of, chain, array_comparison, ternary, range_of, subquery}
-use Rattle.aql_meaning.specs.Plain.{IsPlain}
 use Rattle.aql_meaning.specs.laws.Replaced.{all_map}
 use Rattle.aql_rewrite_expr.specs.Parts.{parts}
 use Rattle.aql_rewrite_expr.specs.OverParts.{over_parts}
-use Rattle.aql_rewrite_expr.specs.FirstPart.{NoneIn, NoneInAll, none_left, none_then, FirstIn, in_part, at_whole}
+use Rattle.aql_rewrite_expr.specs.FirstPart.{FirstIn, in_part, at_whole}
 use Rattle.aql_rewrite_expr.specs.FirstPart.{FirstOf, first, later}
-use Rattle.aql_rewrite_expr.specs.Keeps.{SameValue, Keeps}
+use Rattle.aql_rewrite_expr.specs.Keeps.{Keeps}
 use Rattle.aql_rewrite_expr.specs.Size.{size, size_all}
 use Rattle.aql_rewrite_expr.specs.View.{each_over}
 use Rattle.aql_rewrite_expr.specs.laws.Related.{each_related}

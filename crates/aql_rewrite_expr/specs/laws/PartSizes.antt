@@ -1,6 +1,5 @@
 -- The size of an expression is that of its form and that of its parts.
-use Rattle.std.proofs.Common.{ℕ, ◌+◌, ◌<◌, ◌≤◌, ◌≡◌, ◌∙◌, List, [], ◌∷◌, ◌++◌, refl, ap, sym, arith}
-use Rattle.std.specs.List.{AllZip}
+use Rattle.std.proofs.Common.{ℕ, ◌+◌, ◌<◌, ◌≤◌, ◌≡◌, ◌∙◌, List, [], ◌∷◌, ◌++◌, refl, ap, arith}
 use Rattle.aql_tree.specs.Tree.{ExprTree, literal, variable, current, array_literal, object_literal, access}
 use Rattle.aql_tree.specs.Tree.{function_call, unary_of, chain, array_comparison, ternary, range_of, subquery}
 use Rattle.aql_tree.specs.Tree.{ExprTrees, no_exprs, expr_then, MaybeExpr, no_expr, one_expr}
@@ -35,8 +34,14 @@ steps_sized no_steps = refl
 steps_sized (name_then name ss) = steps_sized ss
 steps_sized (at_then e ss) = omega (arith, steps_sized ss)
 steps_sized (inline_then filter gives ss) =
-    omega (arith, append_size (maybe_parts filter) (maybe_parts gives ++ step_parts ss),
-    append_size (maybe_parts gives) (step_parts ss), maybe_sized filter, maybe_sized gives, steps_sized ss)
+    omega (
+      arith,
+      append_size (maybe_parts filter) (maybe_parts gives ++ step_parts ss),
+      append_size (maybe_parts gives) (step_parts ss),
+      maybe_sized filter,
+      maybe_sized gives,
+      steps_sized ss,
+    )
 
 links_sized : (ls : LinkTrees) → size_all (link_parts ls) ≡ links_size ls
 links_sized no_links = refl

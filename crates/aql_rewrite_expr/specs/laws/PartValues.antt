@@ -68,9 +68,9 @@ steps_same no_steps ps h cur row d = refl
 steps_same (name_then name ss) ps h cur row d = steps_same ss ps h cur row (at_name d name)
 steps_same (at_then e ss) ps h cur row d =
     ap (λ i. steps_value (over_steps ss (after_first ps)) cur row (at_value d i))
-        (first_same e (step_parts ss) ps h cur row)
+    (first_same e (step_parts ss) ps h cur row)
     ∙ steps_same ss (after_first ps) (rest_same e (step_parts ss) ps h) cur row
-        (at_value d (value e cur row))
+    (at_value d (value e cur row))
 steps_same (inline_then filter gives ss) ps h cur row d =
     let qs = after_maybe filter ps in
     let rs = after_maybe gives qs in
@@ -80,7 +80,7 @@ steps_same (inline_then filter gives ss) ps h cur row d =
     ap (λ ts. map (λ w. steps_value (over_steps ss rs) cur row w)
     (map (λ c. value_or (over_maybe gives qs) c row c) (filter_true (elements d) ts)))
     (map_same (λ c. value_or (over_maybe filter ps) c row (boolean true))
-        (λ c. value_or filter c row (boolean true))
+    (λ c. value_or filter c row (boolean true))
     (λ c. maybe_same filter (maybe_parts gives ++ step_parts ss) ps h c row (boolean true)) (elements d))
     ∙ ap (map (λ w. steps_value (over_steps ss rs) cur row w))
     (map_same (λ c. value_or (over_maybe gives qs) c row c) (λ c. value_or gives c row c)
@@ -94,9 +94,9 @@ links_same : (ls : LinkTrees) (ps : List ExprTree) → AllSame (link_parts ls) p
 links_same no_links ps h cur row a = refl
 links_same (link_then op e ls) ps h cur row a =
     ap (λ b. links_value (over_links ls (after_first ps)) cur row (binary op a b))
-        (first_same e (link_parts ls) ps h cur row)
+    (first_same e (link_parts ls) ps h cur row)
     ∙ links_same ls (after_first ps) (rest_same e (link_parts ls) ps h) cur row
-        (binary op a (value e cur row))
+    (binary op a (value e cur row))
 
 pub parts_same : (e : ExprTree) (ps : List ExprTree) → AllSame (parts e) ps → SameValue e (over_parts e ps)
 parts_same (literal v) ps h cur row = refl

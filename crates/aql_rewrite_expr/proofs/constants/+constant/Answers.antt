@@ -15,15 +15,17 @@ are_closed-loop-expr-init t c = no_more
 pub are_closed-is_closed-requires : goal.are_closed-is_closed-requires
 are_closed-is_closed-requires t c =
     let k : 2 * size (lent c.expr-item.result) < 2 * size_all (map lent c.args.all.now) + 1
-        = omega (arith, is_smaller c.args.all.now c.loop-expr.expr-index c.expr-item.result c.loop-expr-test.true
-        c.expr-item.is) in
+    = omega (
+      arith,
+      is_smaller c.args.all.now c.loop-expr.expr-index c.expr-item.result c.loop-expr-test.true
+          c.expr-item.is,
+    ) in
     (search (rules, k), tt)
 
 pub are_closed-returns-then-not-branch : goal.are_closed-returns-then-not-branch
 are_closed-returns-then-not-branch t c =
     let part : IsTrue c.in_ok-is_closed.field-0 ↔ IsConstant (lent c.expr-item.result)
-        = c.in_ok-is_closed.ensures in
-    (
+    = c.in_ok-is_closed.ensures in (
       (λ f. absurd (true≢false (sym f))),
       (λ h. absurd (true≢false (sym (part.1 (constant_at c.args.all.now c.loop-expr.expr-index c.expr-item.result
           c.loop-expr-test.true c.expr-item.is h)) ∙ c.if-not-branch.true))),
@@ -32,7 +34,7 @@ are_closed-returns-then-not-branch t c =
 pub are_closed-loop-expr-preserved : goal.are_closed-loop-expr-preserved
 are_closed-loop-expr-preserved t c =
     let part : IsTrue c.in_ok-is_closed.field-0 ↔ IsConstant (lent c.expr-item.result)
-        = c.in_ok-is_closed.ensures in
+    = c.in_ok-is_closed.ensures in
     constant_next c.args.all.now c.loop-expr.expr-index c.expr-item.result c.loop-expr-test.true c.expr-item.is
     c.loop-expr.invariant (part.0 c.if-not-branch.false)
 
@@ -40,7 +42,7 @@ pub is_closed-are_closed-requires : goal.is_closed-are_closed-requires
 is_closed-are_closed-requires t c =
     let looked = ap (map lent) c.deref.ensures.value ∙ c.in_ok-all.ensures in
     let k : 2 * size_all (map lent c.deref.result.now) + 1 < 2 * size (tree c.args.expr.now)
-        = omega (arith, parts_smaller (tree c.args.expr.now), ap size_all looked) in
+    = omega (arith, parts_smaller (tree c.args.expr.now), ap size_all looked) in
     (search (rules, k), tt)
 
 pub is_closed-returns : goal.is_closed-returns

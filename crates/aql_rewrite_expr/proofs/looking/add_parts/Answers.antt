@@ -1,7 +1,7 @@
 -- What was added is the parts of each form.
 use Rattle.std.proofs.Common.{rules}
 use Rattle.std.proofs.lemmas.Grind.{common_steps}
-use Rattle.aql_rewrite_expr.proofs.Forms.{list_has, object_has, access_has, call_has, unary_has, chain_has}
+use Rattle.aql_rewrite_expr.proofs.Forms.{list_has, access_has, call_has, unary_has, chain_has}
 use Rattle.aql_rewrite_expr.proofs.Forms.{quant_has, cond_has, range_has}
 use Rattle.aql_rewrite_expr.proofs.looking.add_parts.Goals as goal
 

@@ -14,8 +14,11 @@ first_among-loop-at-init g t c = none_left
 pub first_among-first_in-requires : goal.first_among-first_in-requires
 first_among-first_in-requires g t c κs within =
     let k : 2 * size (lent c.index-all-at.result) < 2 * size_all (map lent c.args.all.now) + 1
-        = omega (arith, is_smaller c.args.all.now c.loop-at.at c.index-all-at.result c.loop-at-test.true
-        c.index-all-at.is) in
+    = omega (
+      arith,
+      is_smaller c.args.all.now c.loop-at.at c.index-all-at.result c.loop-at-test.true
+          c.index-all-at.is,
+    ) in
     (search (rules, k), search rules)
 
 pub first_among-returns-in-Some : goal.first_among-returns-in-Some
@@ -33,7 +36,7 @@ pub first_in-first_among-requires : goal.first_in-first_among-requires
 first_in-first_among-requires g t c κs within =
     let looked = ap (map lent) c.deref.ensures.value ∙ c.in_ok-all.ensures in
     let k : 2 * size_all (map lent c.deref.result.now) + 1 < 2 * size (tree c.args.expr.now)
-        = omega (arith, parts_smaller (tree c.args.expr.now), ap size_all looked) in
+    = omega (arith, parts_smaller (tree c.args.expr.now), ap size_all looked) in
     (search (rules, k), search rules)
 
 pub first_in-returns-in-Some : goal.first_in-returns-in-Some
