@@ -166,3 +166,18 @@ fn first_places(rt: HostRuntime) {
     check_rewritten(&rt, alloc, &rule, &OPERATIONS);
     check_rewritten(&rt, alloc, &Never {}, &NOWHERE);
 }
+
+// The last part of 20,001.
+#[test]
+fn long_list(rt: HostRuntime) {
+    let alloc = rt.alloc();
+    let mut text = Page::new(alloc);
+    text.put("RETURN [");
+    text.put_times("1, ", 20000);
+    text.put("!false]");
+    let mut want = Page::new(alloc);
+    want.put("[");
+    want.put_times(" 1", 20000);
+    want.put(" true ]");
+    rewritten(alloc, &NotFalse {}, text.as_str()).judge(&rt, want.as_str(), "a long list");
+}
