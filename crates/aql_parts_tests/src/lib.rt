@@ -1,4 +1,5 @@
-//! Tests of the lower libraries: values, tokens, functions, copies, parsing and evaluation.
+//! Tests of the lower libraries: values, tokens, functions, copies, parsing, rewriting and
+//! evaluation.
 #![tactic(auto)]
 
 #[cfg(test)]

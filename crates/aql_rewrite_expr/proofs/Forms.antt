@@ -1,13 +1,15 @@
 -- The tree of each form of an expression of the program, its parts, and the form over other parts.
 use Rattle.std.proofs.Common.{rules, ◌≡◌, ◌∙◌, ◌++◌, ◌∷◌, [], List, map, ap, ap₂, refl, option_map}
 use Rattle.std.specs.Prelude.{Option, Some, None}
-use Rattle.aql_tree.specs.Tree.{ExprTree, array_literal, object_literal, access, function_call, unary_of, chain}
+use Rattle.aql_tree.specs.Tree.{ExprTree, array_literal, object_literal, access, function_call, unary_of}
+use Rattle.aql_tree.specs.Tree.{chain}
 use Rattle.aql_tree.specs.Tree.{array_comparison, ternary, range_of, expr_then, no_expr, one_expr}
 use Rattle.aql_tree.specs.Tree.{named_then, computed_then, name_then, at_then, inline_then, link_then}
 use Rattle.aql_tree.specs.declared.syntax.Expr.{Expr, the_lemmas}
 use Rattle.aql_tree.specs.declared.syntax.Expr as code
 use Rattle.aql_tree.specs.View.{tree, trees, members, MemberPart, named, computed, member_part}
-use Rattle.aql_tree.specs.View.{steps, StepPart, name, at, inline, step_part, links, LinkPart, link_part, maybe}
+use Rattle.aql_tree.specs.View.{steps, StepPart, name, at, inline, step_part, links, LinkPart, link_part}
+use Rattle.aql_tree.specs.View.{maybe}
 use Rattle.aql_rewrite_expr.specs.Parts.{parts, list_parts, member_parts, step_parts, link_parts, maybe_parts}
 use Rattle.aql_rewrite_expr.specs.OverParts.{first_or, after_first, over_list, over_maybe, after_maybe}
 use Rattle.aql_rewrite_expr.specs.OverParts.{over_members, over_steps, over_links, over_parts}
@@ -16,23 +18,23 @@ use Rattle.aql_rewrite_expr.specs.View.{members_over, steps_over, links_over}
 
 -- ---- the trees
 
-list_form : (e : Expr) (es : _) → e ≡ code.List es → tree e ≡ array_literal (trees (map tree es))
+pub list_form : (e : Expr) (es : _) → e ≡ code.List es → tree e ≡ array_literal (trees (map tree es))
 list_form e es h =
     ap tree h ∙ (let k : tree (code.List es) ≡ array_literal (trees (map tree es))
     = search (rules, the_lemmas) in k)
 
-object_form : (e : Expr) (fs : _) → e ≡ code.Object fs → tree e ≡ object_literal (members (map member_part fs))
+pub object_form : (e : Expr) (fs : _) → e ≡ code.Object fs → tree e ≡ object_literal (members (map member_part fs))
 object_form e fs h =
     ap tree h ∙ (let k : tree (code.Object fs) ≡ object_literal (members (map member_part fs))
     = search (rules, the_lemmas) in k)
 
-access_form : (e : Expr) (a ss : _) → e ≡ code.Access a ss
+pub access_form : (e : Expr) (a ss : _) → e ≡ code.Access a ss
     → tree e ≡ access (tree a.value) (steps (map step_part ss))
 access_form e a ss h =
     ap tree h ∙ (let k : tree (code.Access a ss) ≡ access (tree a.value) (steps (map step_part ss))
     = search (rules, the_lemmas) in k)
 
-call_form : (e : Expr) (n es : _) → e ≡ code.Call n es → tree e ≡ function_call n (trees (map tree es))
+pub call_form : (e : Expr) (n es : _) → e ≡ code.Call n es → tree e ≡ function_call n (trees (map tree es))
 call_form e n es h =
     ap tree h ∙ (let k : tree (code.Call n es) ≡ function_call n (trees (map tree es))
     = search (rules, the_lemmas) in k)
@@ -41,7 +43,7 @@ unary_form : (e : Expr) (op a : _) → e ≡ code.Unary op a → tree e ≡ unar
 unary_form e op a h =
     ap tree h ∙ (let k : tree (code.Unary op a) ≡ unary_of op (tree a.value) = search (rules, the_lemmas) in k)
 
-chain_form : (e : Expr) (a ls : _) → e ≡ code.Chain a ls
+pub chain_form : (e : Expr) (a ls : _) → e ≡ code.Chain a ls
     → tree e ≡ chain (tree a.value) (links (map link_part ls))
 chain_form e a ls h =
     ap tree h ∙ (let k : tree (code.Chain a ls) ≡ chain (tree a.value) (links (map link_part ls))

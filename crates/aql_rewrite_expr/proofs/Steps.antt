@@ -1,6 +1,8 @@
 -- The steps of a walk over expressions that are lent: what stands at a place of a list, and what was passed.
-use Rattle.std.proofs.Common.{◌≡◌, ◌∙◌, ◌<◌, ◌≤◌, ◌+◌, ℕ, List, [], ◌∷◌, ◌++◌, length, map, take, drop, get_or, append_assoc, false, ap, sym, subst, subst₂, arith}
-use Rattle.std.specs.Prelude.{Bool, Option, Some, None, Result, Ok, Err, MatchOption, IfOk, IfSome, IsTrue, ◌↔◌}
+use Rattle.std.proofs.Common.{◌≡◌, ◌∙◌, ◌<◌, ◌≤◌, ◌+◌, ℕ, List, [], ◌∷◌, ◌++◌, length, map, take, drop}
+use Rattle.std.proofs.Common.{get_or, append_assoc, false, ap, sym, subst, subst₂, arith}
+use Rattle.std.specs.Prelude.{Bool, Option, Some, None, Result, Ok, Err, MatchOption, IfOk, IfSome, IsTrue}
+use Rattle.std.specs.Prelude.{◌↔◌}
 use Rattle.std.specs.Borrow.{Bor}
 use Rattle.std.proofs.lemmas.List.{take_more, take-append-drop, map-append}
 use Rattle.aql_tree.specs.declared.syntax.Expr.{Expr}
@@ -10,7 +12,8 @@ use Rattle.aql_rewrite_expr.specs.Parts.{parts}
 use Rattle.aql_rewrite_expr.specs.OverParts.{over_parts}
 use Rattle.aql_rewrite_expr.specs.FirstPart.{Stays, NoneIn, none_in, NoneInAll, none_left, none_then}
 use Rattle.aql_rewrite_expr.specs.FirstPart.{FirstIn, in_part, at_whole, FirstOf, first, later}
-use Rattle.aql_rewrite_expr.specs.Constant.{is_open, IsConstant, constant, AreConstant, no_more, constant_then}
+use Rattle.aql_rewrite_expr.specs.Constant.{is_open, IsConstant, constant, AreConstant, no_more}
+use Rattle.aql_rewrite_expr.specs.Constant.{constant_then}
 use Rattle.aql_rewrite_expr.specs.Size.{size, size_all}
 use Rattle.aql_rewrite_expr.specs.View.{lent}
 use Rattle.aql_rewrite_expr.specs.laws.PartSizes.{append_size}

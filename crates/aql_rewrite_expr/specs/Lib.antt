@@ -5,4 +5,5 @@ pub mod Keeps
 pub mod Size
 pub mod View
 pub mod Constant
+pub mod Same
 pub mod laws

@@ -34,7 +34,8 @@ abbrev pub over_members : MemberTrees → List ExprTree → MemberTrees
 over_members no_members ps = no_members
 over_members (named_then name e ms) ps = named_then name (first_or e ps) (over_members ms (after_first ps))
 over_members (computed_then n e ms) ps =
-    computed_then (first_or n ps) (first_or e (after_first ps)) (over_members ms (after_first (after_first ps)))
+    computed_then (first_or n ps) (first_or e (after_first ps))
+    (over_members ms (after_first (after_first ps)))
 
 abbrev pub over_steps : StepTrees → List ExprTree → StepTrees
 over_steps no_steps ps = no_steps

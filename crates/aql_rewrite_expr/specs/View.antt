@@ -1,10 +1,11 @@
--- What the program's lists of parts stand for, and the lists of an expression over other parts, as the program
--- holds them.
+-- What the program's lists of parts stand for, and the lists of an expression over other parts, as the
+-- program holds them.
 use Rattle.std.specs.Prelude.{List, [], ◌∷◌, ◌++◌, Option, Some, None}
 use Rattle.std.specs.Borrow.{Bor}
 use Rattle.aql_tree.specs.declared.syntax.Expr.{Expr}
 use Rattle.aql_tree.specs.Tree.{ExprTree}
-use Rattle.aql_tree.specs.View.{tree, maybe, MemberPart, named, computed, StepPart, name, at, inline, LinkPart}
+use Rattle.aql_tree.specs.View.{tree, maybe, MemberPart, named, computed, StepPart, name, at, inline}
+use Rattle.aql_tree.specs.View.{LinkPart}
 use Rattle.aql_rewrite_expr.specs.Parts.{maybe_parts}
 use Rattle.aql_rewrite_expr.specs.OverParts.{first_or, after_first}
 

@@ -7,3 +7,4 @@ pub mod PartVariables
 pub mod PartSizes
 pub mod FirstKept
 pub mod Constants
+pub mod Sameness

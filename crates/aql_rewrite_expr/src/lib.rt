@@ -3,12 +3,14 @@
 #![tactic(auto)]
 
 mod constants;
+mod equality;
 mod looking;
 mod rebuilding;
 mod rule;
 mod walk;
 
 pub use constants::is_constant;
+pub use equality::same_expr;
 pub use looking::parts;
 pub use rebuilding::over_parts;
 pub use rule::ExprRule;

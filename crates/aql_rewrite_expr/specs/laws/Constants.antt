@@ -1,5 +1,6 @@
 -- A constant expression holds no subquery, uses no variable and has one value.
-use Rattle.std.proofs.Common.{◌≡◌, ◌∙◌, List, [], ◌∷◌, ◌++◌, map, true, false, true≢false, cond, refl, ap, ap₂}
+use Rattle.std.proofs.Common.{◌≡◌, ◌∙◌, List, [], ◌∷◌, ◌++◌, map, true, false, true≢false, cond, refl, ap}
+use Rattle.std.proofs.Common.{ap₂}
 use Rattle.std.specs.List.{AllByRecursion}
 use Rattle.aql_value.specs.Datum.{Datum, boolean}
 use Rattle.aql_value.specs.Parts.{list, elements, at_name, at_value}
@@ -21,7 +22,8 @@ use Rattle.aql_meaning.specs.Plain.{IsPlain}
 use Rattle.aql_meaning.specs.Value.{value, values, value_or, members, steps_value, links_value}
 use Rattle.aql_meaning.specs.laws.Agrees.{map_same}
 use Rattle.aql_rewrite_expr.specs.Parts.{list_parts, maybe_parts, member_parts, step_parts, link_parts, parts}
-use Rattle.aql_rewrite_expr.specs.Constant.{is_open, IsConstant, constant, AreConstant, no_more, constant_then, HasOneValue}
+use Rattle.aql_rewrite_expr.specs.Constant.{is_open, IsConstant, constant, AreConstant, no_more}
+use Rattle.aql_rewrite_expr.specs.Constant.{constant_then, HasOneValue}
 use Rattle.aql_rewrite_expr.specs.Keeps.{variables}
 use Rattle.aql_rewrite_expr.specs.laws.PlainParts.{EachPlain, is_subquery, plain_whole}
 use Rattle.aql_rewrite_expr.specs.laws.PartVariables.{own_variables, all_variables, variables_split}
@@ -70,7 +72,8 @@ module _ (cur other : Datum) (row start : Row) where
   one_of_list no_exprs h = refl
   one_of_list (expr_then e es) h = ap₂ (λ v vs. v ∷ vs) (h.0 cur other row start) (one_of_list es h.1)
 
-  one_of_members : (ms : MemberTrees) → EachOne (member_parts ms) → members ms cur row ≡ members ms other start
+  one_of_members : (ms : MemberTrees) → EachOne (member_parts ms)
+      → members ms cur row ≡ members ms other start
   one_of_members no_members h = refl
   one_of_members (named_then name e ms) h =
       ap₂ (λ v vs. (name, v) ∷ vs) (h.0 cur other row start) (one_of_members ms h.1)
@@ -97,7 +100,8 @@ one_of_maybe (one_expr e) es h cur other row start d = h.0 cur other row start
 one_of_steps : (ss : StepTrees) → EachOne (step_parts ss) → (cur other : Datum) (row start : Row) (d : Datum)
     → steps_value ss cur row d ≡ steps_value ss other start d
 one_of_steps no_steps h cur other row start d = refl
-one_of_steps (name_then name ss) h cur other row start d = one_of_steps ss h cur other row start (at_name d name)
+one_of_steps (name_then name ss) h cur other row start d =
+    one_of_steps ss h cur other row start (at_name d name)
 one_of_steps (at_then e ss) h cur other row start d =
     ap (λ i. steps_value ss cur row (at_value d i)) (h.0 cur other row start)
     ∙ one_of_steps ss h.1 cur other row start (at_value d (value e other start))
@@ -108,7 +112,8 @@ one_of_steps (inline_then filter gives ss) h cur other row start d =
     ap (λ ts. map (λ w. steps_value ss cur row w) (map (λ c. value_or gives c row c)
     (filter_true (elements d) ts)))
     (map_same (λ c. value_or filter c row (boolean true)) (λ c. value_or filter c start (boolean true))
-    (λ c. one_of_maybe filter (maybe_parts gives ++ step_parts ss) h c c row start (boolean true)) (elements d))
+    (λ c. one_of_maybe filter (maybe_parts gives ++ step_parts ss) h c c row start (boolean true))
+    (elements d))
     ∙ ap (map (λ w. steps_value ss cur row w))
     (map_same (λ c. value_or gives c row c) (λ c. value_or gives c start c)
     (λ c. one_of_maybe gives (step_parts ss) k c c row start c) _)
@@ -120,7 +125,8 @@ one_of_parts (literal v) f h cur other row start = refl
 one_of_parts (variable x) f h cur other row start = absurd (true≢false f)
 one_of_parts current f h cur other row start = absurd (true≢false f)
 one_of_parts (array_literal es) f h cur other row start = ap list (one_of_list cur other row start es h)
-one_of_parts (object_literal ms) f h cur other row start = ap object_value (one_of_members cur other row start ms h)
+one_of_parts (object_literal ms) f h cur other row start =
+    ap object_value (one_of_members cur other row start ms h)
 one_of_parts (access e ss) f h cur other row start =
     ap (steps_value ss cur row) (h.0 cur other row start)
     ∙ one_of_steps ss h.1 cur other row start (value e other start)

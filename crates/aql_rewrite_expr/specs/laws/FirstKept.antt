@@ -13,7 +13,8 @@ use Rattle.aql_rewrite_expr.specs.Size.{size, size_all}
 use Rattle.aql_rewrite_expr.specs.View.{each_over}
 use Rattle.aql_rewrite_expr.specs.laws.Related.{each_related}
 use Rattle.aql_rewrite_expr.specs.laws.PartValues.{AllSame, parts_same}
-use Rattle.aql_rewrite_expr.specs.laws.PlainParts.{EachPlain, is_subquery, plain_parts, plain_whole, not_subquery}
+use Rattle.aql_rewrite_expr.specs.laws.PlainParts.{EachPlain, is_subquery, plain_parts, plain_whole}
+use Rattle.aql_rewrite_expr.specs.laws.PlainParts.{not_subquery}
 use Rattle.aql_rewrite_expr.specs.laws.PartCurrent.{NoCurrent, current_only}
 use Rattle.aql_rewrite_expr.specs.laws.PartVariables.{NoVariable, variables_only}
 use Rattle.aql_rewrite_expr.specs.laws.PartsBack.{new_parts, each_old}

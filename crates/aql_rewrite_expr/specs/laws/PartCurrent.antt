@@ -28,7 +28,8 @@ either_only false false c d f g h = g h
 abbrev pub NoCurrent : ExprTree → ExprTree → Type 0
 NoCurrent p q = OnlyWhere (uses_current p) (uses_current q)
 
-first_only : (e : ExprTree) (es ps : List ExprTree) → AllZip NoCurrent (e ∷ es) ps → NoCurrent e (first_or e ps)
+first_only : (e : ExprTree) (es ps : List ExprTree) → AllZip NoCurrent (e ∷ es) ps
+    → NoCurrent e (first_or e ps)
 first_only = first_related NoCurrent
 
 rest_only : (e : ExprTree) (es ps : List ExprTree) → AllZip NoCurrent (e ∷ es) ps

@@ -8,7 +8,8 @@ use Rattle.aql_tree.specs.Tree.{StepTrees, no_steps, name_then, at_then, inline_
 use Rattle.aql_tree.specs.Tree.{LinkTrees, no_links, link_then}
 use Rattle.aql_rewrite_expr.specs.Parts.{list_parts, maybe_parts, member_parts, step_parts, link_parts, parts}
 use Rattle.aql_rewrite_expr.specs.OverParts.{over_parts}
-use Rattle.aql_rewrite_expr.specs.Size.{size, list_size, maybe_size, members_size, steps_size, links_size, size_all}
+use Rattle.aql_rewrite_expr.specs.Size.{size, list_size, maybe_size, members_size, steps_size, links_size}
+use Rattle.aql_rewrite_expr.specs.Size.{size_all}
 use Rattle.aql_rewrite_expr.specs.View.{each_over}
 use Rattle.aql_rewrite_expr.specs.laws.PartsBack.{parts_back}
 

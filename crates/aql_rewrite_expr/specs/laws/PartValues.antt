@@ -59,7 +59,8 @@ members_same (computed_then n e ms) ps h cur row =
     let k = rest_same n (e ∷ member_parts ms) ps h in
     ap₂ (λ m ms. m ∷ ms) (ap₂ (λ a b. (to_text a, b)) (first_same n (e ∷ member_parts ms) ps h cur row)
     (first_same e (member_parts ms) (after_first ps) k cur row))
-    (members_same ms (after_first (after_first ps)) (rest_same e (member_parts ms) (after_first ps) k) cur row)
+    (members_same ms (after_first (after_first ps)) (rest_same e (member_parts ms) (after_first ps) k)
+    cur row)
 
 steps_same : (ss : StepTrees) (ps : List ExprTree) → AllSame (step_parts ss) ps
     → (cur : Datum) (row : Row) (d : Datum)

@@ -12,7 +12,8 @@ use Rattle.aql_tree.specs.Tree.{MemberTrees, no_members, named_then, computed_th
 use Rattle.aql_tree.specs.Tree.{StepTrees, no_steps, name_then, at_then, inline_then}
 use Rattle.aql_tree.specs.Tree.{LinkTrees, no_links, link_then}
 use Rattle.aql_meaning.specs.Row.{same_ident}
-use Rattle.aql_meaning.specs.Uses.{used_variable, uses, all_uses, maybe_uses, member_uses, step_uses, link_uses}
+use Rattle.aql_meaning.specs.Uses.{used_variable, uses, all_uses, maybe_uses, member_uses, step_uses}
+use Rattle.aql_meaning.specs.Uses.{link_uses}
 use Rattle.aql_rewrite_expr.specs.Parts.{list_parts, maybe_parts, member_parts, step_parts, link_parts, parts}
 use Rattle.aql_rewrite_expr.specs.OverParts.{over_parts}
 use Rattle.aql_rewrite_expr.specs.Keeps.{variables, uses_variable}

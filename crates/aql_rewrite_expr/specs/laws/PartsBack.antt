@@ -17,7 +17,8 @@ maybe_back : (e : MaybeExpr) (es ds ps : List ExprTree) → ds ≡ each_over es 
 maybe_back no_expr es ds ps h = h
 maybe_back (one_expr e) es ds ps h = ap (λ (xs : List ExprTree). first_or e ps ∷ xs) h
 
-list_back : (es : ExprTrees) (ps : List ExprTree) → list_parts (over_list es ps) ≡ each_over (list_parts es) ps
+list_back : (es : ExprTrees) (ps : List ExprTree)
+    → list_parts (over_list es ps) ≡ each_over (list_parts es) ps
 list_back no_exprs ps = refl
 list_back (expr_then e es) ps =
     ap (λ (xs : List ExprTree). first_or e ps ∷ xs) (list_back es (after_first ps))

@@ -4,7 +4,8 @@ use Rattle.std.proofs.lemmas.Grind.{common_steps}
 use Rattle.aql_tree.specs.View.{tree, member_part}
 use Rattle.aql_rewrite_expr.specs.View.{each_over, members_over}
 use Rattle.aql_rewrite_expr.proofs.Forms.{list_built, object_built, call_built}
-use Rattle.aql_rewrite_expr.proofs.Forms.{over_a_list, over_an_object, over_an_access, over_a_call, over_a_chain}
+use Rattle.aql_rewrite_expr.proofs.Forms.{over_a_list, over_an_object, over_an_access, over_a_call}
+use Rattle.aql_rewrite_expr.proofs.Forms.{over_a_chain}
 use Rattle.aql_rewrite_expr.proofs.rebuilding.over_queue.Goals as goal
 
 pub returns-in_ok-over_exprs-in-List : goal.returns-in_ok-over_exprs-in-List

@@ -5,7 +5,8 @@ use Rattle.aql_rewrite_expr.specs.FirstPart.{none_left}
 use Rattle.aql_rewrite_expr.specs.Size.{size, size_all}
 use Rattle.aql_rewrite_expr.specs.View.{lent}
 use Rattle.aql_rewrite_expr.specs.laws.PartSizes.{parts_smaller}
-use Rattle.aql_rewrite_expr.proofs.Steps.{is_smaller, none_next, found_next, found_in, found_whole, none_whole}
+use Rattle.aql_rewrite_expr.proofs.Steps.{is_smaller, none_next, found_next, found_in, found_whole}
+use Rattle.aql_rewrite_expr.proofs.Steps.{none_whole}
 use Rattle.aql_rewrite_expr.proofs.walk.+first.Goals as goal
 
 pub first_among-loop-at-init : goal.first_among-loop-at-init

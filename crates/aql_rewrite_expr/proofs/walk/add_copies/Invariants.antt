@@ -4,4 +4,5 @@ use Rattle.aql_rewrite_expr.specs.View.{lent}
 use Rattle.aql_rewrite_expr.proofs.walk.add_copies.Given as goal
 
 abbrev pub invariant-loop-expr : goal.invariant-loop-expr
-invariant-loop-expr l = map tree l.to.items ≡ map tree l.initial.to.items ++ map lent (take l.expr-index l.all)
+invariant-loop-expr l =
+    map tree l.to.items ≡ map tree l.initial.to.items ++ map lent (take l.expr-index l.all)

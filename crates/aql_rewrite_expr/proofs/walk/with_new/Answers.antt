@@ -9,7 +9,8 @@ use Rattle.aql_rewrite_expr.proofs.walk.with_new.Goals as goal
 pub returns : goal.returns
 returns c =
     let all = c.args.all.now in
-    let front : map tree c.add_copies.new.to.items ≡ map lent (take c.args.at all) = search (rules, common_steps) in
+    let front : map tree c.add_copies.new.to.items ≡ map lent (take c.args.at all)
+        = search (rules, common_steps) in
     let pushed : c.push_back.new.self.items ≡ c.add_copies.new.to.items ++ c.args.new ∷ []
     = search (rules, common_steps) in
     let rest : map tree c.add_copies-2.new.to.items
