@@ -1,5 +1,5 @@
 -- Two expressions of one form are the same where their parts are.
-use Rattle.std.proofs.Common.{◌≡◌, ◌∙◌, List, Bool, true, map, ap, ap₂, sym}
+use Rattle.std.proofs.Common.{◌≡◌, ◌∙◌, Bool, true, map, ap, ap₂, sym}
 use Rattle.std.specs.Prelude.{◌&&◌, bytes_eq}
 use Rattle.std.specs.Cmp.Lexicographic.{pointwise}
 use Rattle.aql_tree.specs.declared.syntax.Expr.{Expr}

@@ -10,7 +10,7 @@ use Rattle.aql_func.specs.declared.operators.UnaryOp.TheVariants.{Plus, Minus, N
 use Rattle.aql_tree.specs.declared.syntax.QuantKind.{QuantKind}
 use Rattle.aql_tree.specs.declared.syntax.QuantKind.TheVariants.{All, Any, None}
 use Rattle.aql_tree.specs.Tree.{ExprTree, literal, variable, current, array_literal, object_literal, access}
-use Rattle.aql_tree.specs.Tree.{function_call, unary_of, chain, array_comparison, ternary, range_of, subquery}
+use Rattle.aql_tree.specs.Tree.{function_call, unary_of, chain, array_comparison, ternary, range_of}
 use Rattle.aql_tree.specs.Tree.{ExprTrees, no_exprs, expr_then, MaybeExpr, no_expr, one_expr}
 use Rattle.aql_tree.specs.Tree.{MemberTrees, no_members, named_then, computed_then}
 use Rattle.aql_tree.specs.Tree.{StepTrees, no_steps, name_then, at_then, inline_then}

@@ -1,5 +1,5 @@
 -- What the comparison form by form answers: whether the expressions are equal and hold no subquery.
-use Rattle.std.proofs.Common.{◌≡◌, ◌∙◌, ℕ, List, [], ◌∷◌, Bool, true, false, true≢false, cond, refl, ap, ap₂, sym}
+use Rattle.std.proofs.Common.{◌≡◌, ◌∙◌, ℕ, List, [], ◌∷◌, Bool, true, true≢false, cond, refl, ap, ap₂, sym}
 use Rattle.std.specs.Prelude.{◌&&◌, ◌==◌, ◌↔◌, IsTrue, bytes_eq}
 use Rattle.std.proofs.lemmas.Bool.{eqb-true, eq-eqb, and_parts, and_from}
 use Rattle.std.proofs.lemmas.Slice.Eq.{bytes_eq-Decides}
@@ -141,13 +141,15 @@ mutual
       ((k.0, l.0), ap₂ chain k.1 l.1)
   same_true (array_comparison a k op b) (array_comparison c l o d) h =
       let x = and_parts (kind_number k == kind_number l)
-          ((op_number op == op_number o) && (same_expr a c && same_expr b d)) h in
+      ((op_number op == op_number o) && (same_expr a c && same_expr b d)) h in
       let y = and_parts (op_number op == op_number o) (same_expr a c && same_expr b d) x.1 in
       let z = and_parts (same_expr a c) (same_expr b d) y.1 in
       let p = same_true a c z.0 in
-      let q = same_true b d z.1 in
-      ((p.0, q.0), ap₂ (λ s t. array_comparison s k op t) p.1 q.1
-      ∙ ap₂ (λ s t. array_comparison c s t d) (equal_kinds k l x.0) (equal_ops op o y.0))
+      let q = same_true b d z.1 in (
+        (p.0, q.0),
+        ap₂ (λ s t. array_comparison s k op t) p.1 q.1
+            ∙ ap₂ (λ s t. array_comparison c s t d) (equal_kinds k l x.0) (equal_ops op o y.0),
+      )
   same_true (ternary t m o) (ternary s n p) h =
       let x = and_parts (same_expr t s) (same_maybe m n && same_expr o p) h in
       let y = and_parts (same_maybe m n) (same_expr o p) x.1 in

@@ -1,6 +1,4 @@
 -- The comparison form by form says what it should.
-use Rattle.std.proofs.Common.{◌≡◌, ◌∙◌, sym, subst}
-use Rattle.aql_tree.specs.Tree.{ExprTree}
 use Rattle.aql_tree.specs.View.{tree}
 use Rattle.aql_rewrite_expr.specs.laws.Sameness.{same_decides}
 use Rattle.aql_rewrite_expr.proofs.equality.same_expr.Goals as goal

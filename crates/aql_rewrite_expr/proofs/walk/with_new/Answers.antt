@@ -10,7 +10,7 @@ pub returns : goal.returns
 returns c =
     let all = c.args.all.now in
     let front : map tree c.add_copies.new.to.items ≡ map lent (take c.args.at all)
-        = search (rules, common_steps) in
+    = search (rules, common_steps) in
     let pushed : c.push_back.new.self.items ≡ c.add_copies.new.to.items ++ c.args.new ∷ []
     = search (rules, common_steps) in
     let rest : map tree c.add_copies-2.new.to.items
