@@ -1,4 +1,5 @@
-//! Tests of the lower libraries: values, tokens, functions, copies, parsing and evaluation.
+//! Tests of the lower libraries: values, tokens, functions, copies, parsing, rewriting and
+//! evaluation.
 #![tactic(auto)]
 
 #[cfg(test)]
@@ -11,6 +12,8 @@ mod functions;
 mod pages;
 #[cfg(test)]
 mod parsing;
+#[cfg(test)]
+mod rewriting;
 #[cfg(test)]
 mod tokens;
 #[cfg(test)]

@@ -7,4 +7,4 @@ mod queries;
 
 pub use notation::Notation;
 pub use pages::Page;
-pub use queries::{write_names, write_query};
+pub use queries::{write_expr, write_names, write_query};

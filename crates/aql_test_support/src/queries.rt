@@ -46,7 +46,7 @@ fn write_value(value: &Value, page: &mut Page) {
 }
 
 #[cycle(write)]
-fn write_expr(before: &str, expr: &Expr, how: Notation, page: &mut Page) {
+pub fn write_expr(before: &str, expr: &Expr, how: Notation, page: &mut Page) {
     page.put_pair(before, how.opening(expr));
     write_parts(expr, how, page);
     page.put(how.closing(expr));

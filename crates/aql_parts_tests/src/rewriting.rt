@@ -1,0 +1,177 @@
+// The first place of a rule in expressions of each form, worked out by hand.
+ghost use Rattle.std.specs.Prelude.{◌≡◌, refl};
+ghost use Rattle.aql_parts_tests.specs.NotFalse.{IsTurned, turned_falls, turned_keeps};
+
+use crate::pages::Page;
+use aql_func::UnaryOp;
+use aql_lex::lex;
+use aql_parse::parse;
+use aql_rewrite_expr::{ExprRule, first_part};
+use aql_test_support::{Notation, write_expr};
+use aql_tree::{Expr, Query};
+use aql_value::{OutOfMemory, Value};
+use std::alloc::Global;
+use std::process::Abort;
+
+// `!false` becomes `true`.
+#[derive(Drop)]
+struct NotFalse {}
+
+impl ExprRule for NotFalse {
+    ghost rewrites = { λ x p q. IsTurned p q };
+
+    fn at(&self, alloc: Global, expr: &Expr) -> Result<Option<Expr>, OutOfMemory> {
+        match expr {
+            Expr::Unary {
+                op: UnaryOp::Not,
+                of,
+            } => match &**of {
+                Expr::Lit(Value::Bool(false)) => Ok(Some(Expr::Lit(Value::Bool(true)))),
+                _ => Ok(None),
+            },
+            _ => Ok(None),
+        }
+    }
+
+    ghost keeps = { λ x p q h. turned_keeps p q h };
+
+    ghost falls = { λ x p q h. turned_falls p q h };
+}
+
+// A rule that applies nowhere.
+#[derive(Drop)]
+struct Never {}
+
+impl ExprRule for Never {
+    ghost rewrites = { λ x p q. ⊥ };
+
+    fn at(&self, alloc: Global, expr: &Expr) -> Result<Option<Expr>, OutOfMemory> {
+        Ok(None)
+    }
+
+    ghost keeps = { λ x p q h. absurd h };
+
+    ghost falls = { λ x p q h. absurd h };
+}
+
+fn write_first<R: ExprRule>(alloc: Global, rule: &R, query: &Query, page: &mut Page) {
+    match first_part(alloc, rule, &query.result) {
+        Ok(Some(expr)) => write_expr("", &expr, Notation::Bracketed, page),
+        Ok(None) => page.put("no place"),
+        Err(_) => page.put("no memory"),
+    }
+}
+
+// What stands in place of the expression of a text `RETURN ..`.
+fn rewritten<R: ExprRule>(alloc: Global, rule: &R, text: &str) -> Page {
+    let mut page = Page::new(alloc);
+    if text.len() > 65536 {
+        page.put("a text is too long");
+    } else {
+        match lex(alloc, text) {
+            Ok(tokens) => match parse(alloc, &tokens) {
+                Ok(query) => write_first(alloc, rule, &query, &mut page),
+                Err(_) => page.put("no tree"),
+            },
+            Err(_) => page.put("no tokens"),
+        }
+    }
+    page
+}
+
+const NONE: &str = "no place";
+
+static WITHOUT_PLACE: [(&str, &str); 8] = [
+    ("1", NONE),
+    ("x", NONE),
+    ("-false", NONE),
+    ("!true", NONE),
+    ("[1, x.y[2], F()]", NONE),
+    ("x[* FILTER CURRENT RETURN !CURRENT]", NONE),
+    ("(RETURN !false)", NONE),
+    ("F((RETURN !false))", NONE),
+];
+
+static LISTS: [(&str, &str); 8] = [
+    ("!false", "true"),
+    ("[!false, !false]", "[ true (Not false) ]"),
+    ("[1, [x, !false], !false]", "[ 1 [ x true ] (Not false) ]"),
+    ("{a: !false, [1]: !false}", "{ a: true [1]: (Not false) }"),
+    ("{a: 1, [!false]: !false}", "{ a: 1 [true]: (Not false) }"),
+    ("{[x]: !false, b: 2}", "{ [x]: true b: 2 }"),
+    ("F(x, !false, 2)", "F( x true 2 )"),
+    ("!!false", "(Not true)"),
+];
+
+static STEPS: [(&str, &str); 6] = [
+    ("(!false).a[!false]", "<true.a[(Not false)]>"),
+    (
+        "x.a[!false].b[* FILTER !false]",
+        "<x.a[true].b[* filter (Not false) return]>",
+    ),
+    (
+        "x.a[* FILTER !false RETURN !false]",
+        "<x.a[* filter true return (Not false)]>",
+    ),
+    (
+        "x[*][* RETURN !false][!false].b",
+        "<x[* filter return][* filter return true][(Not false)].b>",
+    ),
+    ("x[* FILTER y RETURN !false]", "<x[* filter y return true]>"),
+    ("x[1][!false]", "<x[1][true]>"),
+];
+
+static OPERATIONS: [(&str, &str); 9] = [
+    ("!false || x", "(true Or x)"),
+    ("x && !false && !false", "(x And true And (Not false))"),
+    ("!false ANY IN x", "(true Any IsIn x)"),
+    ("x ALL == !false", "(x All Eq true)"),
+    (
+        "!false ? !false : !false",
+        "(true ? (Not false) : (Not false))",
+    ),
+    ("x ? !false : !false", "(x ? true : (Not false))"),
+    ("x ? : !false", "(x ?  : true)"),
+    ("(!false)..(!false)", "(true..(Not false))"),
+    ("1..(!false)", "(1..true)"),
+];
+
+static NOWHERE: [(&str, &str); 3] = [
+    ("!false", NONE),
+    ("[!false, !false]", NONE),
+    ("x[* FILTER !false]", NONE),
+];
+
+fn check_rewritten<R: ExprRule>(rt: &impl Abort, alloc: Global, rule: &R, rows: &[(&str, &str)]) {
+    for (text, tree) in rows {
+        let mut whole = Page::new(alloc);
+        whole.put_pair("RETURN ", text);
+        rewritten(alloc, rule, whole.as_str()).judge(rt, tree, text);
+    }
+}
+
+#[test]
+fn first_places(rt: HostRuntime) {
+    let alloc = rt.alloc();
+    let rule = NotFalse {};
+    check_rewritten(&rt, alloc, &rule, &WITHOUT_PLACE);
+    check_rewritten(&rt, alloc, &rule, &LISTS);
+    check_rewritten(&rt, alloc, &rule, &STEPS);
+    check_rewritten(&rt, alloc, &rule, &OPERATIONS);
+    check_rewritten(&rt, alloc, &Never {}, &NOWHERE);
+}
+
+// The last part of 20,001.
+#[test]
+fn long_list(rt: HostRuntime) {
+    let alloc = rt.alloc();
+    let mut text = Page::new(alloc);
+    text.put("RETURN [");
+    text.put_times("1, ", 20000);
+    text.put("!false]");
+    let mut want = Page::new(alloc);
+    want.put("[");
+    want.put_times(" 1", 20000);
+    want.put(" true ]");
+    rewritten(alloc, &NotFalse {}, text.as_str()).judge(&rt, want.as_str(), "a long list");
+}

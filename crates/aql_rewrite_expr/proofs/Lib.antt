@@ -1,0 +1,3 @@
+mod Forms
+mod Steps
+mod Compared

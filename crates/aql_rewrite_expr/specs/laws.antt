@@ -1,0 +1,10 @@
+pub mod Related
+pub mod PartValues
+pub mod PlainParts
+pub mod PartCurrent
+pub mod PartsBack
+pub mod PartVariables
+pub mod PartSizes
+pub mod FirstKept
+pub mod Constants
+pub mod Sameness
