@@ -145,7 +145,8 @@ impl Plan {
     /// The input of the node; `None` exactly at `Singleton`.
     pub fn below(&self) -> Option<&Plan>
         ensures { MatchOption result (plan_tree self.now ≡ spec.Singleton)
-            (λ b. plan_tree self.now ≡ spec.Over (plan_tree b.now) (spec.top (plan_tree self.now))) }
+            (λ b. plan_tree self.now
+            ≡ spec.Over (plan_tree b.now) (spec.top (plan_tree self.now))) }
     {
         match self {
             Plan::Singleton => None,

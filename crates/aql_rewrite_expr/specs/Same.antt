@@ -89,7 +89,8 @@ abbrev mutual
   same_steps no_steps no_steps = true
   same_steps (name_then n ss) (name_then m rs) = bytes_eq n m && same_steps ss rs
   same_steps (at_then e ss) (at_then d rs) = same_expr e d && same_steps ss rs
-  same_steps (inline_then f p ss) (inline_then g q rs) = (same_maybe f g && same_maybe p q) && same_steps ss rs
+  same_steps (inline_then f p ss) (inline_then g q rs) =
+      (same_maybe f g && same_maybe p q) && same_steps ss rs
   same_steps ss rs = false
 
   pub same_links : LinkTrees → LinkTrees → Bool

@@ -253,8 +253,8 @@ fn same_links(a: &[Link], b: &[Link]) -> bool
     true
 }
 
-/// Whether two expressions without a subquery are equal: the same forms, variables, names, operators
-/// and literals. Where one holds a subquery the answer is `false`.
+/// Whether two expressions without a subquery are equal: the same forms, variables, names,
+/// operators and literals. Where one holds a subquery the answer is `false`.
 pub fn same_expr(a: &Expr, b: &Expr) -> bool
     ensures { IsTrue result ↔ (IsPlain (tree a.now) × (tree a.now ≡ tree b.now)) }
 {

@@ -1,5 +1,5 @@
-//! The walk to the first place of a rule: through the parts in the order of the text, and after them
-//! the whole.
+//! The walk to the first place of a rule: through the parts in the order of the text, and after
+//! them the whole.
 
 ghost use Rattle.std.specs.Prelude.{◌≡◌, ◌<◌, ◌+◌, ◌++◌, ◌∷◌, IfOk, IfSome, OnOk, MatchOption};
 ghost use Rattle.std.specs.Prelude.{length, map, take, drop};
@@ -105,8 +105,8 @@ pub fn first_part<R: ExprRule>(
     first_in(alloc, rule, expr)
 }
 
-/// The same of expressions one after another, as a node of a plan has them: all of them, copied, with
-/// the first place rewritten.
+/// The same of expressions one after another, as a node of a plan has them: all of them, copied,
+/// with the first place rewritten.
 pub fn first_of<R: ExprRule>(
     alloc: Global,
     rule: &R,

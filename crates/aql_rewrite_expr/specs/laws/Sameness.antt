@@ -283,13 +283,15 @@ list_pairs [] (d ∷ ds) = refl
 list_pairs (e ∷ es) [] = refl
 list_pairs (e ∷ es) (d ∷ ds) = ap (λ b. same_expr e d && b) (list_pairs es ds)
 
-pub member_pairs : (ms ns : List MemberPart) → same_members (members ms) (members ns) ≡ pointwise same_member ms ns
+pub member_pairs : (ms ns : List MemberPart)
+    → same_members (members ms) (members ns) ≡ pointwise same_member ms ns
 member_pairs [] [] = refl
 member_pairs [] (named m d ∷ ns) = refl
 member_pairs [] (computed m d ∷ ns) = refl
 member_pairs (named n e ∷ ms) [] = refl
 member_pairs (computed n e ∷ ms) [] = refl
-member_pairs (named n e ∷ ms) (named m d ∷ ns) = ap (λ b. (bytes_eq n m && same_expr e d) && b) (member_pairs ms ns)
+member_pairs (named n e ∷ ms) (named m d ∷ ns) =
+    ap (λ b. (bytes_eq n m && same_expr e d) && b) (member_pairs ms ns)
 member_pairs (computed n e ∷ ms) (computed m d ∷ ns) =
     ap (λ b. (same_expr n m && same_expr e d) && b) (member_pairs ms ns)
 member_pairs (named n e ∷ ms) (computed m d ∷ ns) = refl
@@ -318,7 +320,8 @@ pub link_pairs : (ls ks : List LinkPart) → same_links (links ls) (links ks) �
 link_pairs [] [] = refl
 link_pairs [] (k ∷ ks) = refl
 link_pairs (l ∷ ls) [] = refl
-link_pairs (l ∷ ls) (k ∷ ks) = ap (λ b. ((op_number l.0 == op_number k.0) && same_expr l.1 k.1) && b) (link_pairs ls ks)
+link_pairs (l ∷ ls) (k ∷ ks) =
+    ap (λ b. ((op_number l.0 == op_number k.0) && same_expr l.1 k.1) && b) (link_pairs ls ks)
 
 -- ---- so the answer decides whether they are equal and hold no subquery
 
