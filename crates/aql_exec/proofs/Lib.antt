@@ -1,0 +1,7 @@
+pub mod Telling
+pub mod Handing
+pub mod Keeping
+pub mod Advancing
+pub mod Limited
+pub mod Asking
+pub mod Answering

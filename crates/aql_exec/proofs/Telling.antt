@@ -1,0 +1,35 @@
+-- What steps tell: nothing, rows, or rows that were skipped.
+use Rattle.std.proofs.Common.{◌≡◌, ℕ, ◌<◌, ◌⊎◌, inl, inr, [], refl, sym, ◌∙◌, arith}
+use Rattle.aql_block.specs.declared.calls.Step.{Step}
+use Rattle.aql_block.specs.declared.tally.Tally.{Tally}
+use Rattle.aql_exec.specs.Rests.{Counts, Rest, Ahead, Rises}
+use Rattle.aql_exec.specs.Counting.{nothing}
+use Rattle.aql_exec.specs.Steps.{given, Led}
+
+pub rises_none : (t : Tally) → Rises t t nothing
+rises_none t c = (omega arith, omega arith)
+
+-- the step tells of nothing
+pub led_none : {before after : Rest → Type 0} (step : Step) → step.skipped ≡ 0 → given step ≡ []
+    → ((r : Rest) → after r → before r) → Led before nothing step after
+led_none step s g k r h = ([], r, sym s, record { rows = rw g refl; counts = λ c. omega arith }, k r h)
+
+-- it gives rows
+pub led_rows : {before after : Rest → Type 0} (step : Step) (d : Counts) → step.skipped ≡ 0
+    → ((r : Rest) → after r → (b : Rest) × Ahead (given step) d r b × before b) → Led before d step after
+led_rows step d s k r h = (let b = k r h in ([], b.0, sym s, b.1, b.2))
+
+pub ahead_none : (r : Rest) → Ahead [] nothing r r
+ahead_none r = record { rows = refl; counts = λ c. omega arith }
+
+-- the only input, and the only port
+pub only_input : (input : ℕ) → input < 1 → input ≡ 0
+only_input input h = omega (arith, h)
+
+pub only_port : (port : ℕ) → (port ≡ 0) ⊎ (port < 1) → port ≡ 0
+only_port port (inl e) = e
+only_port port (inr h) = omega (arith, h)
+
+-- a node with one port has no other port
+pub no_other : (port p : ℕ) → (port ≡ 0) ⊎ (port < 1) → (p ≡ port → ⊥) → (p ≡ 0) ⊎ (p < 1) → ⊥
+no_other port p a n b = n (only_port p b ∙ sym (only_port port a))

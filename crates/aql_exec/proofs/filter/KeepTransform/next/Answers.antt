@@ -1,0 +1,20 @@
+use Rattle.std.proofs.Common.{length, take, drop, ap, ◌∙◌}
+use Rattle.aql_tree.specs.View.{tree}
+use Rattle.aql_block.specs.Tables.{rows_of}
+use Rattle.aql_exec.specs.Counting.{counts}
+use Rattle.aql_exec.specs.Filters.{lost_of}
+use Rattle.aql_exec.proofs.Keeping.{front_given, both_ok}
+use Rattle.aql_exec.proofs.filter.KeepTransform.next.Goals as goal
+
+pub returns-clause-left : goal.returns-clause-left
+returns-clause-left g c =
+    let me = c.args.self.now in
+    let judged = c.in_ok-judge.ensures in
+    both_ok c.take_front.result c.take_front.ensures.front c.take_front.ensures.rest (λ block f e. (
+      counts 0 0 (length (lost_of (tree me.condition) me.judged (rows_of me.block))),
+      judged.tally,
+      λ rows r h.
+          front_given (tree me.condition) me.judged c.args.most (rows_of me.block) rows (rows_of block)
+          (rows_of c.take_front.new.held) r (f ∙ ap (take c.args.most) judged.rows)
+          (e ∙ ap (drop c.args.most) judged.rows) (rw (judged.condition, judged.judged) at h),
+    ))

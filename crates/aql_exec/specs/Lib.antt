@@ -1,0 +1,12 @@
+pub mod Rests
+pub mod Counting
+pub mod Operators
+pub mod Steps
+pub mod Links
+pub mod Feet
+pub mod Streaming
+pub mod Mapping
+pub mod Limiting
+pub mod RowMaps
+pub mod Filters
+pub mod BlockRows
