@@ -1,0 +1,10 @@
+pub mod Places
+pub mod Placed
+pub mod Swaps
+pub mod Nodes
+pub mod NodeExprs
+pub mod NodeViews
+pub mod Plain
+pub mod View
+pub mod Walks
+pub mod laws

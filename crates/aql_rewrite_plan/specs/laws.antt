@@ -1,0 +1,14 @@
+pub mod Among
+pub mod UsesFound
+pub mod PlacedBelow
+pub mod Standing
+pub mod Kept
+pub mod Carried
+pub mod Weights
+pub mod Levels
+pub mod Walk
+pub mod Steps
+pub mod OverNodes
+pub mod PlainPlans
+pub mod RenamedExprs
+pub mod RenamedPlans
