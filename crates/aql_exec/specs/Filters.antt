@@ -28,7 +28,8 @@ left_keep e judged held rows r = (r.rows ≡ kept_of e judged held ++ passing e 
     × (r.counts scanned_full ≡ 0) × (r.counts scanned_index ≡ 0)
     × (r.counts filtered ≡ length (lost_of e judged held) + length (failing e rows))
 
-pub some_keep : (e : ExprTree) (judged : Bool) (held rows : List Row) → (r : Rest) × left_keep e judged held rows r
+pub some_keep : (e : ExprTree) (judged : Bool) (held rows : List Row) → (r : Rest)
+    × left_keep e judged held rows r
 some_keep e judged held rows = (
   record {
     rows = kept_of e judged held ++ passing e rows;

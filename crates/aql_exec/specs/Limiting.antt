@@ -1,5 +1,6 @@
--- LIMIT: what it may still give of the rows that come, and what it asks its input for. The rows that it leaves
--- out and those that a call skips it has skipped by its input, and more than it may give it never asks for.
+-- LIMIT: what it may still give of the rows that come, and what it asks its input for. The rows that it
+-- leaves out and those that a call skips it has skipped by its input, and more than it may give it never asks
+-- for.
 use Rattle.std.specs.Prelude.{◌≡◌, ℕ, zero, suc, ◌+◌, ◌-◌, ◌≤◌, ◌⊎◌, List, [], length, min, true, false, cond, refl}
 use Rattle.std.proofs.Common.{arith}
 use mathlib.Core.Bool.{false≢true}

@@ -1,5 +1,5 @@
--- An executor that makes one row of each row of its input: what it gives and asks, while a step of its input is
--- held and while none is.
+-- An executor that makes one row of each row of its input: what it gives and asks, while a step of its input
+-- is held and while none is.
 use Rattle.std.specs.Prelude.{◌≡◌, ℕ, zero, suc, ◌+◌, ◌≤◌, ◌++◌, ◌⊎◌, List, [], length, map, take, drop, Bool, true, false, cond, refl}
 use Rattle.std.proofs.Common.{arith}
 use mathlib.Core.Bool.{false≢true}

@@ -82,8 +82,8 @@ abbrev pub AtEnd : ℕ → Rest → Rest → Type 0
 AtEnd zero ins r = (r.rows ≡ ins.rows) × ((c : Counter) → r.counts c ≡ ins.counts c)
 AtEnd (suc p) ins r = (r.rows ≡ []) × ((c : Counter) → r.counts c ≡ ins.counts c)
 
--- the rows of so many lists in some order that keeps each list's own, where no next row of a list comes before
--- the row that is taken
+-- the rows of so many lists in some order that keeps each list's own, where no next row of a list comes
+-- before the row that is taken
 abbrev pub MergedOf : (Row → Row → Bool) → ℕ → (ℕ → List Row) → List Row → Type 0
 MergedOf before n lists [] = (k : ℕ) → k < n → lists k ≡ []
 MergedOf before n lists (x ∷ out) = (k : ℕ) × (left : ℕ → List Row) × (k < n) × (lists k ≡ x ∷ left k)

@@ -31,8 +31,8 @@ given step = rows_of step.block
 abbrev pub told : Step → ℕ
 told step = step.skipped + length (given step)
 
--- what a step may be, for a call: at most the offset is skipped, at most `soft` rows come, and a row comes only
--- where the whole offset was skipped
+-- what a step may be, for a call: at most the offset is skipped, at most `soft` rows come, and a row comes
+-- only where the whole offset was skipped
 pub record InCall (c : Call) (step : Step) : Type 0 where
   pub skipped : step.skipped ≤ c.offset
   pub rows : length (given step) ≤ c.soft
@@ -53,8 +53,8 @@ abbrev pub Led : (Rest → Type 0) → Counts → Step → (Rest → Type 0) →
 Led before d step after = (r : Rest) → after r → (skipped : List meaning.Row) × (b : Rest)
     × (length skipped ≡ step.skipped) × Ahead (skipped ++ given step) d r b × before b
 
--- a call that may come after one that was answered by so many skips and rows: the rest of its offset and of the
--- rows that it wanted
+-- a call that may come after one that was answered by so many skips and rows: the rest of its offset and of
+-- the rows that it wanted
 pub record Follows (c : Call) (skipped rows : ℕ) (progress : Progress) (d : Call) : Type 0 where
   pub not_done : progress ≡ Done → ⊥
   pub offset : d.offset ≡ c.offset - skipped

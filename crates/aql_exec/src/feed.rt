@@ -1,5 +1,6 @@
-//! The laws of feeds and executors. A feed gives rows, a call at a time; an executor makes rows of those of its
-//! inputs and holds none of them: whoever drives it pulls an input where it asks, and hands the step to it.
+//! The laws of feeds and executors. A feed gives rows, a call at a time; an executor makes rows of
+//! those of its inputs and holds none of them: whoever drives it pulls an input where it asks, and
+//! hands the step to it.
 
 ghost use Rattle.std.specs.Prelude.{◌≡◌, ℕ, ◌+◌, ◌-◌, ◌*◌, ◌<◌, ◌≤◌, ◌++◌, ◌⊎◌, List, [], ◌∷◌};
 ghost use Rattle.std.specs.Prelude.{length, IfOk, OnOk, Bool, true, false};
@@ -63,7 +64,8 @@ pub trait Feed<W: Place> {
         ensures full { full self.new ≡ full self.old }
         ensures valid { OnOk result ((w : W) → valid self.new w) }
         ensures produces { OnOk result
-            ((w : W) (r : Rest) → rests self.new w r → Produces (plan self.new) (W.stock w) (row_of start.now) r) }
+            ((w : W) (r : Rest) → rests self.new w r
+            → Produces (plan self.new) (W.stock w) (row_of start.now) r) }
         ensures may { OnOk result ((c : Call) → IsCall c → may self.new c) }
         ensures ours { OnOk result ((l : ℕ) → ours self.new l → ⊥) }
         ensures room { OnOk result ((w : W) → room self.new w ≤ full self.new) };
@@ -185,9 +187,11 @@ pub trait Executor<W: Place> {
         ensures asks { OnOk result ((k : ℕ) (c : Call) → asks self.new k c → IsCall c) }
         ensures ended { OnOk result ((k : ℕ) → ended self.new k ≡ false) }
         ensures started { OnOk result ((k : ℕ) → started self.new k ≡ begins (node self.new) k) }
-        ensures makes { OnOk result ((w : W) (p : ℕ) (body : OperatorTree) (ins : ℕ → Rest) (r : Rest)
+        ensures makes { OnOk result ((w : W) (p : ℕ) (body : OperatorTree)
+            (ins : ℕ → Rest) (r : Rest)
             → (p ≡ 0) ⊎ (p < ports (node self.new)) → gives self.new w p body ins r
-            → Makes (node self.new) (W.stock w) [] (row_of start.now) p (Produces body (W.stock w)) ins r) }
+            → Makes (node self.new) (W.stock w) [] (row_of start.now) p
+            (Produces body (W.stock w)) ins r) }
         ensures room { OnOk result ((w : W) (f : ℕ) → room self.new w f ≤ full self.new f) };
 
     fn turn(
@@ -248,7 +252,8 @@ pub trait Executor<W: Place> {
             → EndsOwed (ended self.old) (owed self.old) ins → gives self.new world.new p body ins r
             → (b : Rest) × Ahead [] d r b × gives self.old world.old p body ins b)
             (λ k row. (p : ℕ) (body : OperatorTree) (ins ins' : ℕ → Rest) (r : Rest)
-            → ((j : ℕ) → (j ≡ k → ⊥) → ins' j ≡ ins j) → Produces body (W.stock world.old) (row_of row) (ins' k)
+            → ((j : ℕ) → (j ≡ k → ⊥) → ins' j ≡ ins j)
+            → Produces body (W.stock world.old) (row_of row) (ins' k)
             → EndsOwed (ended self.old) (owed self.old) ins → gives self.new world.new p body ins' r
             → (b : Rest) × Ahead [] d r b × gives self.old world.old p body ins b)
             (λ step. (body : OperatorTree) (s : ℕ → List meaning.Row) (ins ins' : ℕ → Rest)
@@ -259,7 +264,8 @@ pub trait Executor<W: Place> {
             (gives self.new world.new port body ins))) }
         ensures other_ports { IfOk result (λ t. MatchTurn t (λ _ _. Unit {0}) (λ _ _. Unit {0})
             (λ _. (d : Counts) × Rises tally.old tally.new d
-            × ((p : ℕ) (body : OperatorTree) (s : ℕ → List meaning.Row) (ins ins' : ℕ → Rest) (r : Rest)
+            × ((p : ℕ) (body : OperatorTree) (s : ℕ → List meaning.Row)
+            (ins ins' : ℕ → Rest) (r : Rest)
             → (p ≡ port → ⊥) → (p ≡ 0) ⊎ (p < ports (node self.old))
             → ((j : ℕ) → length (s j) ≡ owed self.old j)
             → ((j : ℕ) → ins' j ≡ with_rows (s j) (ins j))
@@ -328,7 +334,8 @@ pub trait Executor<W: Place> {
             × ((ask : Call) → asking self.old input ask → length (given step) ≡ ask.hard → ⊥)) }
         ensures owed { OnOk result ((owed self.new input ≡ owed self.old input + step.skipped)
             × ((j : ℕ) → (j ≡ input → ⊥) → owed self.new j ≡ owed self.old j)) }
-        ensures leads { OnOk result ((w : W) (p : ℕ) (body : OperatorTree) (d : Counts) (s0 s : List meaning.Row)
+        ensures leads { OnOk result ((w : W) (p : ℕ) (body : OperatorTree) (d : Counts)
+            (s0 s : List meaning.Row)
             (ins' ins : ℕ → Rest) (t b r : Rest) →
             length s0 ≡ owed self.old input → length s ≡ step.skipped
             → Ahead (s ++ given step) d t b →
@@ -344,11 +351,13 @@ pub trait Executor<W: Place> {
             input f * told step) };
 
     /// there is always a rest
-    ghost some: { (s : Self) (w : W) (p : ℕ) (body : OperatorTree) (ins : ℕ → Rest) → valid s w → (r : Rest)
+    ghost some: { (s : Self) (w : W) (p : ℕ) (body : OperatorTree) (ins : ℕ → Rest) → valid s w
+        → (r : Rest)
         × gives s w p body ins r };
 
     /// where an input counts more on the way to the same rows, so may it
-    ghost more_counts: { (s : Self) (w : W) (p : ℕ) (body : OperatorTree) (k : ℕ) (d : Counts) (ins ins' : ℕ → Rest)
+    ghost more_counts: { (s : Self) (w : W) (p : ℕ) (body : OperatorTree) (k : ℕ) (d : Counts)
+        (ins ins' : ℕ → Rest)
         (r : Rest) → started s k ≡ true → Ahead [] d (ins k) (ins' k)
         → ((j : ℕ) → (j ≡ k → ⊥) → ins' j ≡ ins j) → gives s w p body ins r → (b : Rest)
         × Ahead [] d r b × gives s w p body ins' b };

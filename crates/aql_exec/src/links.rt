@@ -1,5 +1,5 @@
-//! Messages between servers: a world whose messages are delivered one at a time, and what executors and feeds
-//! with links do with them.
+//! Messages between servers: a world whose messages are delivered one at a time, and what executors
+//! and feeds with links do with them.
 
 ghost use Rattle.std.specs.Prelude.{◌≡◌, ℕ, ◌<◌, ◌≤◌, ◌⊎◌, List, [], ◌∷◌, length, IfOk, OnOk};
 ghost use Rattle.std.specs.Prelude.{MatchOption, Bool, true, false};
@@ -157,5 +157,6 @@ pub trait Delivers<W: Place>: Feed<W> {
             × Self.rests self.old w b)) }
         ensures room { OnOk result ((w : W) → Self.valid self.old w
             → Taken (W.stock w) (W.stock world.old) (W.links w) (W.links world.old) (W.flight w)
-            (W.flight world.old) link message → Self.room self.new world.new ≤ Self.room self.old w) };
+            (W.flight world.old) link message
+            → Self.room self.new world.new ≤ Self.room self.old w) };
 }

@@ -194,7 +194,8 @@ impl<W: Place, M: RowMap<W>> Executor<W> for Mapped<M> {
 
     ghost some = { λ s _ _ _ ins _. some_mapped M.RowMap.own s ins };
 
-    ghost more_counts = { λ s _ _ _ k d ins ins' r e a o h. more_mapped M.RowMap.own s k d ins ins' r e a o h };
+    ghost more_counts = { λ s _ _ _ k d ins ins' r e a o h.
+        more_mapped M.RowMap.own s k d ins ins' r e a o h };
 
     ghost kept_gives = { λ _ _ _ _ _ _ _ _ _ h. h };
 

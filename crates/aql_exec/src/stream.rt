@@ -1,5 +1,5 @@
-//! The executor that makes its rows by a transform, and counts them for itself: it asks its input for all rows,
-//! whatever is asked of it.
+//! The executor that makes its rows by a transform, and counts them for itself: it asks its input
+//! for all rows, whatever is asked of it.
 
 ghost use Rattle.std.specs.Prelude.{◌≡◌, ℕ, ◌+◌, ◌*◌, ◌≤◌, ◌^◌, List, [], cond, true, false, IfOk, OnOk};
 ghost use Rattle.std.proofs.Math.Nat.{le_refl};
@@ -40,8 +40,8 @@ impl<T> Stream<T> {
     }
 }
 
-// The next step of a transform: it skips rows as long as the call has an offset, and else gives rows; it tells of
-// none where the transform is used up.
+// The next step of a transform: it skips rows as long as the call has an offset, and else gives
+// rows; it tells of none where the transform is used up.
 fn advance<W: Place, T: Transform<W>>(
     transform: &mut T,
     alloc: Global,
@@ -196,7 +196,8 @@ impl<W: Place, T: Transform<W>> Executor<W> for Stream<T> {
 
     ghost some = { λ s w _ _ ins v. some_stream T.Transform.own W.Place T.some s w ins v };
 
-    ghost more_counts = { λ s w _ _ k d ins ins' r e a o h. more_stream T.Transform.own W.Place s w k d ins ins' r e a o h };
+    ghost more_counts = { λ s w _ _ k d ins ins' r e a o h.
+        more_stream T.Transform.own W.Place s w k d ins ins' r e a o h };
 
     ghost kept_gives = { λ _ _ _ e _ _ _ _ _ h. rw (← e) h };
 

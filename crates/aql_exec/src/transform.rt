@@ -16,14 +16,14 @@ use aql_block::{Block, Row, Tally};
 use aql_value::OutOfMemory;
 use std::alloc::Global;
 
-/// Makes rows of rows. It is given blocks of input rows, the next one where the one before is used up, and
-/// gives its own rows a few at a time.
+/// Makes rows of rows. It is given blocks of input rows, the next one where the one before is used
+/// up, and gives its own rows a few at a time.
 pub trait Transform<W: Place> {
     /// the node that it works for
     ghost node: { Self → Node };
 
-    /// which rows may come of it still, and what is counted on the way, where these rows are still to
-    /// be put in
+    /// which rows may come of it still, and what is counted on the way, where these rows are still
+    /// to be put in
     ghost left: { Self → World → List meaning.Row → Rest → Type 0 };
 
     /// how many rows may come of what it holds
@@ -98,7 +98,8 @@ pub trait Transform<W: Place> {
             × (closed self.new ≡ true → (r : Rest) → left self.new (W.stock world.old) [] r
             → r.rows ≡ [])) };
 
-    /// Leaves out its next rows, at most so many, and says how many they were; none where it is used up.
+    /// Leaves out its next rows, at most so many, and says how many they were; none where it is
+    /// used up.
     fn skip(
         &mut self,
         alloc: Global,

@@ -1,5 +1,5 @@
--- What a rule shows of each part that it puts in the place of another: it refines the old one for what is used
--- above, a well-formed plan stays so, and it sets only what the old one sets.
+-- What a rule shows of each part that it puts in the place of another: it refines the old one for what is
+-- used above, a well-formed plan stays so, and it sets only what the old one sets.
 use Rattle.std.specs.Prelude.{ℕ, ◌≡◌, ◌≤◌, List, Bool, true, false, cond, Option, Some, None}
 use Rattle.std.specs.List.{list_any}
 use Rattle.aql_tree.specs.declared.syntax.Ident.{Ident}

@@ -1,5 +1,5 @@
-//! The expressions of a node, by reference, and nodes over other expressions. New expressions wait in
-//! a queue, in the order of the plan's text; where it is empty the old one is copied.
+//! The expressions of a node, by reference, and nodes over other expressions. New expressions wait
+//! in a queue, in the order of the plan's text; where it is empty the old one is copied.
 
 ghost use Rattle.std.specs.Prelude.{◌≡◌, ◌++◌, OnOk, IfOk, map, option_map};
 ghost use Rattle.aql_tree.specs.View.{tree, trees, maybe, key_part, let_part, aggregate_part};

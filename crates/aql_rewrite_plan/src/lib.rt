@@ -1,4 +1,5 @@
-//! Rules that rewrite plans: what a rule shows of itself, the first place where it applies, and its pass.
+//! Rules that rewrite plans: what a rule shows of itself, the first place where it applies, and its
+//! pass.
 #![tactic(auto)]
 
 mod above;

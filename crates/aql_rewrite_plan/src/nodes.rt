@@ -93,7 +93,8 @@ fn add_needs_below(
 ) -> Result<(), OutOfMemory>
     requires { plan_tree plan.now ≡ Over (plan_tree below.now) (top (plan_tree plan.now)) }
     ensures needs { OnOk result (uses_tree to.new ≡ uses_tree to.old
-        ++ needs (plan_tree below.now) (under (top (plan_tree plan.now)) (above_uses above.old.items))) }
+        ++ needs (plan_tree below.now) (under (top (plan_tree plan.now))
+        (above_uses above.old.items))) }
     ensures kept { OnOk result (above.new.items ≡ above.old.items) }
 {
     let own = uses_of(plan, alloc)?;

@@ -22,7 +22,8 @@ use std::alloc::Global;
 pub trait Rule {
     /// By the facts, by what is used above a part and by the part: what may stand in its place, and
     /// what is renamed in the nodes above.
-    ghost rewrites: { Self → spec_Facts → Uses → spec_Plan → spec_Plan → Option spec_Rename → Type 0 };
+    ghost rewrites: { Self → spec_Facts → Uses → spec_Plan → spec_Plan → Option spec_Rename
+        → Type 0 };
 
     /// Whether the rule is one for plans with fragments.
     ghost fragments: { Self → Bool };

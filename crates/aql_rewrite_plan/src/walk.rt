@@ -32,7 +32,8 @@ pub(crate) fn walk<R: Rule>(
     requires { IsPlaced (R.fragments rule.now) inside facts.now (above_uses above.old.items)
         (plan_tree plan.now) }
     ensures found { IfOk result (λ o. MatchOption o
-        (NoPlace (R.rewrites rule.now facts.now) inside (above_uses above.old.items) (plan_tree plan.now))
+        (NoPlace (R.rewrites rule.now facts.now) inside (above_uses above.old.items)
+        (plan_tree plan.now))
         (λ s. First (R.rewrites rule.now facts.now) inside (above_uses above.old.items)
         (plan_tree plan.now) (plan_tree s.part) s.rename)) }
     ensures kept { OnOk result (above.new.items ≡ above.old.items) }

@@ -14,8 +14,8 @@ use Rattle.aql_rewrite_plan.specs.Places.{renamed_by, Rewriting, First, below, h
 use Rattle.aql_rewrite_plan.specs.Placed.{Placed}
 use Rattle.aql_rewrite_plan.specs.laws.PlacedBelow.{placed_below, placed_body}
 
--- a relation of an old part to a new one, by whether they stand in a fragment, the variables of the start row,
--- what is used above, and what is renamed
+-- a relation of an old part to a new one, by whether they stand in a fragment, the variables of the start
+-- row, what is used above, and what is renamed
 abbrev pub Relation : Type 1
 Relation = Bool → List Ident → Uses → Plan → Plan → Option Rename → Type 0
 

@@ -102,7 +102,8 @@ keeps_renamed false facts outer away us n b c r placed set kept =
       fewer = k.fewer;
     }
 
-pub keeps_over : (k inside : Bool) (facts : Facts) (outer away : List Ident) (us : Uses) (n : Node) (b c : Plan)
+pub keeps_over : (k inside : Bool) (facts : Facts) (outer away : List Ident) (us : Uses) (n : Node)
+    (b c : Plan)
     (r : Option Rename)
     → Placed k inside facts outer away us (Over b n)
     → StandsBy k (input_inside n inside) facts (under n us) b c r
@@ -114,7 +115,8 @@ keeps_over true inside facts outer away us n b c (Some r) placed h kept = absurd
 keeps_over false inside facts outer away us n b c (Some r) placed h kept =
     keeps_renamed inside facts outer away us n b c r placed h.2 kept
 
-pub keeps_body : (k inside : Bool) (facts : Facts) (outer away : List Ident) (us : Uses) (x : Ident) (s t b : Plan)
+pub keeps_body : (k inside : Bool) (facts : Facts) (outer away : List Ident) (us : Uses) (x : Ident)
+    (s t b : Plan)
     (r : Option Rename)
     → Placed k inside facts outer away us (Over b (Subquery x s))
     → KeepsPlaced k false facts (vars_of outer b) result_uses s t r

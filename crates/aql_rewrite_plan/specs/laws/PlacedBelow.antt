@@ -31,7 +31,8 @@ suits_body false facts b s x h = h.1
 sum_below : (a b c xs ys zs : ℕ) → a ≡ xs + ys → b ≡ xs + zs → a + (zs + c) ≤ 1 → ys + (b + c) ≤ 1
 sum_below a b c xs ys zs e f h = omega (arith, e, f, h)
 
-pub placed_below : (k inside : Bool) (facts : Facts) (outer away : List Ident) (us : Uses) (n : Node) (b : Plan)
+pub placed_below : (k inside : Bool) (facts : Facts) (outer away : List Ident) (us : Uses) (n : Node)
+    (b : Plan)
     → Placed k inside facts outer away us (Over b n)
     → Placed k (input_inside n inside) facts outer (set_once n ++ away) (under n us) b
 placed_below k inside facts outer away us n b h =
@@ -43,7 +44,8 @@ placed_below k inside facts outer away us n b h =
       used = used_below facts outer away us n b (has_body facts h.shaped.0 b n h.shaped.2) h.found h.used;
       once =
           λ z e. sum_below (count z (set_once n ++ vars_set b)) (count z (set_once n ++ away)) (count z outer)
-          (count z (set_once n)) (count z (vars_set b)) (count z away) (count_append z (set_once n) (vars_set b))
+          (count z (set_once n)) (count z (vars_set b)) (count z away) (count_append z (set_once n)
+          (vars_set b))
           (count_append z (set_once n) away) (h.once z e);
       numbers = (all_parts IsNumber (set_once n) (vars_set b) h.numbers).1;
     }
@@ -78,7 +80,8 @@ vars_counted facts outer (Over b n) s shaped z e =
     let k = vars_counted facts outer b a.0 a.2 z e in
     omega (arith, k, count_append z (sets n) (vars_of outer b), count_append z (sets n) (vars_set b))
 
-pub placed_body : (k inside : Bool) (facts : Facts) (outer away : List Ident) (us : Uses) (x : Ident) (s b : Plan)
+pub placed_body : (k inside : Bool) (facts : Facts) (outer away : List Ident) (us : Uses) (x : Ident)
+    (s b : Plan)
     → Placed k inside facts outer away us (Over b (Subquery x s))
     → Placed k false facts (vars_of outer b) (x ∷ away) result_uses s
 placed_body k inside facts outer away us x s b h =
@@ -89,7 +92,8 @@ placed_body k inside facts outer away us x s b h =
       shaped = (Result, refl, r);
       found = h.found.3;
       used =
-          among_within result_uses ([] ++ vars_of (vars_of outer b) s) ((x ∷ away) ++ vars_of (vars_of outer b) s)
+          among_within result_uses ([] ++ vars_of (vars_of outer b) s) ((x ∷ away)
+          ++ vars_of (vars_of outer b) s)
           (within_back (vars_of (vars_of outer b) s) (x ∷ away) (vars_of (vars_of outer b) s)
           (within_self (vars_of (vars_of outer b) s))) (results_found facts (vars_of outer b) s r);
       once = λ z e. by z (same_ident z x) (h.once z e) (vars_counted facts outer b a.0 a.2 z e)

@@ -49,7 +49,8 @@ module _ (x : Ident) (q : ExprTree) where
       let g = maybe_put gives rest in
       ap (over_steps (inline_then filter gives ss))
       (joined (maybe_parts filter) (maybe_parts gives ++ step_parts ss)
-      ∙ ap (λ (ds : List ExprTree). New (maybe_parts filter) ++ ds) (joined (maybe_parts gives) (step_parts ss)))
+      ∙ ap (λ (ds : List ExprTree). New (maybe_parts filter) ++ ds)
+      (joined (maybe_parts gives) (step_parts ss)))
       ∙ ap₂ (λ a b. inline_then a b (over_steps ss (after_maybe gives (after_maybe filter
       (New (maybe_parts filter) ++ more))))) f.0 (ap (over_maybe gives) f.1 ∙ g.0)
       ∙ ap (inline_then (put_maybe x q filter) (put_maybe x q gives))

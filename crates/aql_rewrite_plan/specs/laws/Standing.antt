@@ -1,5 +1,5 @@
--- A part that refines another one does so below a node, wherever both stand, and as a body; a renaming goes on
--- through the nodes above.
+-- A part that refines another one does so below a node, wherever both stand, and as a body; a renaming goes
+-- on through the nodes above.
 use Rattle.std.proofs.Common.{◌≡◌, ◌∙◌, ℕ, suc, ◌+◌, ◌≤◌, List, [], ◌∷◌, ◌++◌, Bool, true, false, true≢false, cond, refl, ap, sym, subst, arith}
 use Rattle.std.specs.Prelude.{Option, Some, None, option_to_list, ◌||◌}
 use Rattle.std.specs.List.{list_any, AllByRecursion}
@@ -70,7 +70,8 @@ pub not_above : (k inside : Bool) (facts : Facts) (outer away : List Ident) (us 
     → (same_ident z (Num 0) ≡ false) × (count z (set_once n) ≤ 0) × (count z away ≤ 0) × (count z outer ≤ 0)
 not_above k inside facts outer away us n b z h set =
     let e = count_append z (set_once n) (vars_set b) in
-    let r = number_is_no_result z (counted_has IsNumber z (set_once n ++ vars_set b) (omega (arith, e, set)) h.numbers) in
+    let r = number_is_no_result z (counted_has IsNumber z (set_once n ++ vars_set b)
+    (omega (arith, e, set)) h.numbers) in
     let a = h.once z r in
     (r, omega (arith, a, e, set), omega (arith, a, e, set), omega (arith, a, e, set))
 
@@ -105,7 +106,8 @@ StandsBy k inside facts us p q (Some r) = (k ≡ false)
 set_below : (z : Ident) (n : Node) (b : Plan) → 1 ≤ count z (vars_set b) → 1 ≤ count z (vars_set (Over b n))
 set_below z n b h = omega (arith, h, count_append z (set_once n) (vars_set b))
 
-pub stands_over : (k inside : Bool) (facts : Facts) (outer away : List Ident) (us : Uses) (n : Node) (b c : Plan)
+pub stands_over : (k inside : Bool) (facts : Facts) (outer away : List Ident) (us : Uses) (n : Node)
+    (b c : Plan)
     (r : Option Rename)
     → Placed k inside facts outer away us (Over b n)
     → StandsBy k (input_inside n inside) facts (under n us) b c r
@@ -118,7 +120,8 @@ stands_over false inside facts outer away us n b c (Some r) placed h =
     let f = not_above false inside facts outer away us n b x placed h.2 in
     let t = not_above false inside facts outer away us n b y placed h.3 in (
       refl,
-      renamed_below x y n (outside n placed.suits.1) (node_sets (IsOther x y) n placed.suits.1 (all_other x y (set_once n) f.1 t.1))
+      renamed_below x y n (outside n placed.suits.1) (node_sets (IsOther x y) n placed.suits.1
+          (all_other x y (set_once n) f.1 t.1))
           (other x y (Num 0) f.0 t.0) us (gone_after facts inside outer away us n b x y placed h.2)
           facts c b h.1,
       set_below x n b h.2,
@@ -139,4 +142,5 @@ stands_result k facts p q (Some r) numbers h =
 pub stands_with : (k : Bool) (facts : Facts) (us : Uses) (x : Ident) (b s t : Plan) (r : Option Rename)
     → AllByRecursion IsNumber (vars_set s) → StandsBy k false facts result_uses s t r
     → StandsBy k false facts us (Over b (Subquery x s)) (Over b (Subquery x t)) None
-stands_with k facts us x b s t r numbers h = refines_body x us facts b t s (stands_result k facts s t r numbers h)
+stands_with k facts us x b s t r numbers h = refines_body x us facts b t s
+    (stands_result k facts s t r numbers h)

@@ -26,8 +26,10 @@ module _ (k : Bool) (facts : Facts) where
   Sound inside outer us p q r =
       StandsBy k inside facts us p q r × KeepsPlaced k inside facts outer us p q r
 
-  sound_over : (inside : Bool) (outer away : List Ident) (us : Uses) (n : Node) (b c : Plan) (r : Option Rename)
-      → Placed k inside facts outer away us (Over b n) → Sound (input_inside n inside) outer (under n us) b c r
+  sound_over : (inside : Bool) (outer away : List Ident) (us : Uses) (n : Node) (b c : Plan)
+      (r : Option Rename)
+      → Placed k inside facts outer away us (Over b n)
+      → Sound (input_inside n inside) outer (under n us) b c r
       → Sound inside outer us (Over b n) (Over c (renamed_by r n)) r
   sound_over inside outer away us n b c r placed h = (
     stands_over k inside facts outer away us n b c r placed h.0,

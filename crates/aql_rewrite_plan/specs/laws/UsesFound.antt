@@ -83,7 +83,8 @@ handed_on xs ys away outer =
 -- ---- plans
 
 -- a final Collect sets what its partial one sets
-pub final_set : (facts : Facts) (s : Shape) (b : Plan) (xs : List Ident) (es : ExprTrees) (gs : AggregateTrees)
+pub final_set : (facts : Facts) (s : Shape) (b : Plan) (xs : List Ident) (es : ExprTrees)
+    (gs : AggregateTrees)
     (i : IntoTree)
     → Shaped facts (Over b (Collect xs es gs i stage.Final)) s
     → (others : List Ident) × (vars_set b ≡ sets (Collect xs es gs i stage.Final) ++ others)
@@ -192,7 +193,8 @@ mutual
       among_within (needs b (under n us)) ((vars_set b ++ (set_once n ++ away)) ++ outer)
       (((set_once n ++ vars_set b) ++ away) ++ outer) (mixed (set_once n) (vars_set b) away outer) k
 
-pub used_below : (facts : Facts) (outer away : List Ident) (us : Uses) (n : Node) (b : Plan) → BodyShaped facts n
+pub used_below : (facts : Facts) (outer away : List Ident) (us : Uses) (n : Node) (b : Plan)
+    → BodyShaped facts n
     → FindsAll outer (Over b n) → are_among us (away ++ vars_of outer (Over b n)) ≡ true
     → are_among (under n us) ((set_once n ++ away) ++ vars_of outer b) ≡ true
 used_below facts outer away us (Collect xs es gs i s) b fit found h =

@@ -198,7 +198,8 @@ weight_below Singleton b e = absurd (no_start b e)
   where
     no_start : (b : Plan) → Singleton ≡ Over b NoResults → ⊥
     no_start b e = cc
-weight_below (Over c n) b e = let k : c ≡ b = cc in subst (λ (o : Plan). weight o + 1 ≤ weight (Over c n)) k (omega arith)
+weight_below (Over c n) b e = let k : c
+    ≡ b = cc in subst (λ (o : Plan). weight o + 1 ≤ weight (Over c n)) k (omega arith)
 
 pub weight_body : (p s : Plan) → body_in (top p) ≡ Some s → weight s + 1 ≤ weight p
 weight_body Singleton s e = absurd (cc)
