@@ -13,7 +13,8 @@ abbrev pub Adding : (List Row → Rest → Type 0) → Rest → Rest → Type 0
 Adding left input r = (own : Rest) × left input.rows own × Counting input own r
 
 -- a step of the transform is one of the executor
-pub led_adding : (before after : List Row → Rest → Type 0) (step : Step) (d : Counts) (s : List Row) (i' i : Rest)
+pub led_adding : (before after : List Row → Rest → Type 0) (step : Step) (d : Counts) (s : List Row)
+    (i' i : Rest)
     → length s ≡ 0 → i' ≡ with_rows s i → ((rows : List Row) → Led (before rows) d step (after rows))
     → Led (Adding before i') d step (Adding after i)
 led_adding before after step d s i' i l e k r h =

@@ -37,7 +37,8 @@ came_of s left' h a b d r =
 pub enough_left : (s : Limit) → HeldIs s → 1 ≤ s.left → s.ask.soft ≡ min s.call.soft (most_of s.call s.left)
     → (s.skipped - s.skip) + s.rows ≤ s.left
 enough_left s h a d =
-    asking.enough s.call.offset s.call.soft s.call.hard s.skip s.left s.skipped s.rows (skips_of s.call s.left)
+    asking.enough s.call.offset s.call.soft s.call.hard s.skip s.left s.skipped s.rows
+    (skips_of s.call s.left)
     s.ask.soft (skips_is s.call s.left a).fewer h.skipped h.rows_in h.first d
 
 -- the answer to a call, of so many rows that were skipped beyond those left out
@@ -46,11 +47,13 @@ pub record Answers (offset past : ℕ) (rows : List Row) (step : Step) : Type 0 
   pub whole : offset ≤ past → (given step ≡ rows) × (step.skipped ≡ past)
 
 pub either : (offset past : ℕ) (rows : List Row) (step : Step) → Answers offset past rows step
-    → ((given step ≡ rows) × (step.skipped ≡ past)) ⊎ ((given step ≡ []) × (step.skipped ≡ past + length rows))
+    → ((given step ≡ rows) × (step.skipped ≡ past)) ⊎ ((given step ≡ [])
+    × (step.skipped ≡ past + length rows))
 either offset past rows step a = decide (grind arith)
   where
     decide : (offset ≤ past) ⊎ (past < offset)
-        → ((given step ≡ rows) × (step.skipped ≡ past)) ⊎ ((given step ≡ []) × (step.skipped ≡ past + length rows))
+        → ((given step ≡ rows) × (step.skipped ≡ past)) ⊎
+        ((given step ≡ []) × (step.skipped ≡ past + length rows))
     decide (inl h) = inl (a.whole h)
     decide (inr h) = inr (a.over h)
 
@@ -72,17 +75,31 @@ module _ (soft hard skip left k asked_soft asked_hard left' : ℕ) (call : Call)
       decide : (call.offset ≤ k - skip) ⊎ (k - skip < call.offset) → InCall call step
       decide (inl h) =
           (let x = a.whole h in let n = ap length x.0 in let m = x.1 in
-          let p = asking.past_in call.offset soft hard skip left k (length rows) asked_soft asked_hard left' c in
-          let q = asking.rows_in call.offset soft hard skip left k (length rows) asked_soft asked_hard left' c in
-          record { skipped = omega (arith, m, p); rows = omega (arith, n, q, s); first = λ _. omega (arith, m, p, h) })
+          let p = asking.past_in call.offset soft hard skip left k
+          (length rows) asked_soft asked_hard left' c in
+          let q = asking.rows_in call.offset soft hard skip left k
+          (length rows) asked_soft asked_hard left' c in
+          record {
+            skipped = omega (arith, m, p);
+            rows = omega (arith, n, q, s);
+            first = λ _. omega
+                (arith, m, p, h);
+          })
       decide (inr h) =
           (let x = a.over h in let n = ap length x.0 in let m = x.1 in
-          let p = asking.over_in call.offset soft hard skip left k (length rows) asked_soft asked_hard left' c h in
-          record { skipped = omega (arith, m, p); rows = omega (arith, n); first = λ f. absurd (omega (arith, f, n)) })
+          let p = asking.over_in call.offset soft hard skip left k
+          (length rows) asked_soft asked_hard left' c h in
+          record {
+            skipped = omega (arith, m, p);
+            rows = omega (arith, n);
+            first = λ f. absurd
+                (omega (arith, f, n));
+          })
 
   pub all_given : 1 ≤ hard → 1 ≤ left' → length rows ≡ asked_hard → length (given step) ≡ hard
   all_given w h e =
-      let x = asking.all_came call.offset soft hard skip left k (length rows) asked_soft asked_hard left' c w h e in
+      let x = asking.all_came call.offset soft hard skip left k
+      (length rows) asked_soft asked_hard left' c w h e in
       ap length (a.whole x.1).0 ∙ x.0
 
   -- what the next call is told, where more may be given
@@ -100,10 +117,12 @@ module _ (soft hard skip left k asked_soft asked_hard left' : ℕ) (call : Call)
       decide (inl l) = (let x = a.whole l in (x.1, ap length x.0))
       decide (inr l) = by_rows (length rows) refl
         where
-          by_rows : (m : ℕ) → m ≡ length rows → (step.skipped ≡ k - skip) × (length (given step) ≡ length rows)
+          by_rows : (m : ℕ) → m ≡ length rows → (step.skipped ≡ k - skip)
+              × (length (given step) ≡ length rows)
           by_rows zero e = none_came (sym e) l
           by_rows (suc m) e =
-              (let o = asking.not_over call.offset soft hard skip left k (length rows) asked_soft asked_hard left' c
+              (let o = asking.not_over call.offset soft hard skip left k
+              (length rows) asked_soft asked_hard left' c
               h (omega (arith, e)) in absurd (omega (arith, o, l)))
 
 -- nothing is left to give, or nothing of the input
@@ -123,7 +142,8 @@ none_in skip left block i r b e h =
 
 -- with no row in front the input gives the same
 pub same_limits : (skip left k : ℕ) (block s : List Row) (i' i r : Rest) → length s ≡ 0 → i' ≡ with_rows s i
-    → Limits skip left (held_in true k block i.rows) i r → Limits skip left (held_in true k block i'.rows) i' r
+    → Limits skip left (held_in true k block i.rows) i r
+    → Limits skip left (held_in true k block i'.rows) i' r
 same_limits skip left k block s i' i r l e h = (
   h.0 ∙ ap (λ z. limit_rows skip left (held_in true k block z)) (sym (same_rows s i' i l e)),
   λ c. h.1 c ∙ sym (same_counts s i' i e c),

@@ -144,12 +144,14 @@ module _ (offset soft hard skip left k n asked_soft asked_hard left' : ℕ)
   pub next_follows : (d call ask : Call) (came told_skips told_rows : ℕ) (progress told : Progress)
       → call.offset ≡ offset → call.hard ≡ hard → ask.hard ≡ asked_hard → left ≤ 18446744073709551615
       → ask.offset + k ≡ (skip + c.skips) + came
-      → (1 ≤ left' → (told_skips ≡ k - skip) × (told_rows ≡ n) × (told ≡ progress)) → (left' ≡ 0 → told ≡ Done)
+      → (1 ≤ left' → (told_skips ≡ k - skip) × (told_rows ≡ n) × (told ≡ progress))
+      → (left' ≡ 0 → told ≡ Done)
       → Follows call told_skips told_rows told d → Follows ask came n progress (ask_of d (skip - k) left')
   next_follows d call ask came told_skips told_rows progress told eo eh ea m reach more over f =
       let t = more still in
       let t0 = t.0 in
-      let o : d.offset ≡ offset - (k - skip) = f.offset ∙ ap (λ z. z - told_skips) eo ∙ ap (λ z. offset - z) t0 in
+      let o : d.offset ≡ offset - (k - skip) = f.offset ∙ ap (λ z. z - told_skips) eo
+      ∙ ap (λ z. offset - z) t0 in
       let s = (next_skips d.offset still o).0 in
       let a = c.reach in
       record {
@@ -172,7 +174,8 @@ module _ (offset soft hard skip left k n asked_soft asked_hard left' : ℕ)
       wanted e (inr x) = inr (sym eh ∙ x.0, x.1)
 
 -- where all that came is left out, the next ask follows the last
-pub same_follows : (call ask : Call) (skip left k came n : ℕ) (progress : Progress) → progress ≡ HasMore → n ≡ 0
+pub same_follows : (call ask : Call) (skip left k came n : ℕ) (progress : Progress) → progress ≡ HasMore → n
+    ≡ 0
     → k ≤ skip → ask.offset + k ≡ (skip + skips_of call left) + came → ask.hard ≡ most_of call left
     → Follows ask came n progress (ask_of call (skip - k) left)
 same_follows call ask skip left k came n progress p z h r m = record {

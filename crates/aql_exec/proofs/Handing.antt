@@ -25,7 +25,11 @@ same_counts s i' i e c = ap (λ (z : Rest). z.counts c) e
 
 pub same_images : (f : Row → Row) (s : List Row) (i' i r : Rest) → length s ≡ 0 → i' ≡ with_rows s i
     → Images f i.rows i r → Images f i'.rows i' r
-same_images f s i' i r l e h = (h.0 ∙ ap (map f) (sym (same_rows s i' i l e)), λ c. h.1 c ∙ sym (same_counts s i' i e c))
+same_images f s i' i r l e h = (
+  h.0 ∙ ap (map f) (sym (same_rows s i' i l e)),
+  λ c. h.1 c
+      ∙ sym (same_counts s i' i e c),
+)
 
 -- a step that was taken: what it told of is in front of the input
 pub taken : (f : Row → Row) (k : ℕ) (rows s0 s : List Row) (d : Counts) (i' i t b r : Rest)

@@ -49,13 +49,15 @@ marked_is e [] = refl
 marked_is e (row ∷ rows) = one_marked (truth (value_of e row)) row rows (passing e rows)
     (map truth (values_of e rows)) (marked_is e rows)
 
-mapped_twice : {A B C : Type 0} (f : A → B) (g : B → C) (xs : List A) → map (λ x. g (f x)) xs ≡ map g (map f xs)
+mapped_twice : {A B C : Type 0} (f : A → B) (g : B → C) (xs : List A) → map (λ x. g (f x)) xs
+    ≡ map g (map f xs)
 mapped_twice f g [] = refl
 mapped_twice f g (x ∷ xs) = ap (λ z. g (f x) ∷ z) (mapped_twice f g xs)
 
 -- the rows that stay, where the marks are the truth of the values
 pub retained : {V : Type 0} (e : ExprTree) (held after : List Row) (given marks : List Bool) (values : List V)
-    (datum : V → Datum) → after ≡ marked held given → given ≡ marks → marks ≡ map (λ v. truth (datum v)) values
+    (datum : V → Datum) → after ≡ marked held given → given ≡ marks → marks
+    ≡ map (λ v. truth (datum v)) values
     → map datum values ≡ values_of e held → after ≡ passing e held
 retained e held after given marks values datum a g m v =
     a ∙ ap (marked held) (g ∙ m ∙ mapped_twice datum truth values ∙ ap (map truth) v) ∙ marked_is e held
@@ -123,7 +125,8 @@ front_given e judged most held rows front rest r f g h =
     each filtered = (let k = h.3 in omega (arith, k))
 
 -- no more rows pass than are held
-pub kept_fewer : (e : ExprTree) (judged : Bool) (held : List Row) → length (kept_of e judged held) ≤ length held
+pub kept_fewer : (e : ExprTree) (judged : Bool) (held : List Row)
+    → length (kept_of e judged held) ≤ length held
 kept_fewer e true held = omega arith
 kept_fewer e false held = (let n = both e held in omega (arith, n))
 
@@ -137,7 +140,8 @@ cut most rows front rest f g =
     omega (arith, a, b, i, j)
 
 -- where none is given, none is left
-pub none_left : (most : ℕ) (rows front rest : List Row) → 1 ≤ most → front ≡ take most rows → rest ≡ drop most rows
+pub none_left : (most : ℕ) (rows front rest : List Row) → 1 ≤ most → front ≡ take most rows → rest
+    ≡ drop most rows
     → length front ≡ 0 → rest ≡ []
 none_left zero rows front rest m f g l = absurd (omega (arith, m))
 none_left (suc most) [] front rest m f g l = g

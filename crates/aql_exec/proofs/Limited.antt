@@ -18,7 +18,8 @@ held_none k rows input e =
     rw e (ap (λ z. z ++ drop k input) (append-nil (take k input)) ∙ take-append-drop k input)
 
 -- a step that was taken
-pub limit_taken : (skip left k j : ℕ) (block held s0 s : List Row) (d : Counts) (i' i t b r : Rest) → block ≡ []
+pub limit_taken : (skip left k j : ℕ) (block held s0 s : List Row) (d : Counts) (i' i t b r : Rest) → block
+    ≡ []
     → length s0 ≡ k → length s ≡ j → Ahead (s ++ held) d t b → i' ≡ with_rows (s0 ++ s) t → i ≡ with_rows s0 b
     → Limits skip left (held_in true (k + j) held i'.rows) i' r
     → (q : Rest) × Ahead [] d r q × Limits skip left (held_in true k block i.rows) i q
@@ -83,12 +84,15 @@ split skip left left' s (row ∷ rows) input f e (inr h) =
     parts skip left left' s (row ∷ rows) input (f (omega arith)) e
 
 -- an answer: the rows that are told of stand in front
-pub limit_told : (skip left left' k : ℕ) (rows block s : List Row) (step : Step) (i' i r : Rest) → length s ≡ k
-    → i' ≡ with_rows s i → (1 ≤ length rows → skip ≤ k) → left' + ((k - skip) + length rows) ≡ left → block ≡ []
+pub limit_told : (skip left left' k : ℕ) (rows block s : List Row) (step : Step) (i' i r : Rest) → length s
+    ≡ k
+    → i' ≡ with_rows s i → (1 ≤ length rows → skip ≤ k) → left' + ((k - skip) + length rows) ≡ left → block
+    ≡ []
     → ((given step ≡ rows) × (step.skipped ≡ k - skip))
     ⊎ ((given step ≡ []) × (step.skipped ≡ (k - skip) + length rows))
     → Limits (skip - k) left' (held_in true 0 block i.rows) i r
-    → (skipped : List Row) × (b : Rest) × (length skipped ≡ step.skipped) × Ahead (skipped ++ given step) nothing r b
+    → (skipped : List Row) × (b : Rest) × (length skipped ≡ step.skipped)
+    × Ahead (skipped ++ given step) nothing r b
     × Limits skip left (held_in true k rows i'.rows) i' b
 limit_told skip left left' k rows block s step i' i r l f g e none t h = answer t
   where

@@ -16,8 +16,8 @@ values_set x e [] = refl
 values_set x e (row ∷ rows) = ap (λ out. bind x row (value_of e row) ∷ out) (values_set x e rows)
 
 pub let_maps : (x : Ident) (e : ExprTree) (w : World) (start : Row) (rows : List Row)
-    → GivesCounting (plan.Calculation x e) w start rows
-    (map (λ row. bind x row (value_of e row)) rows) nothing
+    → GivesCounting (plan.Calculation x e) w start rows (map
+    (λ row. bind x row (value_of e row)) rows) nothing
 let_maps x e w start rows = (values_set x e rows, λ c. refl)
 
 results : (e : ExprTree) (rows : List Row)

@@ -187,11 +187,11 @@ pub trait Executor<W: Place> {
         ensures asks { OnOk result ((k : ℕ) (c : Call) → asks self.new k c → IsCall c) }
         ensures ended { OnOk result ((k : ℕ) → ended self.new k ≡ false) }
         ensures started { OnOk result ((k : ℕ) → started self.new k ≡ begins (node self.new) k) }
-        ensures makes { OnOk result ((w : W) (p : ℕ) (body : OperatorTree)
-            (ins : ℕ → Rest) (r : Rest)
+        ensures makes { OnOk result ((w : W) (p : ℕ) (body : OperatorTree) (ins : ℕ
+            → Rest) (r : Rest)
             → (p ≡ 0) ⊎ (p < ports (node self.new)) → gives self.new w p body ins r
-            → Makes (node self.new) (W.stock w) [] (row_of start.now) p
-            (Produces body (W.stock w)) ins r) }
+            → Makes (node self.new) (W.stock w) [] (row_of start.now) p (Produces body
+            (W.stock w)) ins r) }
         ensures room { OnOk result ((w : W) (f : ℕ) → room self.new w f ≤ full self.new f) };
 
     fn turn(
@@ -264,8 +264,8 @@ pub trait Executor<W: Place> {
             (gives self.new world.new port body ins))) }
         ensures other_ports { IfOk result (λ t. MatchTurn t (λ _ _. Unit {0}) (λ _ _. Unit {0})
             (λ _. (d : Counts) × Rises tally.old tally.new d
-            × ((p : ℕ) (body : OperatorTree) (s : ℕ → List meaning.Row)
-            (ins ins' : ℕ → Rest) (r : Rest)
+            × ((p : ℕ) (body : OperatorTree) (s : ℕ → List meaning.Row) (ins ins' : ℕ
+            → Rest) (r : Rest)
             → (p ≡ port → ⊥) → (p ≡ 0) ⊎ (p < ports (node self.old))
             → ((j : ℕ) → length (s j) ≡ owed self.old j)
             → ((j : ℕ) → ins' j ≡ with_rows (s j) (ins j))

@@ -53,9 +53,8 @@ impl Keep {
         ensures judged { OnOk result (self.new.judged ≡ true) }
         ensures rows { OnOk result (rows_of self.new.block
             ≡ kept_of (tree self.old.condition) self.old.judged (rows_of self.old.block)) }
-        ensures tally { OnOk result (Rises tally.old tally.new (counts 0 0
-            (length (lost_of (tree self.old.condition) self.old.judged
-            (rows_of self.old.block))))) }
+        ensures tally { OnOk result (Rises tally.old tally.new (counts 0 0 (length
+            (lost_of (tree self.old.condition) self.old.judged (rows_of self.old.block))))) }
     {
         if self.judged {
             return Ok(());

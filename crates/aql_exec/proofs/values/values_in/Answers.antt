@@ -40,5 +40,6 @@ loop-at-preserved c =
           (map-append datum_of c.loop-at.values.items (w.in_ok-value.value ∷ [])
           ∙ one_more e rows c.loop-at.at (row_of w.in-Some.row) (datums_in c.loop-at.values.items)
           (datum_of w.in_ok-value.value) w.in-Some.ensures c.loop-at.invariant w.in_ok-value.ensures.value))
-      | in_default w ↦ absurd (found rows c.loop-at.at _ w.in_default.ensures c.loop-at-test.true c.len-at-end.ensures)
+      | in_default w ↦ absurd (found rows c.loop-at.at _ w.in_default.ensures
+          c.loop-at-test.true c.len-at-end.ensures)
     ]

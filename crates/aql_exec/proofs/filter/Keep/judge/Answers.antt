@@ -17,7 +17,8 @@ overflow_sub-before c =
     IfOk-at_ok _ c.in_ok-marks.was (items_from_collect _ c.collect.ensures.ran (YieldsList-from_map _
     (λ v. truth (datum_of v)) (YieldsList-from_slice values cc) c.map.ensures.closure
     (λ x r q k. search rules))) in
-    let kept = retained (tree me.condition) (rows_of me.block) (rows_of c.retain.new.self) c.deref-2.result.now
+    let kept = retained (tree me.condition) (rows_of me.block)
+    (rows_of c.retain.new.self) c.deref-2.result.now
     c.in_ok-marks.marks.items values datum_of c.retain.ensures.rows c.deref-2.ensures.value marks
     c.in_ok-values.ensures in
     let n = ap length kept in
@@ -46,13 +47,15 @@ returns-clause-tally c =
     IfOk-at_ok _ c.in_ok-marks.was (items_from_collect _ c.collect.ensures.ran (YieldsList-from_map _
     (λ v. truth (datum_of v)) (YieldsList-from_slice values cc) c.map.ensures.closure
     (λ x r q k. search rules))) in
-    let kept = retained (tree me.condition) (rows_of me.block) (rows_of c.retain.new.self) c.deref-2.result.now
+    let kept = retained (tree me.condition) (rows_of me.block)
+    (rows_of c.retain.new.self) c.deref-2.result.now
     c.in_ok-marks.marks.items values datum_of c.retain.ensures.rows c.deref-2.ensures.value marks
     c.in_ok-values.ensures in
     let n = ap length kept in
     let m = both (tree me.condition) (rows_of me.block) in
     let before = c.len-before.ensures in
     let after = c.len.ensures in
-    let dropped : c.len-before.result - c.len.result ≡ length (failing (tree me.condition) (rows_of me.block)) =
+    let dropped : c.len-before.result - c.len.result ≡ length
+    (failing (tree me.condition) (rows_of me.block)) =
     omega (arith, n, m, before, after) in
     rw c.if-self.false (rises_more _ _ _ _ dropped c.count_dropped.ensures)

@@ -14,7 +14,8 @@ returns-clause-leads g c w p body d s0 s ins' ins t b r l0 l1 a e' e os ends h =
     let first = only_input c.args._input c.requires.input in
     let waits = c.requires.valid.1.waits (rw first at c.requires.asked.1).1 in
     let block = (c.requires.valid.1.not_held waits.1).1 in
-    limit_taken me.skip me.left me.skipped c.args.step.skipped (rows_of me.block) (rows_of c.args.step.block) s0 s d
+    limit_taken me.skip me.left me.skipped c.args.step.skipped (rows_of me.block)
+    (rows_of c.args.step.block) s0 s d
     (ins' 0) (ins 0) t b r block (rw first at l0) l1 a (rw first at e') (rw first at e) h
 
 pub returns-clause-valid : goal.returns-clause-valid

@@ -28,7 +28,8 @@ returns-then-self-clause-leads g c =
       nothing,
       rises_none c.args._tally.now,
       λ body s ins ins' l e ends r h.
-          limit_told me.skip me.left left me.skipped (rows_of me.block) (rows_of c.replace-block.new.dest) (s 0)
+          limit_told me.skip me.left left me.skipped (rows_of me.block) (rows_of c.replace-block.new.dest)
+          (s 0)
           c.answer-step.result (ins' 0) (ins 0) r (l 0) (e 0)
           (λ n. (let f = held.first (omega (arith, n, len)) in omega (arith, f)))
           (omega (arith, gone, number, len, enough)) none
@@ -80,7 +81,8 @@ returns-then-self-2-clause-leads g c =
     let me = c.args.self.now in
     let valid = c.requires.valid in
     let idle : me.asked ≡ false = not_true me.asked (λ a. elim c.then-self-2.branch [
-      | then-self-2-via-then-self-2 w ↦ absurd (false≢true (sym (valid.going a c.if-self.false) ∙ w.if-self-2.true))
+      | then-self-2-via-then-self-2 w ↦ absurd (false≢true
+          (sym (valid.going a c.if-self.false) ∙ w.if-self-2.true))
       | then-self-2-via-else-self-2+then-self-eq0 w ↦
           (let n = (valid.asks a).0 in let z = w.if-self-eq0.true in absurd (omega (arith, n, z)))
     ]) in
@@ -90,7 +92,8 @@ returns-then-self-2-clause-leads g c =
       λ body s ins ins' l e ends.
           led_none (record { skipped = 0; block = c.empty-then-self-2.result; progress = Done }) refl
           (ap rows_of c.empty-then-self-2.ensures) (λ r h.
-          same_limits me.skip me.left me.skipped (rows_of me.block) (s 0) (ins' 0) (ins 0) r (l 0 ∙ none) (e 0) h),
+          same_limits me.skip me.left me.skipped (rows_of me.block) (s 0) (ins' 0) (ins 0) r (l 0 ∙ none)
+          (e 0) h),
     )
 
 pub returns-then-self-2-clause-other_ports : goal.returns-then-self-2-clause-other_ports
@@ -101,4 +104,9 @@ returns-then-self-2-clause-other_ports g c = (
 )
 
 pub returns-clause-leads : goal.returns-clause-leads
-returns-clause-leads g c = (nothing, rises_none c.args._tally.now, λ p body ins r ends h. (r, ahead_none r, h))
+returns-clause-leads g c = (
+  nothing,
+  rises_none c.args._tally.now,
+  λ p body ins r ends h.
+      (r, ahead_none r, h),
+)

@@ -9,5 +9,6 @@ returns-clause-leads g c w p body d s0 s ins' ins t b r l0 l1 a e' e os ends h =
     let me = c.args.self.now in
     let first = only_input c.args._input c.requires.input in
     let has : me.has ≡ false = (rw first at c.requires.asked.1).2 in
-    rw has (taken (g.M.RowMap.image me.by) c.args.step.skipped (rows_of c.args.step.block) s0 s d (ins' 0) (ins 0)
+    rw has (taken (g.M.RowMap.image me.by) c.args.step.skipped (rows_of c.args.step.block) s0 s d (ins' 0)
+    (ins 0)
     t b r (rw (first, has) at l0) l1 a (rw first at e') (rw first at e) h)

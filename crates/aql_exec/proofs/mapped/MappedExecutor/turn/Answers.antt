@@ -31,10 +31,13 @@ pub returns-then-self-clause-may : goal.returns-then-self-clause-may
 returns-then-self-clause-may g c k i f =
     let me = c.args.self.now in
     let port = only_port c.args._port c.requires.port in
-    let call : c.args.call ≡ me.last = (rw port at c.requires.may).0 (c.requires.valid.asked c.if-self.true) in
-    let out = c.in_ok-block.ensures ∙ ap (λ z. map (g.M.RowMap.image me.by) (rows_of z)) c.replace-block.ensures.value in
+    let call : c.args.call ≡ me.last = (rw port at c.requires.may).0
+    (c.requires.valid.asked c.if-self.true) in
+    let out = c.in_ok-block.ensures ∙ ap (λ z. map (g.M.RowMap.image me.by)
+    (rows_of z)) c.replace-block.ensures.value in
     let count : length (rows_of c.in_ok-block.block) ≡ me.count =
-    ap length out ∙ length-map (rows_of me.block) (g.M.RowMap.image me.by) ∙ sym (c.requires.valid.count c.if-self.true) in
+    ap length out ∙ length-map (rows_of me.block) (g.M.RowMap.image me.by)
+    ∙ sym (c.requires.valid.count c.if-self.true) in
     rw port ((λ e. absurd (false≢true e)), λ _. (i, λ _ _. (rw (call, count) at f)))
 
 pub returns-then-self-2-clause-leads : goal.returns-then-self-2-clause-leads
@@ -43,7 +46,8 @@ returns-then-self-2-clause-leads g c =
       nothing,
       rises_none c.args._tally.now,
       λ body s ins ins' l e ends.
-          led_none (record { skipped = 0; block = c.empty-then-self-2.result; progress = Done }) refl (ap rows_of c.empty-then-self-2.ensures) (λ r h. rw c.if-self.false
+          led_none (record { skipped = 0; block = c.empty-then-self-2.result; progress = Done }) refl
+          (ap rows_of c.empty-then-self-2.ensures) (λ r h. rw c.if-self.false
           (same_images (g.M.RowMap.image me.by) (s 0) (ins' 0) (ins 0) r (rw c.if-self.false at l 0) (e 0)
           (rw c.if-self.false at h))),
     )
@@ -56,4 +60,9 @@ returns-then-self-2-clause-other_ports g c = (
 )
 
 pub returns-clause-leads : goal.returns-clause-leads
-returns-clause-leads g c = (nothing, rises_none c.args._tally.now, λ p body ins r ends h. (r, ahead_none r, h))
+returns-clause-leads g c = (
+  nothing,
+  rises_none c.args._tally.now,
+  λ p body ins r ends h.
+      (r, ahead_none r, h),
+)

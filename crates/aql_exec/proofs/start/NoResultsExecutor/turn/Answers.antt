@@ -10,7 +10,8 @@ returns-clause-leads g c = (
   nothing,
   rises_none c.args._tally.now,
   λ body s ins ins' l e ends.
-      led_none (record { skipped = 0; block = c.empty.result; progress = Done }) refl (ap rows_of c.empty.ensures)
+      led_none (record { skipped = 0; block = c.empty.result; progress = Done }) refl
+      (ap rows_of c.empty.ensures)
       (λ r h. h),
 )
 

@@ -32,4 +32,5 @@ returns-in-Done-clause-leads g c w p body d s0 s ins' ins t b r l0 l1 a e' e os 
     put_adding before after block s0 s d (ins' 0) (ins 0) t b r l0 (omega (arith, l1, skipped, offset)) a
     (rw first at e') (rw first at e)
     (λ rows own z x. (let n = z ∙ none in subst (λ y. before (block ++ y) own) (sym n)
-    (c.in_ok-put.ensures.left stock [] own (c.close.ensures.left stock own (subst (λ y. after y own) n x))))) h
+    (c.in_ok-put.ensures.left stock [] own (c.close.ensures.left stock own
+    (subst (λ y. after y own) n x))))) h

@@ -30,7 +30,8 @@ returns-then-self-clause-leads g c =
       left.0,
       left.1,
       λ body s ins ins' l e ends r h. led_quiet before after c.in_ok-step.step
-          (record { skipped = 0; block = c.empty.result; progress = Done }) left.0 (s 0) (ins' 0) (ins 0) (l 0)
+          (record { skipped = 0; block = c.empty.result; progress = Done }) left.0 (s 0) (ins' 0) (ins 0)
+          (l 0)
           (e 0) none refl (ap rows_of c.empty.ensures) left.2 r (rw c.in_ok-step.ensures.stock at h),
     )
 
@@ -47,8 +48,10 @@ returns-then-self-2-clause-leads g c =
       left.0,
       left.1,
       λ body s ins ins' l e ends r h. led_quiet before after c.in_ok-step.step
-          (record { skipped = 0; block = c.empty-then-self-2.result; progress = Waiting }) left.0 (s 0) (ins' 0) (ins 0) (l 0)
-          (e 0) none refl (ap rows_of c.empty-then-self-2.ensures) left.2 r (rw c.in_ok-step.ensures.stock at h),
+          (record { skipped = 0; block = c.empty-then-self-2.result; progress = Waiting }) left.0 (s 0)
+          (ins' 0) (ins 0) (l 0)
+          (e 0) none refl (ap rows_of c.empty-then-self-2.ensures) left.2 r
+          (rw c.in_ok-step.ensures.stock at h),
     )
 
 pub returns-clause-leads : goal.returns-clause-leads
