@@ -2,7 +2,7 @@
 ghost use Rattle.std.specs.Prelude.{◌≡◌, refl};
 ghost use Rattle.aql_parts_tests.specs.NotFalse.{IsTurned, turned_falls, turned_keeps};
 
-use crate::pages::Page;
+use crate::pages::{Page, expect_page};
 use aql_func::UnaryOp;
 use aql_lex::lex;
 use aql_parse::parse;
@@ -146,7 +146,7 @@ fn check_rewritten<R: ExprRule>(rt: &impl Abort, alloc: Global, rule: &R, rows: 
     for (text, tree) in rows {
         let mut whole = Page::new(alloc);
         whole.put_pair("RETURN ", text);
-        rewritten(alloc, rule, whole.as_str()).judge(rt, tree, text);
+        expect_page(rt, &rewritten(alloc, rule, whole.as_str()), tree, text);
     }
 }
 
@@ -173,5 +173,6 @@ fn long_list(rt: HostRuntime) {
     want.put("[");
     want.put_times(" 1", 20000);
     want.put(" true ]");
-    rewritten(alloc, &NotFalse {}, text.as_str()).judge(&rt, want.as_str(), "a long list");
+    let found = rewritten(alloc, &NotFalse {}, text.as_str());
+    expect_page(&rt, &found, want.as_str(), "a long list");
 }
