@@ -10,3 +10,4 @@ pub mod Limiting
 pub mod RowMaps
 pub mod Filters
 pub mod BlockRows
+pub mod laws

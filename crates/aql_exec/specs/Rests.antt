@@ -1,6 +1,6 @@
 -- What may still come of a feed: its rows, in order, and what will be counted on the way to them. A feed that
 -- reads documents in no order of theirs has several possible rests.
-use Rattle.std.specs.Prelude.{ℕ, ◌≡◌, ◌+◌, ◌≤◌, ◌++◌, List, [], length, Bool, true}
+use Rattle.std.specs.Prelude.{ℕ, ◌≡◌, ◌+◌, ◌-◌, ◌^◌, min, ◌≤◌, ◌++◌, List, [], length, Bool, true}
 use Rattle.aql_meaning.specs.Row.{Row}
 use Rattle.aql_block.specs.declared.tally.Tally.{Tally}
 
@@ -30,6 +30,10 @@ abbrev pub counts_of : Tally → Counts
 counts_of t scanned_full = t.scanned_full
 counts_of t scanned_index = t.scanned_index
 counts_of t filtered = t.filtered
+
+-- a sum of 64 bits that stays at the largest number
+abbrev pub saturated : ℕ → ℕ → ℕ
+saturated a b = min (a + b) (2 ^ 64 - 1)
 
 -- a tally rose by at most so much: each of its numbers stays at its largest
 abbrev pub Rises : Tally → Tally → Counts → Type 0

@@ -5,9 +5,9 @@ ghost use Rattle.aql_tree.specs.View.{tree};
 ghost use Rattle.aql_plan.specs.Plan as plan;
 ghost use Rattle.aql_meaning.specs.Plain.{IsPlain};
 ghost use Rattle.aql_block.specs.Tables.{rows_of};
-ghost use Rattle.aql_exec.specs.Rests.{Rises};
+ghost use Rattle.aql_exec.specs.Rests.{saturated, Rises};
 ghost use Rattle.aql_exec.specs.Counting.{counts};
-ghost use Rattle.aql_exec.specs.Filters.{kept_of, lost_of};
+ghost use Rattle.aql_exec.specs.Filters.{kept_of, lost_of, failing};
 
 use crate::feed::Place;
 use crate::stream::Stream;
@@ -53,6 +53,9 @@ impl Keep {
         ensures judged { OnOk result (self.new.judged ≡ true) }
         ensures rows { OnOk result (rows_of self.new.block
             ≡ kept_of (tree self.old.condition) self.old.judged (rows_of self.old.block)) }
+        ensures counted { OnOk result (self.old.judged ≡ false
+            → tally.new.filtered ≡ saturated tally.old.filtered
+            (length (failing (tree self.old.condition) (rows_of self.old.block)))) }
         ensures tally { OnOk result (Rises tally.old tally.new (counts 0 0 (length
             (lost_of (tree self.old.condition) self.old.judged (rows_of self.old.block))))) }
     {
@@ -71,7 +74,8 @@ impl Keep {
 
 // Counts rows that were dropped.
 fn count_dropped(tally: &mut Tally, rows: u32)
-    ensures { Rises tally.old tally.new (counts 0 0 rows) }
+    ensures rises { Rises tally.old tally.new (counts 0 0 rows) }
+    ensures counted { tally.new.filtered ≡ saturated tally.old.filtered rows }
 {
     let _before = tally.filtered;
     tally.add_filtered(u64::from(rows));

@@ -32,6 +32,8 @@ impl<W: Place> RowMap<W> for Results {
     ghost image = { λ s row. result_row (value_of (tree s.expr) row) };
 
     fn map(&self, alloc: Global, _world: &W, block: Block) -> Result<Block, OutOfMemory> {
+        // a block has fewer than 2^32 rows, so there are no more values
+        let _count = block.len();
         let values = values_in(alloc, &self.expr, &block)?;
         Block::from_values(alloc, 0, values)
     }

@@ -1,9 +1,9 @@
-use Rattle.std.proofs.Common.{length, take, drop, ap, ◌∙◌}
+use Rattle.std.proofs.Common.{length, take, drop, ap, ◌∙◌, arith}
 use Rattle.aql_tree.specs.View.{tree}
 use Rattle.aql_block.specs.Tables.{rows_of}
 use Rattle.aql_exec.specs.Counting.{counts}
-use Rattle.aql_exec.specs.Filters.{lost_of}
-use Rattle.aql_exec.proofs.Keeping.{front_given, both_ok}
+use Rattle.aql_exec.specs.Filters.{kept_of, lost_of}
+use Rattle.aql_exec.proofs.Keeping.{front_given, both_ok, kept_fewer, cut}
 use Rattle.aql_exec.proofs.filter.KeepTransform.next.Goals as goal
 
 pub returns-clause-left : goal.returns-clause-left
@@ -18,3 +18,13 @@ returns-clause-left g c =
           (rows_of c.take_front.new.held) r (f ∙ ap (take c.args.most) judged.rows)
           (e ∙ ap (drop c.args.most) judged.rows) (rw (judged.condition, judged.judged) at h),
     ))
+
+pub returns-clause-held : goal.returns-clause-held
+returns-clause-held g c =
+    let me = c.args.self.now in
+    let judged = c.in_ok-judge.ensures in
+    let kept = kept_of (tree me.condition) me.judged (rows_of me.block) in
+    let n = kept_fewer (tree me.condition) me.judged (rows_of me.block) in
+    both_ok c.take_front.result c.take_front.ensures.front c.take_front.ensures.rest (λ block f e.
+    (let k = cut c.args.most kept (rows_of block) (rows_of c.take_front.new.held)
+    (f ∙ ap (take c.args.most) judged.rows) (e ∙ ap (drop c.args.most) judged.rows) in omega (arith, k, n)))

@@ -1,7 +1,8 @@
-use Rattle.std.proofs.Common.{◌≡◌, length, map, refl, sym, ap, ◌∙◌}
+use Rattle.std.proofs.Common.{◌≡◌, inl, inr, length, map, refl, sym, ap, ◌∙◌}
 use Rattle.std.proofs.lemmas.List.{length-map}
 use mathlib.Core.Bool.{false≢true}
 use Rattle.aql_block.specs.Tables.{rows_of}
+use Rattle.aql_block.specs.declared.calls.Call.{Call}
 use Rattle.aql_block.specs.declared.calls.Progress.TheVariants.{Done}
 use Rattle.aql_exec.specs.Counting.{nothing}
 use Rattle.aql_exec.proofs.Telling.{rises_none, ahead_none, led_none, no_other, only_port}
@@ -66,3 +67,18 @@ returns-clause-leads g c = (
   λ p body ins r ends h.
       (r, ahead_none r, h),
 )
+
+pub returns-then-self-clause-done : goal.returns-then-self-clause-done
+returns-then-self-clause-done g c p =
+    let me = c.args.self.now in
+    let f = g.M.RowMap.image me.by in
+    let port = only_port c.args._port c.requires.port in
+    let call : c.args.call ≡ me.last = (rw port at c.requires.may).0
+    (c.requires.valid.asked c.if-self.true) in
+    let out = c.in_ok-block.ensures ∙ ap (λ z. map f (rows_of z)) c.replace-block.ensures.value in
+    let count : length (rows_of c.in_ok-block.block) ≡ length (rows_of me.block) =
+    ap length out ∙ length-map (rows_of me.block) f in
+    elim (c.requires.valid.done c.if-self.true p) [
+      | inl e ↦ inl (count ∙ e ∙ sym (ap (λ (z : Call). z.hard) call))
+      | inr d ↦ inr (λ body ins ends r h. h.0 ∙ ap (map f) (ends 0 d))
+    ]

@@ -50,3 +50,30 @@ returns-then-call-gt0-clause-other_ports g c = (
   rises_none c.args._tally.now,
   λ p body s ins ins' r n o l e ends h. absurd (no_other c.args._port p c.requires.port n o),
 )
+
+pub returns-clause-leads : goal.returns-clause-leads
+returns-clause-leads g c =
+    let row = row_of c.in-Some.row in
+    let some = sym c.replace.ensures.value ∙ c.in-Some.is in
+    let given = c.in_ok-block.ensures.rows in (
+      nothing,
+      rises_none c.args._tally.now,
+      λ body s ins ins' l e ends r h.
+          (let after = rw c.replace.ensures.after at h in (
+            [],
+            record { rows = row ∷ []; counts = λ k. 0 },
+            refl,
+            record {
+              rows = sym (ap (λ z. z ++ r.rows) given ∙ ap (λ z. row ∷ z) after.0);
+              counts = λ k. (let n = after.1 k in omega (arith, n));
+            },
+            rw some (refl, λ k. refl),
+          )),
+    )
+
+pub returns-clause-other_ports : goal.returns-clause-other_ports
+returns-clause-other_ports g c = (
+  nothing,
+  rises_none c.args._tally.now,
+  λ p body s ins ins' r n o l e ends h. absurd (no_other c.args._port p c.requires.port n o),
+)

@@ -1,0 +1,3 @@
+pub mod SomeCounting
+pub mod SomeMerge
+pub mod SomeRest
