@@ -3,7 +3,6 @@ pub mod Counting
 pub mod Operators
 pub mod Steps
 pub mod Links
-pub mod Feet
 pub mod Streaming
 pub mod Mapping
 pub mod Limiting

@@ -10,9 +10,8 @@ ghost use Rattle.aql_exec.specs.Steps.{IsCall, InCall, Led, told};
 ghost use Rattle.aql_exec.specs.Operators.{OnRows, is_first};
 
 use crate::feed::{Executor, Place};
-use crate::links::Wired;
 use crate::transform::Transform;
-use crate::turns::{Message, Turn};
+use crate::turns::Turn;
 use aql_block::{Block, Call, Progress, Row, Step, Tally};
 use aql_value::OutOfMemory;
 use std::alloc::Global;
@@ -206,39 +205,4 @@ impl<W: Place, T: Transform<W>> Executor<W> for Stream<T> {
     ghost kept_room = { λ s w _ e _ _. rw e (le_refl _) };
 
     ghost own_links = { λ _ _ _ _ h. absurd h };
-}
-
-impl<W: Place, T: Transform<W>> Wired<W> for Stream<T> {
-    ghost use mathlib.Core.Bool.{false≢true};
-
-    ghost serves = { λ _. false };
-
-    fn owns(&self, _link: u64) -> bool {
-        false
-    }
-
-    fn begun(&self, input: u32) -> bool {
-        input == 0
-    }
-
-    fn received(&self) -> Option<Call> {
-        None
-    }
-
-    fn deliver(
-        &mut self,
-        _alloc: Global,
-        _world: &mut W,
-        _tally: &mut Tally,
-        _link: u64,
-        _message: Message,
-    ) -> Result<(), OutOfMemory> {
-        unreachable!()
-    }
-
-    ghost stuck_serves = { λ _ _ h. absurd h };
-
-    ghost may_serve = { λ _ _ e. absurd (false≢true e) };
-
-    ghost serves_port = { λ _ e. absurd (false≢true e) };
 }
