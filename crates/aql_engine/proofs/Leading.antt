@@ -117,14 +117,14 @@ ends_second b ins ended ended' n more ends (suc zero) q = n q
 ends_second b ins ended ended' n more ends (suc (suc k)) q =
     ends (suc (suc k)) (more (suc (suc k)) (not_one k) q)
 
--- ---- the steps of the loop. B says which rests were possible before the loop; R0 and R1 say it of the
--- inputs, and G of the executor; a prime is after the step
+-- ---- the steps of the loop. B says which rests were possible before the loop; Below and Body say it of the
+-- input and of the body, and G of the executor; a prime is after the step
 
-pub leads_init : (R0 R1 : Rest → Type 0) {S : Type 0} {owed : ℕ → ℕ} {ended : ℕ → Bool}
+pub leads_init : (Below Body : Rest → Type 0) {S : Type 0} {owed : ℕ → ℕ} {ended : ℕ → Bool}
     {G : (ℕ → Rest) → Rest → Type 0} → ((k : ℕ) → owed k ≡ 0)
-    → Leads R0 S R1 ended owed G nothing
-    (λ b. (ins : ℕ → Rest) × Ends ended ins × R0 (ins 0) × (S → R1 (ins 1)) × G ins b)
-leads_init R0 R1 none ins ends h0 h1 = (
+    → Leads Below S Body ended owed G nothing
+    (λ b. (ins : ℕ → Rest) × Ends ended ins × Below (ins 0) × (S → Body (ins 1)) × G ins b)
+leads_init Below Body none ins ends h0 h1 = (
   λ k. [],
   λ k. sym (none k),
   λ ins' e r h. (
@@ -133,20 +133,20 @@ leads_init R0 R1 none ins ends h0 h1 = (
     (
       ins',
       (λ k q. ap (λ z. z.rows) (e k) ∙ ends k q),
-      subst R0 (sym (e 0)) h0,
-      (λ s. subst R1 (sym (e 1)) (h1 s)),
+      subst Below (sym (e 0)) h0,
+      (λ s. subst Body (sym (e 1)) (h1 s)),
       h,
     ),
   ),
 )
 
 -- what was asked of input 0 came, and was taken
-pub leads_first : {R0 R1 R0' R1' B : Rest → Type 0} {S S' : Type 0} {owed owed' : ℕ → ℕ}
+pub leads_first : {Below Body Below' Body' B : Rest → Type 0} {S S' : Type 0} {owed owed' : ℕ → ℕ}
     {ended ended' : ℕ → Bool} {G G1 G' : (ℕ → Rest) → Rest → Type 0} {n d1 d2 : Counts} (step : Step)
-    → Leads R0 S R1 ended owed G n B
+    → Leads Below S Body ended owed G n B
     → ((ins : ℕ → Rest) (r : Rest) → EndsOwed ended owed ins → G1 ins r
     → (b : Rest) × Ahead [] d1 r b × G ins b)
-    → Led R0 d2 step R0' → (S → S') → (S → (r : Rest) → R1' r → R1 r)
+    → Led Below d2 step Below' → (S → S') → (S → (r : Rest) → Body' r → Body r)
     → (owed' 0 ≡ owed 0 + step.skipped) → ((j : ℕ) → (j ≡ 0 → ⊥) → owed' j ≡ owed j)
     → (ended 0 ≡ true → ⊥) → ((j : ℕ) → ended j ≡ true → ended' j ≡ true)
     → ((s0 s : List Row) (ins' ins : ℕ → Rest) (t b r : Rest) → length s0 ≡ owed 0
@@ -154,7 +154,7 @@ pub leads_first : {R0 R1 R0' R1' B : Rest → Type 0} {S S' : Type 0} {owed owed
     → ins' 0 ≡ with_rows (s0 ++ s) t → ins 0 ≡ with_rows s0 b
     → ((j : ℕ) → (j ≡ 0 → ⊥) → ins' j ≡ ins j) → EndsOwed ended' owed' ins' → G' ins' r
     → (q : Rest) × Ahead [] d2 r q × G1 ins q)
-    → Leads R0' S' R1' ended' owed' G' (plus n (plus d1 d2)) B
+    → Leads Below' S' Body' ended' owed' G' (plus n (plus d1 d2)) B
 leads_first {ended} {ended'} {d1} {d2} step leads turn led begun back o os not_ended more take
     ins ends h0 h1 =
     let a = led (ins 0) h0 in
@@ -173,12 +173,12 @@ leads_first {ended} {ended'} {d1} {d2} step leads turn led begun back o os not_e
     )
 
 -- the same for the body
-pub leads_second : {R0 R1 R0' R1' B : Rest → Type 0} {S S' : Type 0} {owed owed' : ℕ → ℕ}
+pub leads_second : {Below Body Below' Body' B : Rest → Type 0} {S S' : Type 0} {owed owed' : ℕ → ℕ}
     {ended ended' : ℕ → Bool} {G G1 G' : (ℕ → Rest) → Rest → Type 0} {n d1 d2 : Counts} (step : Step)
-    → Leads R0 S R1 ended owed G n B
+    → Leads Below S Body ended owed G n B
     → ((ins : ℕ → Rest) (r : Rest) → EndsOwed ended owed ins → G1 ins r
     → (b : Rest) × Ahead [] d1 r b × G ins b)
-    → Led R1 d2 step R1' → S' → ((r : Rest) → R0' r → R0 r)
+    → Led Body d2 step Body' → S' → ((r : Rest) → Below' r → Below r)
     → (owed' 1 ≡ owed 1 + step.skipped) → ((j : ℕ) → (j ≡ 1 → ⊥) → owed' j ≡ owed j)
     → (ended 1 ≡ true → ⊥) → ((j : ℕ) → ended j ≡ true → ended' j ≡ true)
     → ((s0 s : List Row) (ins' ins : ℕ → Rest) (t b r : Rest) → length s0 ≡ owed 1
@@ -186,7 +186,7 @@ pub leads_second : {R0 R1 R0' R1' B : Rest → Type 0} {S S' : Type 0} {owed owe
     → ins' 1 ≡ with_rows (s0 ++ s) t → ins 1 ≡ with_rows s0 b
     → ((j : ℕ) → (j ≡ 1 → ⊥) → ins' j ≡ ins j) → EndsOwed ended' owed' ins' → G' ins' r
     → (q : Rest) × Ahead [] d2 r q × G1 ins q)
-    → Leads R0' S' R1' ended' owed' G' (plus n (plus d1 d2)) B
+    → Leads Below' S' Body' ended' owed' G' (plus n (plus d1 d2)) B
 leads_second {ended} {ended'} {d1} {d2} step leads turn led begun back o os not_ended more take
     ins ends h0 h1 =
     let a = led (ins 1) (h1 begun) in
@@ -206,16 +206,16 @@ leads_second {ended} {ended'} {d1} {d2} step leads turn led begun back o os not_
     )
 
 -- the body was begun afresh
-pub leads_started : {R0 R1 R0' R1' B : Rest → Type 0} {S S' : Type 0} {owed owed' : ℕ → ℕ}
+pub leads_started : {Below Body Below' Body' B : Rest → Type 0} {S S' : Type 0} {owed owed' : ℕ → ℕ}
     {ended ended' : ℕ → Bool} {G G' : (ℕ → Rest) → Rest → Type 0} {n d1 : Counts} (body : Rest → Type 0)
-    → Leads R0 S R1 ended owed G n B
+    → Leads Below S Body ended owed G n B
     → ((ins ins' : ℕ → Rest) (r : Rest) → ((j : ℕ) → (j ≡ 1 → ⊥) → ins' j ≡ ins j) → body (ins' 1)
     → EndsOwed ended owed ins → G' ins' r → (b : Rest) × Ahead [] d1 r b × G ins b)
-    → ((r : Rest) → R1' r → body r) → S' → ((r : Rest) → R0' r → R0 r)
-    → ((r : Rest) × (ended 1 ≡ true → r.rows ≡ []) × (S → R1 r))
+    → ((r : Rest) → Body' r → body r) → S' → ((r : Rest) → Below' r → Below r)
+    → ((r : Rest) × (ended 1 ≡ true → r.rows ≡ []) × (S → Body r))
     → (owed' 1 ≡ 0) → ((j : ℕ) → (j ≡ 1 → ⊥) → owed' j ≡ owed j)
     → ((j : ℕ) → (j ≡ 1 → ⊥) → ended j ≡ true → ended' j ≡ true)
-    → Leads R0' S' R1' ended' owed' G' (plus n d1) B
+    → Leads Below' S' Body' ended' owed' G' (plus n d1) B
 leads_started {ended} {ended'} {d1} body leads turn runs begun back any o os more ins ends h0 h1 =
     let ends_old = ends_second any.0 ins ended ended' any.1 more ends in
     let d = leads (second any.0 ins) ends_old (back (ins 0) h0) any.2 in (
@@ -230,16 +230,16 @@ leads_started {ended} {ended'} {d1} body leads turn runs begun back any o os mor
     )
 
 -- what is given leads to what was possible at first
-pub leads_given : {R0 R1 R0' R1' B : Rest → Type 0} {S S' : Type 0} {owed : ℕ → ℕ}
+pub leads_given : {Below Body Below' Body' B : Rest → Type 0} {S S' : Type 0} {owed : ℕ → ℕ}
     {ended ended' : ℕ → Bool} {G G' : (ℕ → Rest) → Rest → Type 0} {n d1 : Counts} (step : Step)
-    → Leads R0 S R1 ended owed G n B
+    → Leads Below S Body ended owed G n B
     → ((s : ℕ → List Row) (ins ins' : ℕ → Rest) → ((j : ℕ) → length (s j) ≡ owed j)
     → ((j : ℕ) → ins' j ≡ with_rows (s j) (ins j)) → EndsOwed ended owed ins'
     → Led (G ins') d1 step (G' ins))
-    → ((r : Rest) → R0' r → R0 r) → (S → (r : Rest) → R1' r → R1 r) → (S → S')
+    → ((r : Rest) → Below' r → Below r) → (S → (r : Rest) → Body' r → Body r) → (S → S')
     → ((j : ℕ) → ended j ≡ true → ended' j ≡ true)
     → Led B (plus n d1) step
-    (λ r. (ins : ℕ → Rest) × Ends ended' ins × R0' (ins 0) × (S' → R1' (ins 1)) × G' ins r)
+    (λ r. (ins : ℕ → Rest) × Ends ended' ins × Below' (ins 0) × (S' → Body' (ins 1)) × G' ins r)
 leads_given {ended} {d1} step leads gives back0 back1 begun more r h =
     let ends : Ends ended h.0 = λ k q. h.1 k (more k q) in
     let d = leads h.0 ends (back0 _ h.2) (λ s. back1 s _ (h.3 (begun s))) in
@@ -249,15 +249,15 @@ leads_given {ended} {d1} step leads gives back0 back1 begun more r h =
     (a.0, f.0, a.2, ahead_then _ _ _ _ _ _ a.3 f.1, f.2)
 
 -- where another port gave something, a rest of this port leads to what was possible at first
-pub leads_beside : {R0 R1 R0' R1' B : Rest → Type 0} {S S' : Type 0} {owed : ℕ → ℕ}
+pub leads_beside : {Below Body Below' Body' B : Rest → Type 0} {S S' : Type 0} {owed : ℕ → ℕ}
     {ended ended' : ℕ → Bool} {G G' : (ℕ → Rest) → Rest → Type 0} {n d1 : Counts}
-    → Leads R0 S R1 ended owed G n B
+    → Leads Below S Body ended owed G n B
     → ((s : ℕ → List Row) (ins ins' : ℕ → Rest) (r : Rest) → ((j : ℕ) → length (s j) ≡ owed j)
     → ((j : ℕ) → ins' j ≡ with_rows (s j) (ins j)) → EndsOwed ended owed ins' → G' ins r
     → (b : Rest) × Ahead [] d1 r b × G ins' b)
-    → ((r : Rest) → R0' r → R0 r) → (S → (r : Rest) → R1' r → R1 r) → (S → S')
+    → ((r : Rest) → Below' r → Below r) → (S → (r : Rest) → Body' r → Body r) → (S → S')
     → ((j : ℕ) → ended j ≡ true → ended' j ≡ true) → (r : Rest)
-    → ((ins : ℕ → Rest) × Ends ended' ins × R0' (ins 0) × (S' → R1' (ins 1)) × G' ins r)
+    → ((ins : ℕ → Rest) × Ends ended' ins × Below' (ins 0) × (S' → Body' (ins 1)) × G' ins r)
     → (b : Rest) × Ahead [] (plus n d1) r b × B b
 leads_beside {ended} {d1} leads other back0 back1 begun more r h =
     let ends : Ends ended h.0 = λ k q. h.1 k (more k q) in

@@ -1,4 +1,5 @@
-//! Executors: the laws that feeds and executors keep, and the executors that need no documents.
+//! Executors: the laws that feeds and executors keep, and the executors for LET, FILTER, LIMIT and
+//! RETURN.
 #![tactic(auto)]
 
 mod calculation;

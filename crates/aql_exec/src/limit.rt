@@ -141,7 +141,8 @@ fn tells(progress: Progress, skipped: u64, skip: u64, rows: u32) -> bool
 }
 
 impl<W: Place> Executor<W> for Limit {
-    ghost use Rattle.aql_exec.specs.Limiting.{gives_limit, some_limit, more_limit, owed_limit, AsksLimit, asks_limit, may_limit};
+    ghost use Rattle.aql_exec.specs.Limiting.{gives_limit, some_limit, more_limit, owed_limit};
+    ghost use Rattle.aql_exec.specs.Limiting.{AsksLimit, asks_limit, may_limit};
     ghost use Rattle.aql_exec.specs.Limiting.{LimitIs, room_limit, waited_limit, patience_limit};
     ghost use Rattle.aql_exec.specs.Streaming.{ended_first};
     ghost use Rattle.std.proofs.Math.Nat.{le_refl};

@@ -88,7 +88,8 @@ pub(crate) fn ended_early(progress: Progress, rows: u32, hard: u64) -> bool
 }
 
 impl<W: Place, M: RowMap<W>> Executor<W> for Mapped<M> {
-    ghost use Rattle.aql_exec.specs.Mapping.{gives_mapped, some_mapped, more_mapped, owed_mapped, AsksOn, asks_on, may_at};
+    ghost use Rattle.aql_exec.specs.Mapping.{gives_mapped, some_mapped, more_mapped, owed_mapped};
+    ghost use Rattle.aql_exec.specs.Mapping.{AsksOn, asks_on, may_at};
     ghost use Rattle.aql_exec.specs.Mapping.{MappedIs, room_mapped, waited_mapped};
     ghost use Rattle.aql_exec.specs.Streaming.{ended_first};
     ghost use Rattle.std.proofs.Math.Nat.{le_refl};

@@ -307,8 +307,8 @@ turn_node-loop-at-preserved-in-Continue-branch-4 g t c =
         begun_is = started_is 0 ∙ inv.begun_is;
         added = plus inv.added (plus m_leads.0 led.0);
         rises = rises_then _ _ _ _ _ inv.rises (rises_then _ _ _ _ _ m_leads.1 led.1);
-        leads = leads_first {R0 = TreeRests x p below w} {R1 = TreeRests x p body w}
-            {R1' = TreeRests x p body w2} step inv.leads (λ ins r ends h. m_leads.2 0 plan ins r ends h)
+        leads = leads_first {Below = TreeRests x p below w} {Body = TreeRests x p body w}
+            {Body' = TreeRests x p body w2} step inv.leads (λ ins r ends h. m_leads.2 0 plan ins r ends h)
             (λ r h. (let o = led.2 r h in (
               o.0,
               o.1,
@@ -488,8 +488,8 @@ turn_node-loop-at-preserved-in-Continue-branch-6 g t c =
         begun_is = started_is 0 ∙ inv.begun_is;
         added = plus inv.added (plus m_leads.0 led.0);
         rises = rises_then _ _ _ _ _ inv.rises (rises_then _ _ _ _ _ m_leads.1 led.1);
-        leads = leads_second {R0 = TreeRests x p below w} {R1 = TreeRests x p body w}
-            {R0' = TreeRests x p below w2} step inv.leads (λ ins r ends h. m_leads.2 0 plan ins r ends h)
+        leads = leads_second {Below = TreeRests x p below w} {Body = TreeRests x p body w}
+            {Below' = TreeRests x p below w2} step inv.leads (λ ins r ends h. m_leads.2 0 plan ins r ends h)
             (λ r h. (let o = led.2 r h in (
               o.0,
               o.1,
@@ -741,8 +741,8 @@ turn_node-returns-in-Give-clause-beside g t c n =
       plus inv.added m_others.0,
       rises_then _ _ _ _ _ inv.rises m_others.1,
       λ r h.
-          leads_beside {R0 = TreeRests x p below w} {R1 = TreeRests x p body w} {R0' = TreeRests x p below w1}
-          {R1' = TreeRests x p body w1} inv.leads
+          leads_beside {Below = TreeRests x p below w} {Body = TreeRests x p body w} {Below' = TreeRests x p below w1}
+          {Body' = TreeRests x p body w1} inv.leads
           (λ s ins ins' r lens e ends h.
           m_others.2 0 plan s ins ins' r (λ e. n (sym e)) (inl refl) lens e ends h)
           (λ r h. tree_kept_rests x p m.kept_gives below w w1 turned.stock a.below_kept r h)
