@@ -1,10 +1,13 @@
 -- What steps tell: nothing, rows, or rows that were skipped.
-use Rattle.std.proofs.Common.{◌≡◌, ℕ, ◌<◌, ◌⊎◌, inl, inr, [], refl, sym, ◌∙◌, arith}
+use Rattle.std.proofs.Common.{◌≡◌, ℕ, ◌<◌, ◌⊎◌, inl, inr, List, [], ◌++◌, length, refl, sym, ap, ◌∙◌, arith}
+use Rattle.std.proofs.lemmas.List.{append-nil}
+use Rattle.aql_meaning.specs.Row.{Row}
 use Rattle.aql_block.specs.declared.calls.Step.{Step}
 use Rattle.aql_block.specs.declared.tally.Tally.{Tally}
 use Rattle.aql_exec.specs.Rests.{Counts, Rest, Ahead, Rises}
 use Rattle.aql_exec.specs.Counting.{nothing}
 use Rattle.aql_exec.specs.Steps.{given, Led}
+use Rattle.aql_exec.specs.Leaves.{gives_alone}
 
 pub rises_none : (t : Tally) → Rises t t nothing
 rises_none t c = (omega arith, omega arith)
@@ -33,3 +36,17 @@ only_port port (inr h) = omega (arith, h)
 -- a node with one port has no other port
 pub no_other : (port p : ℕ) → (port ≡ 0) ⊎ (port < 1) → (p ≡ port → ⊥) → (p ≡ 0) ⊎ (p < 1) → ⊥
 no_other port p a n b = n (only_port p b ∙ sym (only_port port a))
+
+-- an executor without inputs tells of all its rows
+pub all_told : (rows s left : List Row) (step : Step) → length s ≡ step.skipped → s ++ given step ≡ rows
+    → left ≡ [] → Led (gives_alone rows) nothing step (gives_alone left)
+all_told rows s left step l e none r h = (
+  s,
+  record { rows = rows; counts = λ c. 0 },
+  l,
+  record {
+    rows = sym e ∙ sym (append-nil (s ++ given step)) ∙ ap (λ z. (s ++ given step) ++ z) (sym (h.0 ∙ none));
+    counts = λ c. (let n = h.1 c in omega (arith, n));
+  },
+  (refl, λ c. refl),
+)

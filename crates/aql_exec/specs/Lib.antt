@@ -6,7 +6,9 @@ pub mod Links
 pub mod Streaming
 pub mod Mapping
 pub mod Limiting
+pub mod Leaves
 pub mod RowMaps
 pub mod Filters
+pub mod FirstResults
 pub mod BlockRows
 pub mod laws

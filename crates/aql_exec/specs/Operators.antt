@@ -160,6 +160,14 @@ arity (WithBody x) = 2
 arity (Gather n directions es) = n
 arity _ = 1
 
+-- what is said of inputs holds where there are some
+abbrev pub OfSome : ℕ → Type 0 → Type 0
+OfSome zero said = Unit {0}
+OfSome (suc n) said = said
+
+abbrev pub OfInputs : Operator → Type 0 → Type 0
+OfInputs o said = OfSome (arity o) said
+
 abbrev pub is_first : ℕ → Bool
 is_first zero = true
 is_first (suc k) = false

@@ -14,7 +14,7 @@ ghost use Rattle.aql_exec.specs.Rests.{Counts, Rest, with_rows, Ahead, Rises, Ov
 ghost use Rattle.aql_exec.specs.Steps.{IsCall, MatchTurn, given, told, InCall};
 ghost use Rattle.aql_exec.specs.Steps.{unless_waiting, weight, Led, Follows};
 ghost use Rattle.aql_exec.specs.Operators.{Operator, OperatorTree, Makes, Produces};
-ghost use Rattle.aql_exec.specs.Operators.{IsTree, IsOperator, arity, ports, begins, drains};
+ghost use Rattle.aql_exec.specs.Operators.{IsTree, IsOperator, arity, ports, begins, drains, OfInputs};
 
 use crate::turns::Turn;
 use aql_block::{Call, Progress, Row, Step, Tally};
@@ -308,8 +308,9 @@ pub trait Executor<W: Place> {
     fn take(&mut self, alloc: Global, port: u32, input: u32, step: Step) -> Result<(), OutOfMemory>
         requires valid { (w : W) × valid self.old w }
         requires node { (facts : Facts) × IsOperator facts (node self.old) }
-        requires input { input < arity (node self.old) }
-        requires asked { (ask : Call) × asking self.old input ask × InCall ask step }
+        requires input { OfInputs (node self.old) (input < arity (node self.old)) }
+        requires asked { OfInputs (node self.old)
+            ((ask : Call) × asking self.old input ask × InCall ask step) }
         requires more { step.progress ≡ Progress.HasMore → 0 < told step }
         ensures node { node self.new ≡ node self.old }
         ensures full { (f : ℕ) → full self.new f ≡ full self.old f }
@@ -332,9 +333,11 @@ pub trait Executor<W: Place> {
         ensures ended { (k : ℕ) → ended self.new k ≡ true → (ended self.old k ≡ true)
             ⊎ ((k ≡ input) × (step.progress ≡ Progress.Done)
             × ((ask : Call) → asking self.old input ask → length (given step) ≡ ask.hard → ⊥)) }
-        ensures owed { OnOk result ((owed self.new input ≡ owed self.old input + step.skipped)
-            × ((j : ℕ) → (j ≡ input → ⊥) → owed self.new j ≡ owed self.old j)) }
-        ensures leads { OnOk result ((w : W) (p : ℕ) (body : OperatorTree) (d : Counts)
+        ensures owed { OnOk result (OfInputs (node self.old)
+            ((owed self.new input ≡ owed self.old input + step.skipped)
+            × ((j : ℕ) → (j ≡ input → ⊥) → owed self.new j ≡ owed self.old j))) }
+        ensures leads { OnOk result (OfInputs (node self.old)
+            ((w : W) (p : ℕ) (body : OperatorTree) (d : Counts)
             (s0 s : List meaning.Row)
             (ins' ins : ℕ → Rest) (t b r : Rest) →
             length s0 ≡ owed self.old input → length s ≡ step.skipped
@@ -343,12 +346,12 @@ pub trait Executor<W: Place> {
             → ((j : ℕ) → (j ≡ input → ⊥) → ins' j ≡ ins j)
             → EndsOwed (ended self.new) (owed self.new) ins' →
             gives self.new w p body ins' r → (q : Rest) × Ahead [] d r q
-            × gives self.old w p body ins q) }
-        ensures patience { OnOk result
-            (patience self.new + 1 ≤ patience self.old + unless_waiting step.progress * weight) }
-        ensures room { OnOk result ((w : W) (f : ℕ)
+            × gives self.old w p body ins q)) }
+        ensures patience { OnOk result (OfInputs (node self.old)
+            (patience self.new + 1 ≤ patience self.old + unless_waiting step.progress * weight)) }
+        ensures room { OnOk result (OfInputs (node self.old) ((w : W) (f : ℕ)
             → room self.new w f + unless_waiting step.progress ≤ room self.old w f + charge self.old
-            input f * told step) };
+            input f * told step)) };
 
     /// there is always a rest
     ghost some: { (s : Self) (w : W) (p : ℕ) (body : OperatorTree) (ins : ℕ → Rest) → valid s w

@@ -10,6 +10,7 @@ ghost use Rattle.aql_exec.specs.Operators.{OnRows, is_first};
 use crate::feed::{Executor, Place};
 use crate::mapped::ended_early;
 use crate::turns::Turn;
+use crate::unlinked::Unlinked;
 use aql_block::{Block, Call, Progress, Row, Step, Tally};
 use aql_value::OutOfMemory;
 use std::alloc::Global;
@@ -271,4 +272,14 @@ impl<W: Place> Executor<W> for Limit {
     ghost kept_room = { λ s _ _ _ _ _. le_refl (room_limit s) };
 
     ghost own_links = { λ _ _ _ _ h. absurd h };
+}
+
+impl<W: Place> Unlinked<W> for Limit {
+    fn begun(&self, input: u32) -> bool {
+        input == 0
+    }
+
+    ghost no_links = { λ _ _ h. absurd h };
+
+    ghost not_stuck = { λ _ _ h. absurd h };
 }

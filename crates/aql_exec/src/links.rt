@@ -66,7 +66,7 @@ pub trait Wired<W: Place>: Executor<W> {
         ensures { MatchOption result (serves self.now ≡ false)
             (λ c. (serves self.now ≡ true) × IsCall c) };
 
-    /// a message that was taken off a link of its own
+    /// a message that was taken off a link; of one of its own it takes what it says
     fn deliver(
         &mut self,
         alloc: Global,
@@ -78,7 +78,6 @@ pub trait Wired<W: Place>: Executor<W> {
         requires taken { (w : W) × Self.valid self.old w
             × Taken (W.stock w) (W.stock world.old) (W.links w) (W.links world.old) (W.flight w)
             (W.flight world.old) link message }
-        requires ours { Self.ours self.old link }
         requires node { IsOperator (W.stock world.old).facts (Self.node self.old) }
         ensures node { Self.node self.new ≡ Self.node self.old }
         ensures full { (f : ℕ) → Self.full self.new f ≡ Self.full self.old f }
@@ -90,7 +89,7 @@ pub trait Wired<W: Place>: Executor<W> {
             → W.flight world.new l ≡ W.flight world.old l }
         ensures ours { OnOk result
             ((l : ℕ) → Self.ours self.new l → Self.ours self.old l ⊎ (W.links world.old ≤ l)) }
-        ensures valid { OnOk result (Self.valid self.new world.new) }
+        ensures valid { OnOk result (Self.ours self.old link → Self.valid self.new world.new) }
         ensures inputs { OnOk result ((k : ℕ) → (Self.started self.new k ≡ Self.started self.old k)
             × (Self.ended self.new k ≡ Self.ended self.old k)
             × (Self.owed self.new k ≡ Self.owed self.old k)
@@ -100,13 +99,13 @@ pub trait Wired<W: Place>: Executor<W> {
         ensures may { OnOk result
             ((p : ℕ) (c : Call) → Self.may self.old p c → Self.may self.new p c) }
         ensures busy { OnOk result (Self.busy self.new → Self.busy self.old) }
-        ensures undisturbed { OnOk result ((w : W) → Self.valid self.old w
+        ensures undisturbed { OnOk result (Self.ours self.old link → (w : W) → Self.valid self.old w
             → Taken (W.stock w) (W.stock world.old) (W.links w) (W.links world.old) (W.flight w)
             (W.flight world.old) link message → (d : Counts) × Rises tally.old tally.new d
             × ((p : ℕ) (body : OperatorTree) (ins : ℕ → Rest) (r : Rest)
             → Self.gives self.new world.new p body ins r → (b : Rest) × Ahead [] d r b
             × Self.gives self.old w p body ins b)) }
-        ensures room { OnOk result ((w : W) → Self.valid self.old w
+        ensures room { OnOk result (Self.ours self.old link → (w : W) → Self.valid self.old w
             → Taken (W.stock w) (W.stock world.old) (W.links w) (W.links world.old) (W.flight w)
             (W.flight world.old) link message → (f : ℕ)
             → Self.room self.new world.new f ≤ Self.room self.old w f) };

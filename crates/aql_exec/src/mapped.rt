@@ -11,6 +11,7 @@ ghost use Rattle.aql_exec.specs.Operators.{OnRows, is_first};
 
 use crate::feed::{Executor, Place};
 use crate::turns::Turn;
+use crate::unlinked::Unlinked;
 use aql_block::{Block, Call, Progress, Row, Step, Tally};
 use aql_value::OutOfMemory;
 use std::alloc::Global;
@@ -204,4 +205,14 @@ impl<W: Place, M: RowMap<W>> Executor<W> for Mapped<M> {
     ghost kept_room = { λ s _ _ _ _ _. le_refl (room_mapped s) };
 
     ghost own_links = { λ _ _ _ _ h. absurd h };
+}
+
+impl<W: Place, M: RowMap<W>> Unlinked<W> for Mapped<M> {
+    fn begun(&self, input: u32) -> bool {
+        input == 0
+    }
+
+    ghost no_links = { λ _ _ h. absurd h };
+
+    ghost not_stuck = { λ _ _ h. absurd h };
 }

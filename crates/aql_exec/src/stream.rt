@@ -12,6 +12,7 @@ ghost use Rattle.aql_exec.specs.Operators.{OnRows, is_first};
 use crate::feed::{Executor, Place};
 use crate::transform::Transform;
 use crate::turns::Turn;
+use crate::unlinked::Unlinked;
 use aql_block::{Block, Call, Progress, Row, Step, Tally};
 use aql_value::OutOfMemory;
 use std::alloc::Global;
@@ -205,4 +206,14 @@ impl<W: Place, T: Transform<W>> Executor<W> for Stream<T> {
     ghost kept_room = { λ s w _ e _ _. rw e (le_refl _) };
 
     ghost own_links = { λ _ _ _ _ h. absurd h };
+}
+
+impl<W: Place, T: Transform<W>> Unlinked<W> for Stream<T> {
+    fn begun(&self, input: u32) -> bool {
+        input == 0
+    }
+
+    ghost no_links = { λ _ _ h. absurd h };
+
+    ghost not_stuck = { λ _ _ h. absurd h };
 }

@@ -50,7 +50,7 @@ pub fn values_in(alloc: Global, e: &Expr, block: &Block) -> Result<Vec<Value>, O
 }
 
 /// Takes the first rows of a block out, at most so many.
-pub(crate) fn take_front(alloc: Global, held: &mut Block, most: u64) -> Result<Block, OutOfMemory>
+pub fn take_front(alloc: Global, held: &mut Block, most: u64) -> Result<Block, OutOfMemory>
     ensures front { IfOk result (λ front. rows_of front ≡ take most (rows_of held.old)) }
     ensures rest { OnOk result (rows_of held.new ≡ drop most (rows_of held.old)) }
 {

@@ -1,0 +1,130 @@
+//! The start row.
+
+ghost use Rattle.std.specs.Prelude.{◌≡◌, ℕ, length, false};
+ghost use Rattle.std.proofs.Math.Nat.{le_refl};
+ghost use Rattle.aql_exec.specs.Operators.{StartRow};
+
+use crate::feed::{Executor, Place};
+use crate::turns::Turn;
+use crate::unlinked::Unlinked;
+use aql_block::{Block, Call, Progress, Row, Step, Tally};
+use aql_value::OutOfMemory;
+use std::alloc::Global;
+
+/// Gives the row that it was begun from, once.
+#[derive(Drop)]
+pub struct Singleton {
+    /// the row, until it is given or skipped
+    row: Option<Row>,
+}
+
+impl Singleton {
+    /// It gives nothing before it begins.
+    pub fn new() -> Singleton {
+        Singleton { row: None }
+    }
+}
+
+impl<W: Place> Executor<W> for Singleton {
+    ghost use Rattle.aql_exec.specs.Leaves.{held_row, gives_alone, some_alone, more_alone};
+
+    ghost gives = { λ s _ _ _ _ r. gives_alone (held_row s.row) r };
+
+    ghost node = { λ _. StartRow };
+
+    ghost owed = { λ _ _. 0 };
+
+    ghost asking = { λ _ _ _. ⊥ };
+
+    ghost ended = { λ _ _. false };
+
+    ghost started = { λ _ _. false };
+
+    ghost valid = { λ _ _. Unit {0} };
+
+    ghost ours = { λ _ _. ⊥ };
+
+    ghost waited = { λ _ _. ⊥ };
+
+    ghost stuck = { λ _ _. ⊥ };
+
+    ghost room = { λ s _ _. length (held_row s.row) };
+
+    ghost full = { λ _ _. 1 };
+
+    ghost charge = { λ _ _ _. 0 };
+
+    ghost may = { λ _ _ _. Unit {0} };
+
+    ghost asks = { λ _ _ _. ⊥ };
+
+    ghost patience = { λ _. 0 };
+
+    ghost busy = { λ _. ⊥ };
+
+    fn begin(&mut self, alloc: Global, start: &Row) -> Result<(), OutOfMemory> {
+        self.row = Some(start.copy(alloc)?);
+        Ok(())
+    }
+
+    fn turn(
+        &mut self,
+        alloc: Global,
+        _port: u32,
+        _world: &mut W,
+        call: Call,
+        _tally: &mut Tally,
+    ) -> Result<Turn, OutOfMemory> {
+        let Some(row) = self.row.take() else {
+            return Ok(Turn::Give(Step {
+                skipped: 0,
+                block: Block::empty(alloc),
+                progress: Progress::Done,
+            }));
+        };
+        if call.offset > 0 {
+            return Ok(Turn::Give(Step {
+                skipped: 1,
+                block: Block::empty(alloc),
+                progress: Progress::Done,
+            }));
+        }
+        Ok(Turn::Give(Step {
+            skipped: 0,
+            block: Block::from_row(alloc, row)?,
+            progress: Progress::Done,
+        }))
+    }
+
+    fn take(
+        &mut self,
+        _alloc: Global,
+        _port: u32,
+        _input: u32,
+        _step: Step,
+    ) -> Result<(), OutOfMemory> {
+        Ok(())
+    }
+
+    ghost some = { λ s _ _ _ _ _. some_alone (held_row s.row) };
+
+    ghost more_counts = { λ _ _ _ _ _ _ _ _ _ e _ _ _. more_alone e };
+
+    ghost kept_gives = { λ _ _ _ _ _ _ _ _ _ h. h };
+
+    ghost kept_valid = { λ _ _ _ _ _ _ h. h };
+
+    ghost kept_room = { λ s _ _ _ _ _. le_refl (length (held_row s.row)) };
+
+    ghost own_links = { λ _ _ _ _ h. absurd h };
+}
+
+impl<W: Place> Unlinked<W> for Singleton {
+    fn begun(&self, _input: u32) -> bool {
+        false
+    }
+
+    ghost no_links = { λ _ _ h. absurd h };
+
+    ghost not_stuck = { λ _ _ h. absurd h };
+}
