@@ -1,0 +1,4 @@
+pub mod Holding
+pub mod Known
+pub mod Held
+pub mod laws
