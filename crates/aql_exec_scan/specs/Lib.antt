@@ -1,0 +1,4 @@
+pub mod Shelves
+pub mod Scans
+pub mod Lists
+pub mod laws
