@@ -1,0 +1,4 @@
+pub mod Keys
+pub mod Sorting
+pub mod Subqueries
+pub mod laws
