@@ -1,0 +1,5 @@
+pub mod Merging
+pub mod Given
+pub mod Fragmented
+pub mod Sound
+pub mod Trees
