@@ -1,6 +1,6 @@
 -- What is known of the inputs of a node of a tree, after its executor was turned and after an input was
 -- pulled.
-use Rattle.std.proofs.Common.{ℕ, ◌≡◌, ◌<◌, ◌≤◌, ◌⊎◌, inl, inr, length, Bool, true, refl, sym, ◌∙◌, arith}
+use Rattle.std.proofs.Common.{ℕ, zero, suc, ◌≡◌, ◌<◌, ◌≤◌, ◌⊎◌, inl, inr, length, Bool, true, refl, sym, ◌∙◌, arith}
 use Rattle.aql_block.specs.declared.calls.Call.{Call}
 use Rattle.aql_block.specs.declared.calls.Step.{Step}
 use Rattle.aql_block.specs.declared.tally.Tally.{Tally}
@@ -9,6 +9,7 @@ use Rattle.aql_exec.specs.declared.feed.Executor.{Ghosts}
 use Rattle.aql_exec.specs.declared.feed.Place
 use Rattle.aql_exec.specs.Rests.{Rest, Over}
 use Rattle.aql_exec.specs.Steps.{IsCall, Follows, given}
+use Rattle.aql_exec.specs.Operators.{Operator, arity, OfSome, OfInputs}
 use Rattle.aql_engine.specs.declared.tree.Tree.{Tree}
 use Rattle.aql_engine.specs.Tree.{Input, Flies, WaitsAt, TreeRests, TreeOwn, TreeMay, TreeValid, NodeValid}
 use Rattle.aql_engine.specs.laws.Trees.{KeptGives, KeptValid, OwnLinks, tree_kept_rests, tree_kept_valid, tree_own_links, flies_kept}
@@ -23,6 +24,14 @@ is_below h i = omega (arith, h, i)
 -- a link that was there is not new
 pub not_new : {l n : ℕ} → l < n → n ≤ l → ⊥
 not_new h i = absurd (omega (arith, h, i))
+
+-- what is said of inputs, where there is one
+some_said : (n : ℕ) {said : Type 0} → 1 ≤ n → OfSome n said → said
+some_said zero some h = absurd (omega (arith, some))
+some_said (suc n) some h = h
+
+pub of_inputs : {o o' : Operator} {said : Type 0} → o ≡ o' → 1 ≤ arity o' → OfInputs o said → said
+of_inputs {o = o} e some h = some_said (arity o) (rw e some) h
 
 -- what is known of an input that was just pulled
 pub pulled_input : {valid : Type 0} {may asks' : Call → Type 0} {rests : Rest → Type 0}

@@ -4,3 +4,6 @@ pub mod Inputs
 pub mod Rooms
 pub mod Delivering
 pub mod Running
+pub mod Flying
+pub mod Returned
+pub mod CanRun

@@ -9,7 +9,7 @@ use Rattle.aql_exec.specs.Counting.{nothing}
 use Rattle.aql_engine.specs.Tree.{Waits, WaitsAt, tree_plan, TreeRests, TreeOwn, NodeValid}
 use Rattle.aql_engine.specs.laws.Trees.{tree_kept_rests, tree_some, choose}
 use Rattle.aql_engine.proofs.Leading.{plus, rises_then, rises_none, leads_init, leads_first, leads_second, leads_started, leads_given, leads_beside, one_zero, zero_one}
-use Rattle.aql_engine.proofs.Inputs.{at_most, is_below, not_new, pulled_input, input_weaker, input_kept, fewer_wait, turned_inputs}
+use Rattle.aql_engine.proofs.Inputs.{of_inputs, at_most, is_below, not_new, pulled_input, input_weaker, input_kept, fewer_wait, turned_inputs}
 use Rattle.aql_engine.proofs.Rooms.{falls, starts, more_patience, le_more, below_pulled, body_pulled, body_begun, node_given, of_two, below_two, at_body}
 use Rattle.aql_engine.proofs.tree.+pull.Goals as goal
 
@@ -222,6 +222,8 @@ turn_node-loop-at-smaller-in-Continue-branch-4 g t c =
     let m_patience = rw c.in-Ask.is at turned.patience in
     let pulled = c.in_ok-step-in-Ask.ensures in
     let taken = c.in_ok-take-in-Ask.ensures in
+    let node_is = turned.node ∙ c.loop-at.invariant.1.node_kept in
+    let some = c.requires.plan.0 in
     let step = c.in_ok-step-in-Ask.step in
     let fell = below_pulled x p m.kept_room c.args.x.now c.loop-at.x x1 c.take.new.self c.args.body.now
     c.loop-at.below c.pull.new.self c.loop-at.body c.loop-at.world w1 c.pull.new.world (told step)
@@ -230,8 +232,9 @@ turn_node-loop-at-smaller-in-Continue-branch-4 g t c =
     (λ s l o. pulled.others l (is_below (a.body_links s l o) turned.grows)
     (λ q. links.between l q (s, o)))
     (taken.started 1 ∙ (inputs 1).0) (λ k f. turned.charge k f ∙ c.loop-at.invariant.1.charge_kept k f)
-    m_room (taken.room c.pull.new.world) pulled.room in
-    falls _ _ _ _ (unless_waiting step.progress) fell (more_patience _ _ _ _ taken.patience m_patience)
+    m_room (of_inputs node_is some taken.room c.pull.new.world) pulled.room in
+    falls _ _ _ _ (unless_waiting step.progress) fell
+    (more_patience _ _ _ _ (of_inputs node_is some taken.patience) m_patience)
 
 pub turn_node-loop-at-preserved-in-Continue-branch-4 : goal.turn_node-loop-at-preserved-in-Continue-branch-4
 turn_node-loop-at-preserved-in-Continue-branch-4 g t c =
@@ -261,6 +264,8 @@ turn_node-loop-at-preserved-in-Continue-branch-4 g t c =
     let m_busy = rw c.in-Ask.is at turned.busy in
     let pulled = c.in_ok-step-in-Ask.ensures in
     let taken = c.in_ok-take-in-Ask.ensures in
+    let node_is = turned.node ∙ c.loop-at.invariant.1.node_kept in
+    let some = c.requires.plan.0 in
     let step = c.in_ok-step-in-Ask.step in
     let led = pulled.leads in
     let plan = tree_plan x p c.args.body.now in
@@ -277,7 +282,7 @@ turn_node-loop-at-preserved-in-Continue-branch-4 g t c =
     below c.pull.new.self body w w1 w2 (told step) (unless_waiting step.progress) a turned.stock
     pulled.stock
     x_kept d_kept (started_is 1) (λ k f. turned.charge k f ∙ kept.charge_kept k f)
-    m_room (taken.room w2) pulled.room in (
+    m_room (of_inputs node_is some taken.room w2) pulled.room in (
       record {
         executor_valid = taken.valid w2 (m.kept_valid x1 w1 w2 pulled.stock pulled.grows x_kept turned.valid);
         below_is = pulled_input step c.in-Ask.ask pulled.valid (started_is 0 ∙ asked.1)
@@ -319,10 +324,11 @@ turn_node-loop-at-preserved-in-Continue-branch-4 g t c =
             (λ s. started_is 1 ∙ s)
             (λ s r h. tree_kept_rests x p m.kept_gives body w w1 turned.stock (a.body_kept s) r
             (tree_kept_rests x p m.kept_gives body w1 w2 pulled.stock (d_kept s) r h))
-            (taken.owed.0 ∙ ap (λ n. n + step.skipped) (m_owed 0)) (λ j h. taken.owed.1 j h ∙ m_owed j) asked.5
+            ((of_inputs node_is some taken.owed).0 ∙ ap (λ n. n + step.skipped) (m_owed 0))
+            (λ j h. (of_inputs node_is some taken.owed).1 j h ∙ m_owed j) asked.5
             (λ j e. taken.stays j ((inputs j).1 ∙ e))
             (λ s0 s ins' ins q b r l0 l1 ahead e0 e1 os ends h.
-            (let o = taken.leads w2 0 plan led.0 s0 s ins' ins
+            (let o = of_inputs node_is some taken.leads w2 0 plan led.0 s0 s ins' ins
             q b r (l0 ∙ sym (m_owed 0)) l1 ahead e0 e1 os ends h in
             (o.0, o.1, m.kept_gives x1 w1 w2 pulled.stock x_kept 0 plan ins o.0 o.2)));
       },
@@ -399,6 +405,8 @@ turn_node-loop-at-smaller-in-Continue-branch-6 g t c =
     let m_patience = rw c.in-Ask.is at turned.patience in
     let pulled = c.in_ok-step-in-Ask-2.ensures in
     let taken = c.in_ok-take-in-Ask-2.ensures in
+    let node_is = turned.node ∙ c.loop-at.invariant.1.node_kept in
+    let some = c.requires.plan.0 in
     let step = c.in_ok-step-in-Ask-2.step in
     let fell = body_pulled x p m.kept_room c.args.x.now c.loop-at.x x1 c.take-else-at-eq0.new.self
     c.args.body.now
@@ -408,8 +416,10 @@ turn_node-loop-at-smaller-in-Continue-branch-6 g t c =
     (λ l o. pulled.others l (is_below (a.below_links l o) turned.grows)
     (λ q. links.between l o (begun, q)))
     begun (taken.started 1 ∙ (inputs 1).0 ∙ begun)
-    (λ k f. turned.charge k f ∙ kept.charge_kept k f) m_room (taken.room w2) pulled.room in
-    falls _ _ _ _ (unless_waiting step.progress) fell (more_patience _ _ _ _ taken.patience m_patience)
+    (λ k f. turned.charge k f ∙ kept.charge_kept k f) m_room
+    (of_inputs node_is some taken.room w2) pulled.room in
+    falls _ _ _ _ (unless_waiting step.progress) fell
+    (more_patience _ _ _ _ (of_inputs node_is some taken.patience) m_patience)
 
 pub turn_node-loop-at-preserved-in-Continue-branch-6 : goal.turn_node-loop-at-preserved-in-Continue-branch-6
 turn_node-loop-at-preserved-in-Continue-branch-6 g t c =
@@ -442,6 +452,8 @@ turn_node-loop-at-preserved-in-Continue-branch-6 g t c =
     let m_busy = rw c.in-Ask.is at turned.busy in
     let pulled = c.in_ok-step-in-Ask-2.ensures in
     let taken = c.in_ok-take-in-Ask-2.ensures in
+    let node_is = turned.node ∙ c.loop-at.invariant.1.node_kept in
+    let some = c.requires.plan.0 in
     let step = c.in_ok-step-in-Ask-2.step in
     let led = pulled.leads in
     let plan = tree_plan x p c.args.body.now in
@@ -457,7 +469,8 @@ turn_node-loop-at-preserved-in-Continue-branch-6 g t c =
     c.args.body.now
     below body c.pull-else-at-eq0.new.self w w1 w2 (told step) (unless_waiting step.progress) a
     turned.stock pulled.stock x_kept b_kept begun (started_is 1 ∙ begun)
-    (λ k f. turned.charge k f ∙ kept.charge_kept k f) m_room (taken.room w2) pulled.room in (
+    (λ k f. turned.charge k f ∙ kept.charge_kept k f) m_room
+    (of_inputs node_is some taken.room w2) pulled.room in (
       record {
         executor_valid = taken.valid w2 (m.kept_valid x1 w1 w2 pulled.stock pulled.grows x_kept turned.valid);
         below_is = input_weaker
@@ -500,10 +513,11 @@ turn_node-loop-at-preserved-in-Continue-branch-6 g t c =
             (started_is 1 ∙ begun)
             (λ r h. tree_kept_rests x p m.kept_gives below w w1 turned.stock a.below_kept r
             (tree_kept_rests x p m.kept_gives below w1 w2 pulled.stock b_kept r h))
-            (taken.owed.0 ∙ ap (λ n. n + step.skipped) (m_owed 1)) (λ j h. taken.owed.1 j h ∙ m_owed j) asked.5
+            ((of_inputs node_is some taken.owed).0 ∙ ap (λ n. n + step.skipped) (m_owed 1))
+            (λ j h. (of_inputs node_is some taken.owed).1 j h ∙ m_owed j) asked.5
             (λ j e. taken.stays j ((inputs j).1 ∙ e))
             (λ s0 s ins' ins q b r l0 l1 ahead e0 e1 os ends h.
-            (let o = taken.leads w2 0 plan led.0 s0 s ins' ins
+            (let o = of_inputs node_is some taken.leads w2 0 plan led.0 s0 s ins' ins
             q b r (l0 ∙ sym (m_owed 1)) l1 ahead e0 e1 os ends h in
             (o.0, o.1, m.kept_gives x1 w1 w2 pulled.stock x_kept 0 plan ins o.0 o.2)));
       },

@@ -26,11 +26,11 @@ work_on-requires-clause-valid g t c =
     let k = c.requires.taken.2 in
     let v : NodeValid x p (Waits x p) x0 below body w =
     rw (c.deref_mut-below.ensures.value, c.deref_mut-body.ensures.value) (rw c.in-Sub.is at h) in
-    let f = dl.undisturbed w v.executor_valid k in
+    let f = dl.undisturbed own w v.executor_valid k in
     let a = mine_reached x p m.kept_gives m.kept_valid m.kept_room m.own_links x0 x1 below body w
-    c.args.world.now w2 c.args.link c.args.message f.0 v k own dl.stock dl.grows dl.others dl.valid
+    c.args.world.now w2 c.args.link c.args.message f.0 v k own dl.stock dl.grows dl.others (dl.valid own)
     dl.inputs dl.asks
-    dl.ours dl.busy f.2 dl.charge (dl.room w v.executor_valid k) in
+    dl.ours dl.busy f.2 dl.charge (dl.room own w v.executor_valid k) in
     a.valid
 
 pub returns-then-owns-clause-undisturbed : goal.returns-then-owns-clause-undisturbed
@@ -51,11 +51,11 @@ returns-then-owns-clause-undisturbed g t c =
     λ b z. rw (c.in-Sub.is, ← c.deref_mut-below.ensures.value, ← c.deref_mut-body.ensures.value) z in
     let v : NodeValid x p (Waits x p) x0 below body w =
     rw (c.deref_mut-below.ensures.value, c.deref_mut-body.ensures.value) (rw c.in-Sub.is at h) in
-    let f = dl.undisturbed w v.executor_valid k in
+    let f = dl.undisturbed own w v.executor_valid k in
     let a = mine_reached x p m.kept_gives m.kept_valid m.kept_room m.own_links x0 x1 below body w
-    c.args.world.now w2 c.args.link c.args.message f.0 v k own dl.stock dl.grows dl.others dl.valid
+    c.args.world.now w2 c.args.link c.args.message f.0 v k own dl.stock dl.grows dl.others (dl.valid own)
     dl.inputs dl.asks
-    dl.ours dl.busy f.2 dl.charge (dl.room w v.executor_valid k) in (
+    dl.ours dl.busy f.2 dl.charge (dl.room own w v.executor_valid k) in (
       plus f.0 q.0,
       rises_then _ _ _ _ _ f.1 q.1,
       λ r z. (let s = two_steps (NodeRests x p x0 below body w)
@@ -79,11 +79,11 @@ returns-then-owns-clause-room g t c =
     λ w h k. (
     let v : NodeValid x p (Waits x p) x0 below body w =
     rw (c.deref_mut-below.ensures.value, c.deref_mut-body.ensures.value) (rw c.in-Sub.is at h) in
-    let f = dl.undisturbed w v.executor_valid k in
+    let f = dl.undisturbed own w v.executor_valid k in
     let a = mine_reached x p m.kept_gives m.kept_valid m.kept_room m.own_links x0 x1 below body w
-    c.args.world.now w2 c.args.link c.args.message f.0 v k own dl.stock dl.grows dl.others dl.valid
+    c.args.world.now w2 c.args.link c.args.message f.0 v k own dl.stock dl.grows dl.others (dl.valid own)
     dl.inputs dl.asks
-    dl.ours dl.busy f.2 dl.charge (dl.room w v.executor_valid k) in
+    dl.ours dl.busy f.2 dl.charge (dl.room own w v.executor_valid k) in
     rw (
       c.in-Sub.is,
       work.body_full,
@@ -421,7 +421,7 @@ pub returns-in-Leaf-clause-undisturbed : goal.returns-in-Leaf-clause-undisturbed
 returns-in-Leaf-clause-undisturbed g t c =
     ok_map c.deliver.result (λ at. λ w h k. (
     let v = rw c.in-Leaf.is at h in
-    let f = at w v.0 k in (
+    let f = at (rw c.in-Leaf.is at c.requires.ours) w v.0 k in (
       f.0,
       f.1,
       λ r z. (let q = f.2 0 (leaf StartRow) (λ j. no_rest) r z in

@@ -1,0 +1,127 @@
+//! The executors of the nodes of a tree.
+
+ghost use Rattle.std.specs.Prelude.{◌≡◌, ◌+◌, ◌<◌, ◌^◌, false};
+ghost use Rattle.aql_tree.specs.declared.syntax.Ident.TheVariants.{Num};
+ghost use Rattle.aql_tree.specs.View.{tree};
+ghost use Rattle.aql_plan.specs.Plan as plan;
+ghost use Rattle.aql_plan.specs.View.{directions, key_trees};
+ghost use Rattle.aql_exec.specs.Operators.{StartRow, NoRows, OnRows, WithBody};
+ghost use Rattle.aql_exec_scan.specs.Scans as scans;
+
+use crate::world::World;
+use aql_exec::{
+    AsWired, Calculation, Executor, Filter, Keep, Let, Limit, Mapped, NoResults, Results, Return,
+    Singleton, Stream,
+};
+use aql_exec_nodes::Choice;
+use aql_exec_rows::{Order, Sort, Subquery};
+use aql_exec_scan::{Documents, Elements, EnumerateCollection, EnumerateList, Reading};
+use aql_tree::{Expr, Keys};
+use std::alloc::Global;
+
+/// The executors without an input.
+type Leaf = Choice<Singleton, NoResults>;
+
+/// Those that look at one row at a time, and LIMIT.
+type RowWise = Choice<Choice<Calculation, Return>, Choice<Filter, Limit>>;
+
+/// Those that give several rows for one.
+type Enumeration = Choice<EnumerateList, EnumerateCollection>;
+
+/// Those that hold rows.
+type Holder = Choice<Sort, Subquery>;
+
+/// The executor of any node.
+pub type NodeExecutor = AsWired<Choice<Choice<Leaf, RowWise>, Choice<Enumeration, Holder>>>;
+
+/// The start row.
+pub fn start_row() -> NodeExecutor
+    ensures { ⟦<NodeExecutor as Executor<World>>⟧.node result ≡ StartRow }
+{
+    AsWired::new(Choice::First(Choice::First(Choice::First(Singleton::new()))))
+}
+
+/// No row.
+pub fn no_results() -> NodeExecutor
+    ensures { ⟦<NodeExecutor as Executor<World>>⟧.node result ≡ NoRows }
+{
+    AsWired::new(Choice::First(Choice::First(Choice::Second(NoResults))))
+}
+
+fn row_wise(executor: RowWise) -> NodeExecutor
+    ensures { ⟦<NodeExecutor as Executor<World>>⟧.node result
+        ≡ ⟦<RowWise as Executor<World>>⟧.node executor }
+{
+    AsWired::new(Choice::First(Choice::Second(executor)))
+}
+
+/// LET.
+pub fn calculation(alloc: Global, var: u32, expr: Expr) -> NodeExecutor
+    ensures { ⟦<NodeExecutor as Executor<World>>⟧.node result
+        ≡ OnRows (plan.Calculation (Num var) (tree expr)) }
+{
+    let executor = Mapped::new(alloc, Let { var, expr });
+    row_wise(Choice::First(Choice::First(executor)))
+}
+
+/// RETURN.
+pub fn results(alloc: Global, expr: Expr) -> NodeExecutor
+    ensures { ⟦<NodeExecutor as Executor<World>>⟧.node result
+        ≡ OnRows (plan.Return false (tree expr)) }
+{
+    let executor = Mapped::new(alloc, Results { expr });
+    row_wise(Choice::First(Choice::Second(executor)))
+}
+
+/// FILTER.
+pub fn filter(alloc: Global, cond: Expr) -> NodeExecutor
+    ensures { ⟦<NodeExecutor as Executor<World>>⟧.node result
+        ≡ OnRows (plan.Filter (tree cond)) }
+{
+    let executor = Stream::new(Keep::new(alloc, cond));
+    row_wise(Choice::Second(Choice::First(executor)))
+}
+
+/// LIMIT.
+pub fn limit(alloc: Global, offset: u64, count: u64) -> NodeExecutor
+    requires { offset + count < 2 ^ 64 }
+    ensures { ⟦<NodeExecutor as Executor<World>>⟧.node result
+        ≡ OnRows (plan.Limit offset count) }
+{
+    row_wise(Choice::Second(Choice::Second(Limit::new(alloc, offset, count))))
+}
+
+/// FOR over an array.
+pub fn enumerate_list(alloc: Global, var: u32, list: Expr) -> NodeExecutor
+    ensures { ⟦<NodeExecutor as Executor<World>>⟧.node result
+        ≡ OnRows (plan.EnumerateList (Num var) (tree list)) }
+{
+    let executor = Stream::new(Elements::new(alloc, var, list));
+    AsWired::new(Choice::Second(Choice::First(Choice::First(executor))))
+}
+
+/// FOR over a collection.
+pub fn enumerate_collection(alloc: Global, reading: Reading) -> NodeExecutor
+    ensures { ⟦<NodeExecutor as Executor<World>>⟧.node result
+        ≡ OnRows (plan.EnumerateCollection (scans.reading reading)) }
+{
+    let executor = Stream::new(Documents::new(alloc, reading));
+    AsWired::new(Choice::Second(Choice::First(Choice::Second(executor))))
+}
+
+/// SORT.
+pub fn sort(alloc: Global, keys: Keys, limit: Option<u64>) -> NodeExecutor
+    ensures { ⟦<NodeExecutor as Executor<World>>⟧.node result
+        ≡ OnRows (plan.Sort (directions keys) (key_trees keys) limit) }
+{
+    let executor = Stream::new(Order::new(alloc, keys, limit));
+    AsWired::new(Choice::Second(Choice::Second(Choice::First(executor))))
+}
+
+/// A subquery.
+pub fn subquery(alloc: Global, var: u32) -> NodeExecutor
+    ensures { ⟦<NodeExecutor as Executor<World>>⟧.node result ≡ WithBody (Num var) }
+{
+    let executor = Subquery::new(alloc, var);
+    AsWired::new(Choice::Second(Choice::Second(Choice::Second(executor))))
+}
