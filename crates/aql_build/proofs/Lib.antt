@@ -1,0 +1,9 @@
+pub mod Parts
+pub mod Planned
+pub mod Taken
+pub mod PlainWhere
+pub mod Collections
+pub mod Visible
+pub mod Found
+pub mod Once
+pub mod Ready

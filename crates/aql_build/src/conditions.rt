@@ -1,0 +1,60 @@
+//! A FILTER as nodes: one for each part of an `&&` chain.
+
+ghost use Rattle.std.specs.Prelude.{◌≡◌, IfOk, map};
+ghost use Rattle.aql_tree.specs.View.{tree, links, link_part};
+ghost use Rattle.aql_plan.specs.Plan as spec;
+ghost use Rattle.aql_plan.specs.View.{plan_tree};
+ghost use Rattle.aql_plan.specs.FirstPlan.{all_and, right_sides, parts, filters};
+
+use aql_copy::copy_expr;
+use aql_func::BinOp;
+use aql_plan::Plan;
+use aql_tree::{Expr, Link};
+use aql_value::OutOfMemory;
+use std::alloc::Global;
+
+fn is_all_and(rest: &[Link]) -> bool
+    ensures { result ≡ all_and (links (map link_part rest.now)) }
+{
+    for link in rest {
+        match link.op {
+            BinOp::And => {}
+            _ => return false,
+        }
+    }
+    true
+}
+
+fn filter(alloc: Global, below: Plan, cond: &Expr) -> Result<Plan, OutOfMemory>
+    ensures { IfOk result
+        (λ p. plan_tree p ≡ spec.Over (plan_tree below) (spec.Filter (tree cond.now))) }
+{
+    let cond = copy_expr(alloc, cond)?;
+    let below = Box::new(alloc, below)?;
+    Ok(Plan::Filter { below, cond })
+}
+
+fn filter_sides(rest: &[Link], below: Plan, alloc: Global) -> Result<Plan, OutOfMemory>
+    ensures { IfOk result (λ p. plan_tree p
+        ≡ filters (plan_tree below) (right_sides (links (map link_part rest.now)))) }
+{
+    let mut plan = below;
+    for link in rest {
+        plan = filter(alloc, plan, &link.right)?;
+    }
+    Ok(plan)
+}
+
+/// The rows at which a condition holds: a Filter for each part, the first lowest.
+pub fn filter_parts(cond: &Expr, below: Plan, alloc: Global) -> Result<Plan, OutOfMemory>
+    ensures { IfOk result
+        (λ p. plan_tree p ≡ filters (plan_tree below) (parts (tree cond.now))) }
+{
+    match cond {
+        Expr::Chain { first, rest } if is_all_and(rest.as_slice()) => {
+            let plan = filter(alloc, below, first)?;
+            filter_sides(rest.as_slice(), plan, alloc)
+        }
+        _ => filter(alloc, below, cond),
+    }
+}

@@ -1,0 +1,76 @@
+//! The node of a traversal.
+
+ghost use Rattle.std.specs.Prelude.{◌≡◌, ◌<◌, ◌^◌, ◌++◌, ◌∷◌, IfOk, map, length, filter, not, bytes_eq, option_map, option_to_list};
+ghost use Rattle.std.specs.List.{AllByRecursion, list_any};
+ghost use Rattle.aql_value.specs.declared.lists.CollNo.{CollNo};
+ghost use Rattle.aql_tree.specs.View.{traversal_part, traversal_clause};
+ghost use Rattle.aql_meaning.specs.Visible.{each_once};
+ghost use Rattle.aql_meaning.specs.Numbered.{IsNumber};
+ghost use Rattle.aql_plan.specs.View.{plan_tree};
+ghost use Rattle.aql_plan.specs.FirstPlan.{coll_number, after_clause};
+ghost use Rattle.aql_build.specs.Resolved.{traversal_vars};
+
+use crate::clauses::{boxed, collection_number, maybe_number, number};
+use aql_copy::{copy_expr, copy_maybe};
+use aql_plan::{Facts, Plan, TraversalOptions};
+use aql_tree::Traversal;
+use aql_value::{CollNos, OutOfMemory, Seq, Text};
+use std::alloc::Global;
+
+fn is_among(names: &[Text], name: &str) -> bool
+    ensures { result ≡ list_any (λ n. bytes_eq n name.now) names.now }
+{
+    for other in names {
+        if other.as_str() == name {
+            return true;
+        }
+    }
+    false
+}
+
+// The numbers of collections; one that is named again counts the first time.
+fn collection_numbers(alloc: Global, names: &[Text], facts: &Facts) -> Result<CollNos, OutOfMemory>
+    requires { length facts.now.collections < 2 ^ 32 }
+    ensures { IfOk result (λ ns. map (λ (c : CollNo). c.0) ns
+        ≡ map (coll_number facts.now) (each_once names.now)) }
+{
+    let mut numbers = Seq::new(alloc);
+    for (i, name) in names.iter().enumerate() {
+        if !is_among(&names[..i], name.as_str()) {
+            numbers.push(collection_number(name, facts))?;
+        }
+    }
+    Ok(numbers)
+}
+
+/// FOR over paths.
+pub fn paths(
+    alloc: Global,
+    below: Plan,
+    traversal: &Traversal,
+    facts: &Facts,
+) -> Result<Plan, OutOfMemory>
+    requires few { length facts.now.collections < 2 ^ 32 }
+    requires vars { AllByRecursion IsNumber (traversal_vars (traversal_part traversal.now).0) }
+    ensures { IfOk result (λ p. plan_tree p ≡ after_clause facts.now (plan_tree below)
+        (traversal_clause (traversal_part traversal.now))) }
+{
+    Ok(Plan::Traversal {
+        below: boxed(alloc, below)?,
+        vertex: number(&traversal.vertex),
+        edge: maybe_number(&traversal.edge),
+        path: maybe_number(&traversal.path),
+        min: traversal.min,
+        max: traversal.max,
+        direction: traversal.direction,
+        start: copy_expr(alloc, &traversal.start)?,
+        collections: collection_numbers(alloc, traversal.collections.as_slice(), facts)?,
+        prune: copy_maybe(alloc, &traversal.prune)?,
+        options: TraversalOptions {
+            edges: traversal.options.edges,
+            vertices: traversal.options.vertices,
+            bfs: traversal.options.bfs,
+        },
+        filter: None,
+    })
+}
