@@ -1,0 +1,5 @@
+pub mod KnownFits
+pub mod Collected
+pub mod RuleBits
+pub mod Digits
+pub mod Counted

@@ -1,0 +1,4 @@
+pub mod Theorem
+pub mod Estimate
+pub mod RuleSets
+pub mod Worked
