@@ -1,0 +1,4 @@
+pub mod Names
+pub mod Best
+pub mod Unique
+pub mod Marks
