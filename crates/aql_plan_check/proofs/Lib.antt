@@ -1,0 +1,9 @@
+mod Shaping
+mod SameVariables
+mod Finding
+mod Numbered
+mod Whole
+mod Collected
+mod Tests
+mod UsesFound
+mod Lists

@@ -1,0 +1,50 @@
+-- Tests that hold exactly where something does, one after another.
+use Rattle.std.proofs.Common.{◌≡◌, ◌∙◌, ap, sym, refl, subst, ℕ, ◌<◌, ◌+◌, List, [], ◌∷◌, ◌++◌, length, get_or, drop, map, Bool, true, false, true≢false}
+use Rattle.std.specs.Prelude.{◌↔◌, IsTrue}
+use Rattle.std.specs.List.{AllByRecursion}
+use Rattle.std.proofs.lemmas.List.{drop_more}
+use Rattle.aql_meaning.specs.Numbered.{IsNumber}
+use Rattle.aql_plan.specs.Plan.{Plan, Over, top}
+use Rattle.aql_plan.specs.Variables.{vars_set, set_once}
+use Rattle.aql_plan.specs.laws.Carried.{all_parts}
+
+-- what is left of a list, from one place on
+pub left : {X : Type 0} (xs : List X) (i : ℕ) (x : X) → i < length xs → x ≡ get_or xs i x
+    → drop i xs ≡ x ∷ drop (i + 1) xs
+left xs i x h e = drop_more xs i x h ∙ ap (λ y. y ∷ drop (i + 1) xs) (sym e)
+
+-- a loop over a list: the first part holds, or doesn't
+pub next : {A B W : Type 0} → (A × B) ↔ W → A → B ↔ W
+next h a = ((λ b. h.0 (a, b)), (λ w. (h.1 w).1))
+
+pub stop : {A B W : Type 0} (r : Bool) → (A × B) ↔ W → IsTrue r ↔ A → r ≡ false → IsTrue false ↔ W
+stop r h k e = ((λ t. absurd (true≢false (sym t))), (λ w. absurd (true≢false (sym (k.1 (h.1 w).0) ∙ e))))
+
+-- two tests
+pub both : {A B W : Type 0} (r s : Bool) → (A × B) ↔ W → IsTrue r ↔ A → IsTrue s ↔ B → r ≡ true → IsTrue s ↔ W
+both r s h k l e = ((λ t. h.0 (k.0 e, l.0 t)), (λ w. l.1 (h.1 w).1))
+
+pub first_fails : {A B W : Type 0} (r : Bool) → (A × B) ↔ W → IsTrue r ↔ A → r ≡ false → IsTrue r ↔ W
+first_fails r h k e = ((λ t. absurd (true≢false (sym t ∙ e))), (λ w. k.1 (h.1 w).0))
+
+glued : {X : Type 0} (P : X → Type 0) (xs ys : List X) → AllByRecursion P xs → AllByRecursion P ys
+    → AllByRecursion P (xs ++ ys)
+glued P [] ys h k = k
+glued P (x ∷ xs) ys h k = (h.0, glued P xs ys h.1 k)
+
+pub joined : {X : Type 0} (P : X → Type 0) (xs ys : List X)
+    → (AllByRecursion P xs × AllByRecursion P ys) ↔ AllByRecursion P (xs ++ ys)
+joined P xs ys = ((λ h. glued P xs ys h.0 h.1), (λ h. all_parts P xs ys h))
+
+-- two tests of one thing
+pub same_test : {P : Type 0} (r b : Bool) → IsTrue r ↔ P → P ↔ (b ≡ true) → r ≡ b
+same_test true b h k = sym (k.0 (h.0 refl))
+same_test false true h k = h.1 (k.1 refl)
+same_test false false h k = refl
+
+-- the variables of a plan are those of its node and those below
+pub sets_over : (p b : Plan) → p ≡ Over b (top p)
+    → (AllByRecursion IsNumber (set_once (top p)) × AllByRecursion IsNumber (vars_set b))
+    ↔ AllByRecursion IsNumber (vars_set p)
+sets_over p b e = subst (λ (q : Plan). (AllByRecursion IsNumber (set_once (top p)) × AllByRecursion IsNumber (vars_set b))
+    ↔ AllByRecursion IsNumber (vars_set q)) (sym e) (joined IsNumber (set_once (top p)) (vars_set b))

@@ -1,0 +1,5 @@
+pub mod Standing
+pub mod Sameness
+pub mod Rows
+pub mod Findings
+pub mod View
