@@ -177,7 +177,7 @@ fn add_node_exprs<'a>(to: &mut Vec<&'a Expr>, node: &'a Plan) -> Result<(), OutO
 }
 
 /// The expressions of a node, in the order of the plan's text; those of a body are none of them.
-pub(crate) fn node_exprs<'a>(alloc: Global, node: &'a Plan) -> Result<Vec<&'a Expr>, OutOfMemory>
+pub fn node_exprs<'a>(alloc: Global, node: &'a Plan) -> Result<Vec<&'a Expr>, OutOfMemory>
     ensures { IfOk result
         (λ es. map lent es.items ≡ spec_node_exprs (spec.top (plan_tree node.now))) }
 {
@@ -363,7 +363,7 @@ pub(crate) fn boxed(alloc: Global, plan: Plan) -> Result<Box<Plan>, OutOfMemory>
 
 /// The node over another input and over other expressions, taken in order. Where they run out, the
 /// old ones are copied.
-pub(crate) fn over_exprs(
+pub fn over_exprs(
     alloc: Global,
     node: &Plan,
     below: Plan,

@@ -12,6 +12,7 @@ mod swap;
 mod walk;
 
 pub use above::is_used;
+pub use exprs::{node_exprs, over_exprs};
 pub use pass::{first_place, run_pass};
 pub use rule::Rule;
 pub use swap::{Rename, Swap};

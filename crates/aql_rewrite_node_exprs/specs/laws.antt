@@ -1,0 +1,10 @@
+pub mod NoneFirst
+pub mod Standing
+pub mod ExprsLeft
+pub mod SameValues
+pub mod StillFits
+pub mod StillFound
+pub mod SameRows
+pub mod SameShape
+pub mod Smaller
+pub mod Rewritten
