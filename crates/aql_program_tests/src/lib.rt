@@ -6,8 +6,6 @@ mod catalogs;
 #[cfg(test)]
 mod pages;
 #[cfg(test)]
-mod runs;
-#[cfg(test)]
 mod scoping;
 #[cfg(test)]
 mod scoping_rows;

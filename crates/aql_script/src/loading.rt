@@ -21,20 +21,12 @@ use std::alloc::Global;
 const SCRIPT_BYTES: u64 = 67_108_864;
 
 /// A script that was loaded.
+#[derive(Drop)]
 pub struct Loaded {
     /// The collections and their documents.
     pub catalog: Catalog,
     /// The text of the query.
     pub query: Text,
-}
-
-impl Drop for Loaded {
-    fn drop(self) {
-        let Loaded {
-            catalog: _,
-            query: _,
-        } = self;
-    }
 }
 
 /// Reads a source to its end, and loads the script that it is. The first fault decides: that of the

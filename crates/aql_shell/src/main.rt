@@ -1,6 +1,7 @@
 //! Reads a script on standard input and prints one answer of its query.
 #![tactic(auto)]
 
+use aql_engine::Local;
 use aql_io::{StdSink, StdSource, write_all};
 use aql_top::run_shell;
 use aql_value::{Names, OutOfMemory, Text};
@@ -55,5 +56,7 @@ fn main(rt: HostRuntime) -> ExitCode {
     };
     let mut source = StdSource::new(rt.stdin());
     let mut out = StdSink::new(rt.stdout());
-    ExitCode::from(run_shell(rt.alloc(), &names, &mut source, &mut out, &mut err))
+    let alloc = rt.alloc();
+    let mut engine = Local::new(alloc);
+    ExitCode::from(run_shell(alloc, &names, &mut source, &mut out, &mut err, &mut engine))
 }

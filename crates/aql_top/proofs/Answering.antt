@@ -1,49 +1,166 @@
--- The query of a loaded script: whether it is of the form that runs, and what its lines show.
-use Rattle.std.proofs.Common.{◌≡◌, ◌⊎◌, inl, inr, ℕ, List, [], Bool, sym, ap, ◌∙◌, subst}
+-- The query of a loaded script: its first plan, whether it is of the form that runs, and what the values of
+-- the plan are.
+use Rattle.std.proofs.Common.{arith, ◌≡◌, ◌⊎◌, ◌<◌, ◌≤◌, ◌^◌, inl, inr, ℕ, List, [], ◌∷◌, ◌++◌, Bool, true, false, Option, Some, length, refl, sym, ap, ◌∙◌, subst}
+use Rattle.std.specs.Prelude.{slice_get}
 use Rattle.aql_value.specs.Datum as value
 use Rattle.aql_value.specs.Database.{Database}
 use Rattle.aql_tree.specs.Tree.{QueryTree}
 use Rattle.aql_meaning.specs.Row.{empty_row}
 use Rattle.aql_meaning.specs.Meaning.{IsAnswer}
-use Rattle.aql_doc.specs.Held.{Held, database}
-use Rattle.aql_script.specs.declared.loading.Loaded.{Loaded}
 use Rattle.aql_meaning.specs.Lifted.{IsLifted}
+use Rattle.aql_doc.specs.Held.{Held, database}
+use Rattle.aql_doc.specs.Limits.{IsWithinLimits}
+use Rattle.aql_script.specs.declared.loading.Loaded.{Loaded}
 use Rattle.aql_lift.proofs.LiftedIsPlain.{scoped_is_lifted}
+use Rattle.aql_plan.specs.declared.facts.Facts.{Facts}
+use Rattle.aql_plan.specs.declared.plan.Plan.{Plan}
+use Rattle.aql_plan.specs.Facts.{Meets}
+use Rattle.aql_plan.specs.Plan as spec
+use Rattle.aql_plan.specs.View.{plan_tree}
+use Rattle.aql_plan.specs.FirstPlan.{first_plan}
+use Rattle.aql_plan.specs.Refines.{world, Answers as PlanAnswers}
+use Rattle.aql_plan.specs.Runs.{World}
+use Rattle.aql_plan.specs.WellFormed.{IsWellFormed}
+use Rattle.aql_plan.proofs.FirstAnswers.{first_answers}
+use Rattle.aql_exec_plan.specs.Runnable.{HasExecutors}
+use Rattle.aql_shard.specs.Holding.{Holding}
+use Rattle.aql_shard.specs.Held.{stock, nothing_counted}
+use Rattle.aql_shard.specs.Known.{facts_of}
+use Rattle.aql_build.specs.Resolved.{IsResolved}
+use Rattle.aql_build.specs.Theorem.{ScopingGivesIt}
+use Rattle.aql_build_limits.specs.Theorem.{TextLimitsEnd}
+use Rattle.aql_opt.specs.Theorem.{FactsFit}
+use Rattle.aql_engine.specs.declared.engine.Ran.{Ran}
+use Rattle.aql_engine.specs.Engine.{CanRun, Adds}
 use Rattle.aql_front.specs.declared.faults.QueryFault.{QueryFault}
 use Rattle.aql_front.specs.declared.faults.QueryFault.TheVariants.{TooLong, Lexical, TooDeep, TooManyClauses, NotInGrammar, TraversalTooDeep, Scope, Memory}
 use Rattle.aql_front.specs.Reading.{IsWritten, IsScoped, Refuses}
-use Rattle.aql_run.specs.Forms.{runs, Shows}
-use Rattle.aql_top.specs.Forms.{ReadsAs, Answers}
+use Rattle.aql_top.specs.Forms.{runs, ReadsAs, Answers, answer_text}
+use Rattle.aql_top.specs.Entries.{IsFirstPlan, AddsFirst}
 use Rattle.aql_top.specs.Faults.{of_query, HasNoLines}
+use Rattle.aql_top.proofs.Executors.{query_runs, has_executors}
 
 pub is_lifted : (held : List Held) (text : List ℕ) (tree : QueryTree) (names : List (List ℕ))
     → IsScoped held text tree names → IsLifted tree
 is_lifted held text tree names s = subst IsLifted (sym s.lifted) (scoped_is_lifted [] 1 s.spelled)
 
-pub reads_as : (loaded : Loaded) (tree : QueryTree) (names : List (List ℕ))
-    → IsScoped loaded.catalog loaded.query tree names → (form : Bool) → form ≡ runs tree → ReadsAs loaded form
-reads_as loaded tree names s form e = record {
+is_false : (b : Bool) → (b ≡ true → ⊥) → b ≡ false
+is_false true n = absurd (n refl)
+is_false false n = refl
+
+-- the scoped query of a loaded script, with its first plan by facts that are true of the collections
+module _ (loaded : Loaded) (tree : QueryTree) (names : List (List ℕ))
+    (s : IsScoped loaded.catalog loaded.query tree names) (facts : Facts) (plan : spec.Plan)
+    (first : plan ≡ first_plan facts tree) where
+  form : (b : Bool) → runs tree ≡ b → ReadsAs loaded b
+  form b e = record {
+    query = s.spelled;
+    is_written = s.is_written;
+    no_fault = s.no_fault;
+    form_is = ap runs (sym s.lifted) ∙ e;
+  }
+
+  pub reads_as : HasExecutors plan → ReadsAs loaded true
+  reads_as h = form true (query_runs facts tree (subst HasExecutors first h))
+
+  pub other_form : (HasExecutors plan → ⊥) → ReadsAs loaded false
+  other_form n = form false
+      (is_false (runs tree) (λ r. n (subst HasExecutors (sym first) (has_executors facts tree r))))
+
+  pub plan_answers : Meets facts (database loaded.catalog) → facts ≡ facts_of 0 loaded.catalog
+      → ((q : QueryTree) → IsWritten loaded.query q → (db : Database) (out : List value.Datum)
+      → IsAnswer db tree empty_row out → IsAnswer db q empty_row out)
+      → (values : List value.Datum)
+      → PlanAnswers plan (world (facts_of 0 loaded.catalog) (database loaded.catalog)) empty_row values
+      → Answers loaded (answer_text values)
+  plan_answers meets are keeps values a = record {
+    query = s.spelled;
+    is_written = s.is_written;
+    no_fault = s.no_fault;
+    values = values;
+    answer = keeps s.spelled s.is_written (database loaded.catalog) values
+        (first_answers facts (database loaded.catalog) meets tree (is_lifted _ _ tree names s) empty_row
+        values
+        (subst (λ p. PlanAnswers p (world facts (database loaded.catalog)) empty_row values) first
+        (subst (λ f. PlanAnswers plan (world f (database loaded.catalog)) empty_row values) (sym are) a)));
+    lines = refl;
+  }
+
+pub is_first_plan : (loaded : Loaded) (tree : QueryTree) (names : List (List ℕ))
+    → IsScoped loaded.catalog loaded.query tree names → (facts : Facts)
+    → Meets facts (database loaded.catalog) → (plan : Plan) → plan_tree plan ≡ first_plan facts tree
+    → IsFirstPlan loaded plan
+is_first_plan loaded tree names s facts meets plan first = record {
   query = s.spelled;
   is_written = s.is_written;
   no_fault = s.no_fault;
-  form_is = sym (e ∙ ap runs s.lifted);
+  facts = facts;
+  true_facts = meets;
+  plan_is = first ∙ ap (first_plan facts) s.lifted;
 }
 
-pub answers_written : (loaded : Loaded) (text : List ℕ) (tree : QueryTree) (names : List (List ℕ))
-    → text ≡ loaded.query → IsScoped loaded.catalog text tree names → (lines : List ℕ)
-    → ((q : QueryTree) → IsWritten text q → (db : Database) (out : List value.Datum)
-    → IsAnswer db tree empty_row out → IsAnswer db q empty_row out)
-    → Shows loaded.catalog tree lines → Answers loaded lines
-answers_written loaded text tree names same s lines keeps shown = record {
-  query = s.spelled;
-  is_written = subst (λ t. IsWritten t s.spelled) same s.is_written;
-  no_fault = s.no_fault;
-  shows = record {
-    values = shown.values;
-    answer = keeps s.spelled s.is_written (database loaded.catalog) shown.values shown.answer;
-    lines = shown.lines;
-  };
+-- the scoped query may be planned
+pub resolved : ScopingGivesIt → TextLimitsEnd → FactsFit
+    → (loaded : Loaded) (tree : QueryTree) (names : List (List ℕ)) → IsScoped loaded.catalog loaded.query tree names → IsWithinLimits loaded.catalog → (facts : Facts)
+    → facts ≡ facts_of 0 loaded.catalog → IsResolved facts tree
+resolved scoping limits fit loaded tree names s within facts are =
+    let known = facts_of 0 loaded.catalog in
+    let fits = fit 0 loaded.catalog within in
+    subst (λ f. IsResolved f tree) (sym are)
+    (subst (IsResolved known) (sym s.lifted)
+    (scoping known loaded.catalog fits.1 fits.0 (few (length known.collections) fits.2) s.spelled s.no_fault
+    (limits loaded.query s.is_written.tokens s.is_written.has_tokens.1 s.spelled s.is_written.spelled)))
+  where
+    few : (n : ℕ) → n ≤ 64 → n < 2 ^ 32
+    few n h = omega (arith, h)
+
+-- ---- the run
+
+-- the servers hold the documents of the catalog, with the facts by which the plan was made
+pub can_run : (held : List Held) (servers : Holding) (plan : Plan)
+    → servers ≡ record { held = held; servers = 0; counts = nothing_counted }
+    → IsWellFormed (facts_of 0 held) [] (plan_tree plan) → HasExecutors (plan_tree plan)
+    → CanRun (stock servers) plan
+can_run held servers plan holds well has = record {
+  well_formed = subst (λ (h : Holding). IsWellFormed (stock h).facts [] (plan_tree plan)) (sym holds) well;
+  executors = has;
 }
+
+at_end : (before : List Ran) (ran : Ran) → slice_get (before ++ ran ∷ []) (length before) ≡ Some ran
+at_end [] ran = refl
+at_end (other ∷ before) ran = at_end before ran
+
+module _ (w : World) (plan : Plan) (batch : ℕ) (before after : List Ran) (a : Adds w plan batch before after)
+  where
+    -- the entry that is looked up is the one that was added
+    pub found_entry : (held more : List Ran) (at : ℕ) → held ≡ before → at ≡ length held → more ≡ after
+        → (found : Option Ran) → found ≡ slice_get more at → found ≡ Some a.ran
+    found_entry held more at is here gained found f =
+        f ∙ ap (λ list. slice_get list at) (gained ∙ a.added)
+        ∙ ap (λ n. slice_get (before ++ a.ran ∷ []) n) (here ∙ ap length is)
+        ∙ at_end before a.ran
+
+    pub adds_first : (loaded : Loaded) → IsFirstPlan loaded plan → AddsFirst loaded before after a.ran
+    adds_first loaded first =
+        record { added = a.added; first = subst (IsFirstPlan loaded) (sym a.same_plan) first }
+
+pub answer_of_entry : (loaded : Loaded) (servers : Holding)
+    → servers ≡ record { held = loaded.catalog; servers = 0; counts = nothing_counted }
+    → (plan : Plan) (batch : ℕ) (before after : List Ran) (a : Adds (stock servers) plan batch before after)
+    → ((values : List value.Datum)
+    → PlanAnswers (plan_tree plan)
+    (world (facts_of 0 loaded.catalog) (database loaded.catalog)) empty_row values
+    → Answers loaded (answer_text values))
+    → (ran : Ran) → ran ≡ a.ran → (text : List ℕ) → text ≡ answer_text ran.values → Answers loaded text
+answer_of_entry loaded servers holds plan batch before after a answers ran same text lines =
+    subst (Answers loaded) (sym (lines ∙ ap (λ (r : Ran). answer_text r.values) same))
+    (answers a.ran.values
+    (subst (λ (p : Plan). PlanAnswers (plan_tree p)
+    (world (facts_of 0 loaded.catalog) (database loaded.catalog)) empty_row a.ran.values) a.same_plan
+    (subst (λ (h : Holding). PlanAnswers (plan_tree a.ran.plan) (stock h) empty_row a.ran.values) holds
+    a.over.answer)))
+
+-- ---- a query that is refused
 
 pub refused : (loaded : Loaded) (e : QueryFault) → (e ≡ Memory) ⊎ Refuses loaded.catalog loaded.query e
     → HasNoLines loaded (of_query e)

@@ -1,17 +1,20 @@
--- Which status comes.
-use Rattle.std.proofs.Common.{◌≡◌, ℕ, ◌⊎◌, inl, inr, List, [], Bool, true, false, Option, Some, None, Err, refl, sym, ap, ◌∙◌, subst}
+-- Which status comes, and what the engine's list gained.
+use Rattle.std.proofs.Common.{arith, ◌≡◌, ◌≢◌, ℕ, ◌⊎◌, inl, inr, List, [], Bool, true, false, Option, Some, None, Err, refl, sym, ap, ◌∙◌, subst}
 use Rattle.std.specs.Prelude.{IsSome, IsSomeAnd, IfSome, Result, codes}
+use Rattle.aql_io.specs.Bytes.{AppendsPrefix}
+use Rattle.aql_engine.specs.declared.engine.Ran.{Ran}
 use Rattle.aql_script.specs.Script.{IsScript, HasFault}
 use Rattle.aql_script.specs.declared.loading.Loaded.{Loaded}
 use Rattle.aql_script.specs.declared.faults.LoadFault.{LoadFault}
+use Rattle.aql_script.specs.declared.faults.LoadFault.TheVariants as load
 use Rattle.aql_tree.specs.Tree.{QueryTree}
 use Rattle.aql_lift.specs.Lifting.{scope_query}
 use Rattle.aql_front.specs.declared.faults.QueryFault.{QueryFault}
 use Rattle.aql_front.specs.declared.faults.QueryFault.TheVariants as query
 use Rattle.aql_front.specs.Reading.{Refuses}
 use Rattle.aql_front.proofs.Once.{only_query, only_fault, written_once}
-use Rattle.aql_run.specs.Forms.{runs}
-use Rattle.aql_top.specs.Forms.{TakesWords, ReadsAs, IsScriptWith, Accepts, HasOtherQuery, HasQueryFault}
+use Rattle.aql_top.specs.Forms.{runs, TakesWords, ReadsAs, IsScriptWith, Accepts, HasOtherQuery, HasQueryFault}
+use Rattle.aql_top.specs.Entries.{PrintsEntry, AddsAtMostOne, IsEntered}
 use Rattle.aql_top.specs.Reasons.{fault_status, query_status, Deserves, IsTextOf, as_line}
 use Rattle.aql_top.specs.Faults.{Leads, status_of, line_of, IsMade}
 use Rattle.aql_top.specs.declared.faults.RunFault.{RunFault}
@@ -162,3 +165,53 @@ pub printed_deserves : (input : Option (List ℕ)) (s : ℕ) (t : List ℕ) → 
     → Deserves input s t → ⊥
 printed_deserves None s t a i d = absurd (cc)
 printed_deserves (Some bytes) s t a i d = none_deserved bytes s t a d
+
+-- ---- what the engine's list gained where a run ended with a fault
+
+load_not_0 : (e : LoadFault) → fault_status e ≡ 0 → ⊥
+load_not_0 load.Read h = omega (arith, h)
+load_not_0 load.Memory h = omega (arith, h)
+load_not_0 (load.Line n kind) h = omega (arith, h)
+load_not_0 (load.Limit kind) h = omega (arith, h)
+
+query_not_0 : (f : QueryFault) → query_status f ≡ 0 → ⊥
+query_not_0 query.TooLong h = omega (arith, h)
+query_not_0 (query.Lexical place kind) h = omega (arith, h)
+query_not_0 query.TooDeep h = omega (arith, h)
+query_not_0 query.TooManyClauses h = omega (arith, h)
+query_not_0 query.NotInGrammar h = omega (arith, h)
+query_not_0 query.TraversalTooDeep h = omega (arith, h)
+query_not_0 (query.Scope fault) h = omega (arith, h)
+query_not_0 query.Memory h = omega (arith, h)
+
+not_0 : (e : RunFault) → status_of e ≡ 0 → ⊥
+not_0 Words h = omega (arith, h)
+not_0 Read h = omega (arith, h)
+not_0 (Script fault) h = load_not_0 fault h
+not_0 (Query fault) h = query_not_0 fault h
+not_0 NotYet h = omega (arith, h)
+not_0 Write h = omega (arith, h)
+not_0 Memory h = omega (arith, h)
+
+-- want of memory alone is told for another fault
+told_status : (e t : RunFault) → IsToldAs e t → (status_of t ≡ 8 → ⊥) → status_of e ≡ status_of t
+told_status e t (inl same) n = ap status_of (sym same)
+told_status e t (inr made) n = absurd (n (ap status_of made.0))
+
+not_8_of_7 : (n : ℕ) → n ≡ 7 → n ≡ 8 → ⊥
+not_8_of_7 n h k = omega (arith, h, k)
+
+module _ (e t : RunFault) (told : IsToldAs e t) (status : ℕ) (is : status ≡ status_of t) where
+  pub entered : (input : Option (List ℕ)) (before after : List Ran) (written written' : Option (List ℕ))
+      → (status_of e ≡ 7 → PrintsEntry input before after (AppendsPrefix written written'))
+      → AddsAtMostOne input before after → IsEntered status input before after written written'
+  entered input before after written written' front most = record {
+    printed = λ h. absurd (not_0 t (sym is ∙ h));
+    front = λ h. front (told_status e t told (λ k. not_8_of_7 status h (is ∙ k)) ∙ (sym is ∙ h));
+    no_memory = λ h. most;
+  }
+
+  pub idle : {P : Type 0} → (status_of e ≢ 7 → status_of e ≢ 8 → P) → status ≢ 7 → status ≢ 8 → P
+  idle same seven eight =
+      let e_is = told_status e t told (λ k. eight (is ∙ k)) in
+      same (λ k. seven (is ∙ (sym e_is ∙ k))) (λ k. eight (is ∙ (sym e_is ∙ k)))

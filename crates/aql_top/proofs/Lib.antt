@@ -1,3 +1,4 @@
 pub mod Loading
+pub mod Executors
 pub mod Answering
 pub mod Ends

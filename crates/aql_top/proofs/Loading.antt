@@ -1,5 +1,5 @@
 -- What loading a script says of the bytes that the source had left.
-use Rattle.std.proofs.Common.{◌≡◌, ◌≢◌, ◌≤◌, ℕ, List, [], ◌++◌, Bool, true, false, Option, Some, None, Err, length, nat_le, refl, sym, ap, ◌∙◌, subst, append-nil, arith, length-append}
+use Rattle.std.proofs.Common.{◌≡◌, ◌≢◌, ◌≤◌, ◌⊎◌, inl, inr, ℕ, List, [], ◌++◌, Bool, true, false, Option, Some, None, Err, length, nat_le, refl, sym, ap, ◌∙◌, subst, append-nil, arith, length-append}
 use Rattle.std.specs.Prelude.{IfSome, Result}
 use Rattle.std.proofs.lemmas.Bool.{false≢true}
 use Rattle.aql_script.specs.Script.{script, IsScript, HasFault, Loads, IsFaulty, Hinders}
@@ -11,6 +11,9 @@ use Rattle.aql_front.specs.Reading.{Refuses}
 use Rattle.aql_front.specs.declared.faults.QueryFault.{QueryFault}
 use Rattle.aql_front.specs.declared.faults.QueryFault.TheVariants as query
 use Rattle.aql_top.specs.Forms.{TakesWords, ReadsAs, Answers, IsScriptWith, Accepts, Allows}
+use Rattle.aql_top.specs.Forms.{answer_text}
+use Rattle.aql_top.specs.Entries.{IsFirstPlan, AddsFirst, PrintsEntry, AddsAtMostOne}
+use Rattle.aql_engine.specs.declared.engine.Ran.{Ran}
 use Rattle.aql_top.specs.Faults.{of_load, Leads, HasNoLines, status_of}
 use Rattle.aql_top.specs.Reasons.{query_status, RoseWhere}
 use Rattle.aql_top.specs.declared.faults.RunFault.{RunFault}
@@ -101,6 +104,22 @@ module _ (before after : Option (List ℕ)) (loaded : Loaded) where
   pub accepted : Loads loaded before after → ReadsAs loaded true → IfSome before Accepts
   accepted h r = script_with (λ l. ReadsAs l true) before after loaded h r
 
+  pub entered : (entries entries' : List Ran) (ran : Ran) (Written : List ℕ → Type 0)
+      → Loads loaded before after → AddsFirst loaded entries entries' ran → Written (answer_text ran.values)
+      → PrintsEntry before entries entries' Written
+  entered entries entries' ran Written h a w = record {
+    ran = ran;
+    added = a.added;
+    first = script_with (λ l. IsFirstPlan l ran.plan) before after loaded h a.first;
+    written = w;
+  }
+
+  pub at_most_one : (entries entries' : List Ran) → Loads loaded before after
+      → (entries' ≡ entries) ⊎ ((ran : Ran) × AddsFirst loaded entries entries' ran)
+      → AddsAtMostOne before entries entries'
+  at_most_one entries entries' h (inl same) = inl same
+  at_most_one entries entries' h (inr a) = inr (entered entries entries' a.0 (λ text. Unit {0}) h a.1 tt)
+
   pub no_lines_lead : (fault : RunFault) (words : List (List ℕ)) → TakesWords words
       → Loads loaded before after → HasNoLines loaded fault → Leads fault words before
   no_lines_lead run.Words words t h n = absurd n
@@ -147,3 +166,7 @@ no_lines_status loaded (run.Query fault) n = query_is_late fault
 no_lines_status loaded run.NotYet n = late_9
 no_lines_status loaded run.Write n = absurd n
 no_lines_status loaded run.Memory n = late_8
+
+-- only want of memory comes after the engine was called
+pub not_called : (fault : RunFault) → status_of fault ≢ 8 → fault ≢ run.Memory
+not_called fault other e = other (ap status_of e)

@@ -1,3 +1,4 @@
 pub mod Forms
+pub mod Entries
 pub mod Faults
 pub mod Reasons

@@ -1,25 +1,102 @@
-//! From a loaded script to the lines of one answer.
+//! From a loaded script to the lines of one answer, by a plan that the engine runs.
 
-ghost use Rattle.std.specs.Prelude.{true, IfOk, IfErr};
-ghost use Rattle.aql_top.specs.Forms.{ReadsAs, Answers};
+ghost use Rattle.std.specs.Prelude.{◌≡◌, ◌≢◌, ◌⊎◌, true, List, [], IfOk, OnOk, IfErr};
+ghost use Rattle.aql_value.specs.Datum.{Datum};
+ghost use Rattle.aql_doc.specs.Held.{database};
+ghost use Rattle.aql_meaning.specs.Row.{empty_row};
+ghost use Rattle.aql_plan.specs.Refines.{world, Answers as PlanAnswers};
+ghost use Rattle.aql_plan.specs.View.{plan_tree};
+ghost use Rattle.aql_plan.specs.WellFormed.{IsWellFormed};
+ghost use Rattle.aql_shard.specs.Known.{facts_of};
+ghost use Rattle.aql_exec_plan.specs.Runnable.{HasExecutors};
+ghost use Rattle.aql_engine.specs.declared.engine.Ran.{Ran};
+ghost use Rattle.aql_top.specs.Forms.{ReadsAs, Answers, answer_text};
+ghost use Rattle.aql_top.specs.Entries.{IsFirstPlan, AddsFirst};
 ghost use Rattle.aql_top.specs.Faults.{HasNoLines};
+ghost use Rattle.aql_top.specs.declared.faults.RunFault.TheVariants.{Memory};
 
 use crate::faults::RunFault;
+use aql_build::initial_plan;
+use aql_build::laws::scoping_gives_it;
+use aql_build_limits::laws::text_limits_end;
+use aql_engine::Engine;
+use aql_exec_plan::has_executors;
 use aql_front::read_query;
-use aql_run::run;
+use aql_opt::facts;
+use aql_opt::laws::facts_fit;
+use aql_plan::Plan;
 use aql_script::Loaded;
+use aql_shard::split;
+use aql_value::{Items, OutOfMemory, write_json};
 use std::alloc::Global;
 
-/// The lines of one answer of the query of a script, or the fault where there are none.
-#[tactic(auto, using(crate::proofs::Answering::is_lifted, crate::proofs::Answering::reads_as, crate::proofs::Answering::answers_written, crate::proofs::Answering::refused))]
-pub(crate) fn answer(alloc: Global, script: &Loaded) -> Result<Vec<u8>, RunFault>
-    ensures runs { IfOk result (λ lines. ReadsAs script.now true) }
-    ensures lines { IfOk result (λ lines. Answers script.now lines.items) }
+/// How many rows a step of a run gives at most.
+const BATCH: u32 = 1000;
+
+/// Has the engine run the first plan of the query of a script, and gives the lines of the values of
+/// its entry, which are those of one answer; or the fault where there are none.
+#[tactic(auto, using(crate::proofs::Answering::can_run))]
+pub(crate) fn answer<G: Engine>(
+    alloc: Global,
+    script: Loaded,
+    engine: &mut G,
+) -> Result<Vec<u8>, RunFault>
+    ensures runs { OnOk result (ReadsAs script true) }
+    ensures lines { IfOk result (λ lines. Answers script lines.items) }
+    ensures entry { IfOk result (λ lines. (ran : Ran)
+        × AddsFirst script (G.entries engine.old) (G.entries engine.new) ran
+        × (lines.items ≡ answer_text ran.values)) }
+    ensures none { IfErr result (λ fault. HasNoLines script fault) }
+    ensures idle { IfErr result (λ fault. fault ≢ Memory → engine.new ≡ engine.old) }
+    ensures at_most { (G.entries engine.new ≡ G.entries engine.old)
+        ⊎ ((ran : Ran) × AddsFirst script (G.entries engine.old) (G.entries engine.new) ran) }
+{
+    let plan = plan_of(alloc, &script)?;
+    let Loaded { catalog, query: _ } = script;
+    let mut servers = split(alloc, catalog, 0)?;
+    let before = engine.held().len();
+    engine.run(alloc, plan, &mut servers, BATCH)?;
+    match engine.held().get(before) {
+        Some(ran) => Ok(lines(alloc, &ran.values)?),
+        None => unreachable!(),
+    }
+}
+
+// The first plan of the query of a script.
+#[tactic(auto, using(crate::proofs::Answering::is_first_plan, crate::proofs::Answering::refused))]
+fn plan_of(alloc: Global, script: &Loaded) -> Result<Plan, RunFault>
+    ensures reads { OnOk result (ReadsAs script.now true) }
+    ensures first { IfOk result (λ plan. IsFirstPlan script.now plan) }
+    ensures executors { IfOk result (λ plan. HasExecutors (plan_tree plan)) }
+    ensures well_formed { IfOk result (λ plan.
+        IsWellFormed (facts_of 0 script.now.catalog) [] (plan_tree plan)) }
+    ensures answers { IfOk result (λ plan. (values : List Datum)
+        → PlanAnswers (plan_tree plan)
+        (world (facts_of 0 script.now.catalog) (database script.now.catalog)) empty_row values
+        → Answers script.now (answer_text values)) }
     ensures none { IfErr result (λ fault. HasNoLines script.now fault) }
 {
     let scoped = read_query(alloc, script.query.as_str(), &script.catalog)?;
-    match run(alloc, &scoped.query, &script.catalog)? {
-        Some(text) => Ok(text),
-        None => Err(RunFault::NotYet),
+    let facts = facts(alloc, &script.catalog, 0)?;
+    script.catalog.recall_limits();
+    facts_fit();
+    scoping_gives_it();
+    text_limits_end();
+    let plan = initial_plan(alloc, &scoped.query, &facts)?;
+    if !has_executors(&plan) {
+        return Err(RunFault::NotYet);
     }
+    Ok(plan)
+}
+
+// The lines of a list of values.
+fn lines(alloc: Global, values: &Items) -> Result<Vec<u8>, OutOfMemory>
+    ensures { IfOk result (λ text. text.items ≡ answer_text values.now) }
+{
+    let mut text = Vec::new(alloc);
+    for value in values.as_slice() {
+        write_json(value, &mut text)?;
+        text.push(b'\n')?;
+    }
+    Ok(text)
 }

@@ -1,24 +1,27 @@
-//! The top call: words, loading, the answer, writing.
+//! The top call: words, loading, the answer by a plan that the engine runs, writing.
 
 ghost use Rattle.std.specs.Prelude.{◌≡◌, ◌≢◌, ◌⊎◌, ◌↔◌, ℕ, List, IfOk, IfErr, OnOk, IfSome, IsSome, IsSomeAnd, IsTrue, MatchOption, string_bytes};
 ghost use Rattle.std.specs.Io.KnownBytes.{Appends, IsAtEnd};
 ghost use Rattle.aql_io.specs.Bytes.{AppendsPrefix};
 ghost use Rattle.aql_top.specs.Forms.{TakesWords, Accepts};
+ghost use Rattle.aql_top.specs.Entries.{PrintsEntry, AddsAtMostOne, IsEntered};
 ghost use Rattle.aql_top.specs.Reasons.{fault_status, query_status, Deserves, IsTextOf, as_line, Tells, Prints, RoseWhere};
 ghost use Rattle.aql_top.specs.Faults.{Leads, status_of, line_of, IsMade};
 ghost use Rattle.aql_top.specs.declared.faults.RunFault.TheVariants.{Memory};
 
 use crate::answer::answer;
 use crate::faults::RunFault;
+use aql_engine::Engine;
 use aql_front::{QueryFault, query_fault_text};
 use aql_io::{Sink, Source, write_all};
 use aql_script::{LoadFault, fault_text, load};
 use aql_value::{Names, OutOfMemory, Text};
 use std::alloc::Global;
 
-/// All that the program does: it loads the script from the source, reads the script's query, writes
-/// the lines of one of its answers to `out`, and answers the exit status. With status 0 nothing is
-/// written to `err`; with any other status one line is.
+/// All that the program does: it loads the script from the source, reads the script's query, has
+/// the engine run the query's plan, writes the lines of the values that came of it to `out`, which
+/// are one answer of the query, and answers the exit status. With status 0 nothing is written to
+/// `err`; with any other status one line is.
 ///
 /// | Status | It comes |
 /// |---|---|
@@ -35,12 +38,13 @@ use std::alloc::Global;
 /// (*) unless a read fails or memory runs out. The faults of the script come before those of its
 /// query. With any status but 0 and 7 nothing is written to `out`. A failed write to `err` changes
 /// nothing.
-pub fn run_shell<S: Source, K: Sink, E: Sink>(
+pub fn run_shell<S: Source, K: Sink, E: Sink, G: Engine>(
     alloc: Global,
     words: &Names,
     source: &mut S,
     out: &mut K,
     err: &mut E,
+    engine: &mut G,
 ) -> u8
     // 0: the source was read to its end, and exactly the lines of an answer were written.
     ensures printed { (result ≡ 0)
@@ -70,11 +74,17 @@ pub fn run_shell<S: Source, K: Sink, E: Sink>(
     ensures complete { TakesWords words.now → IsSomeAnd (S.left source.old) Accepts
         → (result ≡ 0) ⊎ ((result ≡ 6) ⊎ ((result ≡ 7) ⊎ (result ≡ 8))) }
 
+    // What was written is made of the one entry that the engine's list gained: with 0 and 7 there
+    // is one, of the query's first plan, with 8 at most one, and else the engine was not called.
+    ensures entry { IsEntered result (S.left source.old) (G.entries engine.old)
+        (G.entries engine.new) (K.written out.old) (K.written out.new) }
+    ensures idle { (result ≢ 0) → (result ≢ 7) → (result ≢ 8) → engine.new ≡ engine.old }
+
     // A read fails with 6 alone, and a write to the output with 7 alone.
     ensures read_fault { RoseWhere (result ≡ 6) (S.faults source.old) (S.faults source.new) }
     ensures write_fault { RoseWhere (result ≡ 7) (K.faults out.old) (K.faults out.new) }
 {
-    match run(alloc, words, source, out) {
+    match run(alloc, words, source, out, engine) {
         Ok(()) => 0,
         Err(fault) => {
             let fault = tell(alloc, fault, err);
@@ -84,12 +94,13 @@ pub fn run_shell<S: Source, K: Sink, E: Sink>(
 }
 
 // All but the line on the error output.
-#[tactic(auto, using(crate::proofs::Loading::load_leads, crate::proofs::Loading::load_reads, crate::proofs::Loading::load_status, crate::proofs::Loading::accepted, crate::proofs::Loading::allowed, crate::proofs::Loading::no_lines_lead, crate::proofs::Loading::no_lines_status))]
-fn run<S: Source, K: Sink>(
+#[tactic(auto, using(crate::proofs::Loading::load_leads, crate::proofs::Loading::load_reads, crate::proofs::Loading::load_status, crate::proofs::Loading::accepted, crate::proofs::Loading::allowed, crate::proofs::Loading::entered, crate::proofs::Loading::at_most_one, crate::proofs::Loading::not_called, crate::proofs::Loading::no_lines_lead, crate::proofs::Loading::no_lines_status))]
+fn run<S: Source, K: Sink, G: Engine>(
     alloc: Global,
     words: &Names,
     source: &mut S,
     out: &mut K,
+    engine: &mut G,
 ) -> Result<(), RunFault>
     ensures accepts { OnOk result (TakesWords words.now × IfSome (S.left source.old) Accepts) }
     ensures prints { OnOk result (Prints (S.left source.old)
@@ -106,12 +117,21 @@ fn run<S: Source, K: Sink>(
         → Prints (S.left source.old) (AppendsPrefix (K.written out.old) (K.written out.new))) }
     ensures untouched { IfErr result (λ fault. status_of fault ≢ 7 → out.new ≡ out.old) }
     ensures unread { IfErr result (λ fault. status_of fault ≡ 2 → source.new ≡ source.old) }
+    ensures entry { OnOk result (PrintsEntry (S.left source.old) (G.entries engine.old)
+        (G.entries engine.new) (Appends (K.written out.old) (K.written out.new))) }
+    ensures front_entry { IfErr result (λ fault. status_of fault ≡ 7
+        → PrintsEntry (S.left source.old) (G.entries engine.old) (G.entries engine.new)
+        (AppendsPrefix (K.written out.old) (K.written out.new))) }
+    ensures at_most { AddsAtMostOne (S.left source.old) (G.entries engine.old)
+        (G.entries engine.new) }
+    ensures idle { IfErr result (λ fault. status_of fault ≢ 7 → status_of fault ≢ 8
+        → engine.new ≡ engine.old) }
 {
     if !takes(words) {
         return Err(RunFault::Words);
     }
     let script = load(alloc, source)?;
-    let text = answer(alloc, &script)?;
+    let text = answer(alloc, script, engine)?;
     write_all(out, &text)?;
     Ok(())
 }

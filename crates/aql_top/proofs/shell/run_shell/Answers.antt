@@ -1,6 +1,6 @@
 use Rattle.std.proofs.Common.{◌≡◌, ◌⊎◌, sym, subst}
 use Rattle.aql_top.specs.Reasons.{Deserves, IsTextOf, Tells}
-use Rattle.aql_top.proofs.Ends.{told_leads, deserved, refused, complete, printed_deserves}
+use Rattle.aql_top.proofs.Ends.{told_leads, deserved, refused, complete, printed_deserves, entered, idle}
 use Rattle.aql_top.proofs.shell.run_shell.Goals as goal
 
 pub returns-in-Ok-clause-refused : goal.returns-in-Ok-clause-refused
@@ -43,3 +43,14 @@ returns-in-Err-clause-complete g c = λ takes accepts.
     let leads = told_leads c.in-Err.fault fault words input same c.in-Err.ensures.leads in
     subst (λ n. (n ≡ 0) ⊎ ((n ≡ 6) ⊎ ((n ≡ 7) ⊎ (n ≡ 8)))) (sym c.status.ensures)
     (complete words takes fault input leads accepts)
+
+pub returns-in-Err-clause-entry : goal.returns-in-Err-clause-entry
+returns-in-Err-clause-entry g c =
+    entered c.in-Err.fault c.tell-fault.result c.tell-fault.ensures.same _ c.status.ensures
+    (g.S.Source.left c.args.source.now) (g.G.Engine.entries c.args.engine.now)
+    (g.G.Engine.entries c.run.new.engine) (g.K.Sink.written c.args.out.now) (g.K.Sink.written c.run.new.out)
+    c.in-Err.ensures.front_entry c.run.ensures.at_most
+
+pub returns-in-Err-clause-idle : goal.returns-in-Err-clause-idle
+returns-in-Err-clause-idle g c = λ success.
+    idle c.in-Err.fault c.tell-fault.result c.tell-fault.ensures.same _ c.status.ensures c.in-Err.ensures.idle

@@ -1,8 +1,0 @@
-//! Scoped queries, run over a catalog.
-#![tactic(auto)]
-
-mod filtering;
-mod rows;
-mod running;
-
-pub use running::run;

@@ -1,0 +1,50 @@
+-- What the engine's list has of a run of the program: one entry, of the first plan of the script's query.
+use Rattle.std.specs.Prelude.{◌≡◌, ◌⊎◌, ℕ, List, [], ◌∷◌, ◌++◌, None, Option, IfSome}
+use Rattle.std.specs.Io.KnownBytes.{Appends}
+use Rattle.aql_io.specs.Bytes.{AppendsPrefix}
+use Rattle.aql_doc.specs.Held.{database}
+use Rattle.aql_tree.specs.Tree.{QueryTree}
+use Rattle.aql_script.specs.declared.loading.Loaded.{Loaded}
+use Rattle.aql_lift.specs.Lifting.{scope_query}
+use Rattle.aql_names.specs.Faults.{first_fault}
+use Rattle.aql_front.specs.Reading.{IsWritten}
+use Rattle.aql_plan.specs.declared.facts.Facts.{Facts}
+use Rattle.aql_plan.specs.declared.plan.Plan.{Plan}
+use Rattle.aql_plan.specs.Facts.{Meets}
+use Rattle.aql_plan.specs.View.{plan_tree}
+use Rattle.aql_plan.specs.FirstPlan.{first_plan}
+use Rattle.aql_engine.specs.declared.engine.Ran.{Ran}
+use Rattle.aql_top.specs.Forms.{answer_text, IsScriptWith}
+
+-- the first plan of the script's query, by facts that are true of its collections
+pub record IsFirstPlan (loaded : Loaded) (plan : Plan) : Type 0 where
+  pub query : QueryTree
+  pub is_written : IsWritten loaded.query query
+  pub no_fault : first_fault loaded.catalog query ≡ None
+  pub facts : Facts
+  pub true_facts : Meets facts (database loaded.catalog)
+  pub plan_is : plan_tree plan ≡ first_plan facts (scope_query [] 1 query).tree
+
+-- exactly one entry is new; its plan is the first plan of the script's query
+pub record AddsFirst (loaded : Loaded) (before after : List Ran) (ran : Ran) : Type 0 where
+  pub added : after ≡ before ++ ran ∷ []
+  pub first : IsFirstPlan loaded ran.plan
+
+-- the same of the script that the input is, and the lines of the entry's values were written in this way
+pub record PrintsEntry (input : Option (List ℕ)) (before after : List Ran) (Written : List ℕ → Type 0)
+    : Type 0 where
+  pub ran : Ran
+  pub added : after ≡ before ++ ran ∷ []
+  pub first : IfSome input (IsScriptWith (λ loaded. IsFirstPlan loaded ran.plan))
+  pub written : Written (answer_text ran.values)
+
+-- no entry is new, or one of the first plan
+abbrev pub AddsAtMostOne : Option (List ℕ) → List Ran → List Ran → Type 0
+AddsAtMostOne input before after = (after ≡ before) ⊎ PrintsEntry input before after (λ text. Unit {0})
+
+-- what the engine's list gained where a run came so far as to call the engine, and what was written of it
+pub record IsEntered (status : ℕ) (input : Option (List ℕ)) (before after : List Ran)
+    (written written' : Option (List ℕ)) : Type 0 where
+  pub printed : status ≡ 0 → PrintsEntry input before after (Appends written written')
+  pub front : status ≡ 7 → PrintsEntry input before after (AppendsPrefix written written')
+  pub no_memory : status ≡ 8 → AddsAtMostOne input before after
