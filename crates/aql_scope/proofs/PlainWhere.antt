@@ -1,18 +1,17 @@
 -- An expression without a fault is plain where no subquery may stand.
-use Rattle.std.proofs.Common.{◌≡◌, ◌∙◌, refl, sym, ap, subst}
-use Rattle.std.specs.Prelude.{Bool, false, Option, None}
+use Rattle.std.proofs.Common.{◌≡◌, ◌∙◌, refl, sym, ap}
+use Rattle.std.specs.Prelude.{Bool, true, false, Option, None}
 use Rattle.aql_tree.specs.Tree.{ExprTree, literal, variable, current, array_literal, object_literal, access, function_call, unary_of, chain, array_comparison, ternary, range_of, subquery, ExprTrees, no_exprs, expr_then, MaybeExpr, no_expr, one_expr, MemberTrees, no_members, named_then, computed_then, StepTrees, no_steps, name_then, at_then, inline_then, LinkTrees, no_links, link_then}
 use Rattle.aql_meaning.specs.Plain.{IsPlain, AllPlain, MaybePlain, MembersPlain, StepsPlain, LinksPlain}
-use Rattle.aql_names.specs.declared.faults.ScopeFault.{ScopeFault}
-use Rattle.aql_names.specs.declared.faults.ScopeFault.TheVariants.{SubqueryNotAllowed}
-use Rattle.aql_names.specs.Faults.{Place, inline, within_subquery, first, unless, in_expr, in_exprs, in_maybe, in_members, in_steps, in_links, in_query}
-use Rattle.aql_scope.proofs.Outcomes.{IsFault, first_left, first_right}
+use Rattle.aql_scope.specs.declared.faults.ScopeFault.{ScopeFault}
+use Rattle.aql_scope.specs.declared.faults.ScopeFault.TheVariants.{SubqueryNotAllowed}
+use Rattle.aql_scope.specs.Faults.{Place, inline, within_subquery, first, unless, in_expr, in_exprs, in_maybe, in_members, in_steps, in_links, in_query}
+use Rattle.aql_scope.proofs.First.{first_left, first_right, unless_none}
 
 no_subquery : (lifts : Bool) (g : Option ScopeFault) → lifts ≡ false
     → first (unless lifts SubqueryNotAllowed) g ≡ None → ⊥
-no_subquery lifts g l h =
-    subst IsFault (ap (λ b. unless b SubqueryNotAllowed) (sym l) ∙ first_left
-    (unless lifts SubqueryNotAllowed) g h) tt
+no_subquery true g l h = cc
+no_subquery false g l h = let e = unless_none false SubqueryNotAllowed (first_left _ g h) in cc
 
 mutual
   pub plain_where : (e : ExprTree) (p : Place) → p.lifts ≡ false → in_expr p e ≡ None → IsPlain e
@@ -37,7 +36,7 @@ mutual
       )
   plain_where (range_of e f) p l h =
       (plain_where e p l (first_left _ _ h), plain_where f p l (first_right (in_expr p e) _ h))
-  plain_where (subquery q) p l h = no_subquery p.lifts (in_query (within_subquery p) q) l h
+  plain_where (subquery q) p l h = absurd (no_subquery p.lifts (in_query (within_subquery p) q) l h)
 
   pub plain_exprs : (es : ExprTrees) (p : Place) → p.lifts ≡ false → in_exprs p es ≡ None → AllPlain es
   plain_exprs no_exprs p l h = tt

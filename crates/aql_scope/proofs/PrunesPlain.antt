@@ -3,14 +3,13 @@ use Rattle.std.proofs.Common.{◌≡◌, List, [], ◌∷◌, refl, nat_le}
 use Rattle.std.specs.Prelude.{None, codes}
 use Rattle.aql_func.specs.Aggregates.{aggregate_named}
 use Rattle.aql_tree.specs.declared.syntax.Ident.{Ident}
-use Rattle.aql_tree.specs.declared.syntax.Ident.TheVariants.{Name}
 use Rattle.aql_tree.specs.Tree.{ExprTree, literal, variable, current, array_literal, object_literal, access, function_call, unary_of, chain, array_comparison, ternary, range_of, subquery, ExprTrees, no_exprs, expr_then, MaybeExpr, no_expr, one_expr, MemberTrees, no_members, named_then, computed_then, StepTrees, no_steps, name_then, at_then, inline_then, LinkTrees, no_links, link_then, ClauseTree, for_each, for_documents, traversal, filter_by, let_be, sort_by, limit, collect, AggregateTrees, no_aggregates, aggregate_then, IntoTree, no_into, into, ClauseTrees, no_clauses, clause_then, QueryTree, query}
 use Rattle.aql_meaning.specs.Visible.{onto, aggregate_vars}
 use Rattle.aql_lift.specs.Prunes.{ExprPrunes, ExprsPrunes, MaybePrunes, MembersPrunes, StepsPrunes, LinksPrunes, AggregatesPrunes, IntoPrunes, ClausePrunes, ClausesPrunes, PrunesPlain}
-use Rattle.aql_names.specs.declared.faults.ScopeFault.TheVariants.{BadOption}
-use Rattle.aql_names.specs.Options.{no_settings}
-use Rattle.aql_names.specs.Faults.{Place, visible_variables, inline, within_subquery, after_clause, after_clauses, first, unless, new_name, new_names, known_collections, edge_collections, aggregate_fault, traversal_variables, in_expr, in_exprs, in_maybe, in_members, in_steps, in_links, in_settings, in_criteria, in_aggregates, in_into, in_clause, in_clauses, in_query}
-use Rattle.aql_scope.proofs.Outcomes.{first_left, first_right}
+use Rattle.aql_scope.specs.declared.faults.ScopeFault.TheVariants.{BadOption}
+use Rattle.aql_scope.specs.Options.{no_settings}
+use Rattle.aql_scope.specs.Faults.{Place, visible_variables, inline, within_subquery, after_clause, after_clauses, first, unless, new_name, new_names, known_collections, edge_collections, aggregate_fault, traversal_variables, in_expr, in_exprs, in_maybe, in_members, in_steps, in_links, in_settings, in_criteria, in_aggregates, in_into, in_clause, in_clauses, in_query}
+use Rattle.aql_scope.proofs.First.{first_left, first_right}
 use Rattle.aql_scope.proofs.PlainWhere.{plain_maybe}
 
 mutual
@@ -107,7 +106,7 @@ mutual
       prunes_maybe what p (first_left _ _ (first_right (new_name (visible_variables p) earlier x) _ h))
 
   pub prunes_clause : (c : ClauseTree) (p : Place) → in_clause p c ≡ None → ClausePrunes c
-  prunes_clause (for_each x (variable (Name c))) p h = tt
+  prunes_clause (for_each x (variable c)) p h = tt
   prunes_clause (for_each x e) p h =
       prunes_expr e p (first_right (new_name (visible_variables p) [] x) (in_expr p e) h)
   prunes_clause (for_documents x c) p h = tt

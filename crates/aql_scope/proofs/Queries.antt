@@ -1,148 +1,138 @@
--- What is said of the clauses of a query and of the query, from what is said of their parts.
-use Rattle.std.proofs.Common.{◌≡◌, ◌∙◌, ℕ, List, [], ◌∷◌, ◌++◌, map, refl, sym, ap, ap₂, append_assoc, append-nil}
-use Rattle.std.specs.Prelude.{Bool, true, Option, Some, None, Ok}
+-- The clauses of a query are lifted one after another, and then what RETURN gives.
+use Rattle.std.proofs.Common.{◌≡◌, ◌∙◌, ℕ, suc, ◌+◌, ◌<◌, ◌≤◌, List, [], ◌∷◌, ◌++◌, length, get_or, drop, map, Bool, refl, sym, ap, ap₂, subst, append_assoc, append-nil}
+use Rattle.std.proofs.lemmas.List.{map-append, drop_all}
+use Rattle.aql_tree.specs.declared.syntax.Clause.{Clause}
 use Rattle.aql_tree.specs.Tree.{ExprTree, ClauseTree, ClauseTrees, no_clauses, clause_then, QueryTree, query}
-use Rattle.aql_tree.specs.View as view
-use Rattle.aql_lift.specs.Numbering.{Numbering, idents}
-use Rattle.aql_lift.specs.Lifting as L
-use Rattle.aql_lift.specs.Lifting.{Scoped, ScopedClauses, as_it_is, over, append_clauses, with_lets}
-use Rattle.aql_lift.proofs.Places.{Placed, placed_clause, placed_clauses}
-use Rattle.aql_lift.proofs.Within.{idents_clause}
-use Rattle.aql_doc.specs.Held.{Held}
-use Rattle.aql_names.specs.declared.faults.ScopeFault.{ScopeFault}
-use Rattle.aql_names.specs.Faults.{after_clause, after_clauses, first, known_collections, in_expr, in_clause, in_clauses}
-use Rattle.aql_names.specs.Visit as W
-use Rattle.aql_names.specs.Visit.{Site, State, Outcome, place, visible, next, push_clause, on, judge}
-use Rattle.aql_scope.proofs.Outcomes.{let_of, after, outcome, state_is, next_append}
-use Rattle.aql_scope.proofs.Back.{clauses_of, clauses_of_lets, clauses_followed}
-use Rattle.aql_scope.proofs.Claims.{ExprIs, open_site, done, ClauseIs, clauses_outcome, ClausesAre, query_outcome, QueryIs}
+use Rattle.aql_tree.specs.View.{clause_tree, clauses}
+use Rattle.aql_lift.specs.Numbering.{Numbering}
+use Rattle.aql_lift.specs.Lifting as spec
+use Rattle.aql_lift.specs.Lifting.{NumberedSubquery, Scoped, ScopedClause, ScopedClauses, with_lets, append_clauses}
+use Rattle.aql_scope.specs.declared.numbers.Numbers.{Numbers}
+use Rattle.aql_scope.specs.Lifts.{Progress, progress, let_of, after}
+use Rattle.aql_scope.proofs.Turns.{Given, before, from_here}
+use Rattle.aql_scope.proofs.Parts.{before_clauses}
+use Rattle.aql_scope.proofs.Declared.{before_append, before_lets_of, clauses_lets}
 
--- ---- clauses
+-- the clauses of a query from its opening on are those that were lifted, and the rest from here on
+pub record GoesOn (whole : ScopedClauses) (said : List (List ℕ)) (rest : ScopedClauses) (now : Progress)
+    : Type 0 where
+  pub tree : whole.clauses ≡ before clause_then now.clauses rest.clauses
+  pub names : said ++ whole.said ≡ now.said ++ rest.said
+  pub visible : whole.own ≡ rest.own
+  pub number : whole.next ≡ rest.next
 
-pub no_clauses_are : ClausesAre no_clauses
-no_clauses_are held outer own st =
-    ap (λ new. Ok (own, new)) (state_is _ _ _ _ (sym (append-nil st.said)) (sym (append-nil st.lets)))
+module _ (outer : Numbering) (whole : ScopedClauses) (said : List (List ℕ)) (all : List Clause) (i : ℕ)
+    (own : Numbering) (now : Progress)
+  where
+    abbrev pub rest_from : Numbering → ℕ → ℕ → ScopedClauses
+    rest_from names n k = spec.clauses outer names n (clauses (map clause_tree (drop k all)))
 
--- a clause, the LETs before it and the clauses after it
-abbrev clause_and : Scoped ClauseTree → ScopedClauses → ScopedClauses
-clause_and c t = record {
-  clauses = with_lets c.subqueries (clause_then c.tree t.clauses);
-  own = t.own;
-  said = c.said ++ t.said;
-  next = t.next;
-}
+    -- one more clause was lifted, after the LETs of its subqueries
+    pub clause_turn : (x y : Clause) (after_own : Numbering) (then last : Progress)
+        → GoesOn whole said (rest_from own now.next i) now → i < length all → x ≡ get_or all i x
+        → Given (clause_tree y) (spec.clause outer own now.next (clause_tree x)).clause now then
+        → after_own ≡ (spec.clause outer own now.next (clause_tree x)).own
+        → last ≡ record then { clauses = then.clauses ++ clause_tree y ∷ [] }
+        → GoesOn whole said (rest_from after_own last.next (i + 1)) last
+    clause_turn x y after_own then last goes lt is g same more = by_last where
+      s : ScopedClause
+      s = spec.clause outer own now.next (clause_tree x)
 
--- the LETs before a clause, the clause and those after it, in one list
-lets_before : (lets : List ClauseTree) (c : Scoped ClauseTree) (t : ScopedClauses)
-    → ((lets ++ map let_of c.subqueries) ++ c.tree ∷ []) ++ clauses_of t.clauses
-    ≡ lets ++ clauses_of (clause_and c t).clauses
-lets_before lets c t =
-    append_assoc (lets ++ map let_of c.subqueries) (c.tree ∷ []) (clauses_of t.clauses)
-    ∙ append_assoc lets (map let_of c.subqueries) (c.tree ∷ clauses_of t.clauses)
-    ∙ ap (λ ls. lets ++ ls) (sym (clauses_of_lets c.subqueries (clause_then c.tree t.clauses)))
+      t : ScopedClauses
+      t = rest_from s.own s.clause.next (i + 1)
 
--- a clause with the names after it, and the clauses after it
-clause_before : (f g : Option ScopeFault) (c : Scoped ClauseTree) (own : Numbering)
-    (t : ℕ → ScopedClauses) (st : State)
-    (o : Outcome W.Done State) (k : W.Done → State → Outcome Numbering State)
-    → o ≡ outcome f (over (done own) c) st → Placed (next st.said) c.said c.next
-    → k (c.tree, own) (after c st)
-    ≡ clauses_outcome g (t (next (after c st).said)) (push_clause c.tree (after c st))
-    → on o k ≡ clauses_outcome (first f g) (clause_and c (t c.next)) st
-clause_before None None c own t st o k e p h =
-    ap (λ q. on q k) e ∙ h
-    ∙ ap (λ n. clauses_outcome None (t n) (push_clause c.tree (after c st)))
-    (next_append st.said c.said c.next p)
-    ∙ ap (λ new. Ok ((t c.next).own, new))
-    (state_is _ _ _ _ (append_assoc st.said c.said (t c.next).said) (lets_before st.lets c (t c.next)))
-clause_before None (Some fault) c own t st o k e p h = ap (λ q. on q k) e ∙ h
-clause_before (Some fault) g c own t st o k e p h = ap (λ q. on q k) e
+      by_x : rest_from own now.next i ≡ spec.clauses outer own now.next
+          (clause_then (clause_tree x) (clauses (map clause_tree (drop (i + 1) all))))
+      by_x = ap (λ cs. spec.clauses outer own now.next (clauses (map clause_tree cs))) (from_here all i x lt is)
 
-pub clauses_are : (c : ClauseTree) (cs : ClauseTrees) → ClauseIs c → ClausesAre cs
-    → ClausesAre (clause_then c cs)
-clauses_are c cs is are held outer own st =
-    let s = open_site held outer own in
-    let p = place s in
-    let n = next st.said in
-    let one = (L.clause outer own n c).clause in
-    let more = (L.clause outer own n c).own in
-    let here = push_clause one.tree (after one st) in
-    clause_before (in_clause p c) (in_clauses (after_clause c p) cs) one more
-    (λ m. L.clauses outer more m cs) st _ _
-    (is held outer own st) (placed_clause c outer own n)
-    (are held outer more here
-    ∙ ap (λ xs. clauses_outcome
-    (in_clauses (record { own = xs; outer = idents outer; held = held; lifts = true }) cs)
-    (L.clauses outer more (next here.said) cs) here) (idents_clause c outer own n))
+      lifted : Progress
+      lifted = record {
+        clauses = (now.clauses ++ map let_of s.clause.subqueries) ++ clause_tree y ∷ [];
+        said = now.said ++ s.clause.said;
+        next = s.clause.next;
+      }
 
--- the names after the clauses
-behind_clauses : (cs : ClauseTrees) (held : List Held) (outer own : Numbering) (n : ℕ)
-    → place (open_site held outer (L.clauses outer own n cs).own)
-    ≡ after_clauses cs (place (open_site held outer own))
-behind_clauses no_clauses held outer own n = refl
-behind_clauses (clause_then c cs) held outer own n =
-    let one = L.clause outer own n c in
-    behind_clauses cs held outer one.own one.clause.next
-    ∙ ap (λ xs. after_clauses cs (record { own = xs; outer = idents outer; held = held; lifts = true }))
-    (idents_clause c outer own n)
+      is_lifted : last ≡ lifted
+      is_lifted = more ∙ ap (λ (p : Progress). let q : Progress = record p {
+        clauses = p.clauses ++ clause_tree y ∷ [];
+      } in q) g.1
 
--- ---- queries
+      by_tree : whole.clauses ≡ before clause_then lifted.clauses t.clauses
+      by_tree = goes.tree ∙ ap (λ (r : ScopedClauses). before clause_then now.clauses r.clauses) by_x
+          ∙ ap (λ c. before clause_then now.clauses (with_lets s.clause.subqueries (clause_then c t.clauses)))
+          (sym g.0)
+          ∙ ap (before clause_then now.clauses)
+          (sym (before_lets_of s.clause.subqueries (clause_then (clause_tree y) t.clauses)))
+          ∙ sym (before_append clause_then now.clauses (map let_of s.clause.subqueries)
+          (clause_then (clause_tree y) t.clauses))
+          ∙ sym (before_append clause_then (now.clauses ++ map let_of s.clause.subqueries)
+          (clause_tree y ∷ []) t.clauses)
 
--- the clauses of a query, and its result
-result_behind : (f g : Option ScopeFault) (cs : ScopedClauses) (e : ℕ → Scoped ExprTree)
-    (with : List (List ℕ)) (distinct : Bool) (said : List (List ℕ)) (o : Outcome Numbering State)
-    (r : Numbering → State → Outcome ExprTree State)
-    → let st : State = record { said = said; lets = [] } in
-    let here : State = record { said = said ++ cs.said; lets = clauses_of cs.clauses } in
-    o ≡ clauses_outcome f cs st → Placed (next said) cs.said cs.next
-    → r cs.own here ≡ outcome g (e (next here.said)) here
-    → on o (λ own st. on (r own st) (λ t st. Ok (query with (view.clauses st.lets) distinct t, st.said)))
-    ≡ query_outcome (first f g) (let t = e cs.next in record {
-      tree = query with (append_clauses cs.clauses (with_lets t.subqueries no_clauses)) distinct t.tree;
-      subqueries = [];
-      said = cs.said ++ t.said;
-      next = t.next;
-    }) said
-result_behind None None cs e with distinct said o r h p d =
-    let here : State = record { said = said ++ cs.said; lets = clauses_of cs.clauses } in
-    let finish : ExprTree → State → Outcome QueryTree (List (List ℕ)) =
-    λ t st. Ok (query with (view.clauses st.lets) distinct t, st.said) in
-    ap (λ q. on q (λ own st. on (r own st) finish)) h ∙ ap (λ q. on q finish) d
-    ∙ ap (λ n. on (outcome None (e n) here) finish) (next_append said cs.said cs.next p)
-    ∙ ap₂ (λ ds more. Ok (query with ds distinct (e cs.next).tree, more))
-    (clauses_followed cs.clauses (e cs.next).subqueries) (append_assoc said cs.said (e cs.next).said)
-result_behind None (Some fault) cs e with distinct said o r h p d =
-    let finish : ExprTree → State → Outcome QueryTree (List (List ℕ)) =
-    λ t st. Ok (query with (view.clauses st.lets) distinct t, st.said) in
-    ap (λ q. on q (λ own st. on (r own st) finish)) h ∙ ap (λ q. on q finish) d
-result_behind (Some fault) g cs e with distinct said o r h p d =
-    ap (λ q. on q (λ own st. on (r own st) (λ t st. Ok (
-      query with
-          (view.clauses st.lets) distinct t,
-      st.said,
-    )))) h
+      goes_on : GoesOn whole said t lifted
+      goes_on = record {
+        tree = by_tree;
+        names = goes.names ∙ ap (λ (r : ScopedClauses). now.said ++ r.said) by_x
+            ∙ sym (append_assoc now.said s.clause.said t.said);
+        visible = goes.visible ∙ ap (λ (r : ScopedClauses). r.own) by_x;
+        number = goes.number ∙ ap (λ (r : ScopedClauses). r.next) by_x;
+      }
 
-judged_query : (f g : Option ScopeFault) (s : Scoped QueryTree) (said : List (List ℕ))
-    (o : Outcome QueryTree (List (List ℕ))) → o ≡ query_outcome g s said
-    → judge f o ≡ query_outcome (first f g) s said
-judged_query None g s said o e = e
-judged_query (Some fault) g s said o e = refl
+      by_last : GoesOn whole said (rest_from after_own last.next (i + 1)) last
+      by_last = subst (λ (names : Numbering). GoesOn whole said (rest_from names last.next (i + 1)) last)
+          (sym same) (subst (λ (p : Progress). GoesOn whole said (rest_from s.own p.next (i + 1)) p)
+          (sym is_lifted) goes_on)
 
-pub query_is : (with : List (List ℕ)) (cs : ClauseTrees) (distinct : Bool) (e : ExprTree) → ClausesAre cs
-    → ExprIs e
-    → QueryIs (query with cs distinct e)
-query_is with cs distinct e are is held outer said =
-    let p = place (open_site held outer []) in
-    let n = next said in
-    let start : State = record { said = said; lets = [] } in
-    let all = L.clauses outer [] n cs in
-    let here : State = record { said = said ++ all.said; lets = clauses_of all.clauses } in
-    judged_query (known_collections held with) (first (in_clauses p cs)
-    (in_expr (after_clauses cs p) e)) _ said _
-    (result_behind (in_clauses p cs) (in_expr (after_clauses cs p) e) all
-    (λ m. L.expr (all.own ++ outer) m e) with
-    distinct said _ (λ own st. W.expr (open_site held outer own) e st) (are held outer [] start)
-    (placed_clauses cs outer [] n)
-    (is (open_site held outer all.own) here
-    ∙ ap (λ q. outcome (in_expr q e) (L.expr (all.own ++ outer) (next here.said) e) here)
-    (behind_clauses cs held outer [] n)))
+-- all clauses were lifted, and then what RETURN gives
+module _ (outer : Numbering) (with : List (List ℕ)) (all : List Clause) (distinct : Bool) (e : ExprTree) (n : ℕ)
+    (said : List (List ℕ)) (i : ℕ) (own : Numbering) (now then : Progress) (f : ExprTree)
+  where
+    abbrev pub whole : ScopedClauses
+    whole = spec.clauses outer [] n (clauses (map clause_tree all))
+
+    abbrev pub lifted_query : Scoped QueryTree
+    lifted_query = spec.scope_query outer n (query with (clauses (map clause_tree all)) distinct e)
+
+    pub query_given : GoesOn whole said (spec.clauses outer own now.next (clauses (map clause_tree (drop i all)))) now
+        → length all ≤ i → Given f (spec.expr (own ++ outer) now.next e) now then
+        → (query with (clauses then.clauses) distinct f ≡ lifted_query.tree)
+        × (then.said ≡ said ++ lifted_query.said) × (then.next ≡ lifted_query.next)
+    query_given goes past g = by_ends where
+      ends : spec.clauses outer own now.next (clauses (map clause_tree (drop i all)))
+          ≡ spec.clauses outer own now.next no_clauses
+      ends = ap (λ cs. spec.clauses outer own now.next (clauses (map clause_tree cs))) (drop_all i all past)
+
+      done : whole.clauses ≡ clauses now.clauses
+      done = goes.tree ∙ ap (λ (r : ScopedClauses). before clause_then now.clauses r.clauses) ends
+          ∙ before_clauses now.clauses
+
+      names : whole.own ≡ own
+      names = goes.visible ∙ ap (λ (r : ScopedClauses). r.own) ends
+
+      number : whole.next ≡ now.next
+      number = goes.number ∙ ap (λ (r : ScopedClauses). r.next) ends
+
+      told : said ++ whole.said ≡ now.said
+      told = goes.names ∙ ap (λ (r : ScopedClauses). now.said ++ r.said) ends ∙ append-nil now.said
+
+      t : Scoped ExprTree
+      t = spec.expr (whole.own ++ outer) whole.next e
+
+      is_t : spec.expr (own ++ outer) now.next e ≡ t
+      is_t = ap₂ (λ (ns : Numbering) m. spec.expr (ns ++ outer) m e) (sym names) (sym number)
+
+      given : Given f t now then
+      given = subst (λ (s : Scoped ExprTree). Given f s now then) is_t g
+
+      tree : query with (clauses then.clauses) distinct f ≡ lifted_query.tree
+      tree = ap₂ (λ cs r. query with cs distinct r)
+          (ap (λ (p : Progress). clauses p.clauses) given.1 ∙ clauses_lets now.clauses t.subqueries
+          ∙ ap (λ cs. append_clauses cs (with_lets t.subqueries no_clauses)) (sym done)) given.0
+
+      by_ends : (query with (clauses then.clauses) distinct f ≡ lifted_query.tree)
+          × (then.said ≡ said ++ lifted_query.said) × (then.next ≡ lifted_query.next)
+      by_ends = (
+        tree,
+        ap (λ (p : Progress). p.said) given.1 ∙ ap (λ a. a ++ t.said) (sym told)
+            ∙ append_assoc said whole.said t.said,
+        ap (λ (p : Progress). p.next) given.1,
+      )

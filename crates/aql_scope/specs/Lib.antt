@@ -1,1 +1,4 @@
-pub mod Scoping
+pub mod Options
+pub mod Faults
+pub mod Places
+pub mod Lifts

@@ -1,8 +1,22 @@
-//! Scoping: names become numbers, subqueries stand in LETs of their own, or the first fault in the
-//! order of the text is found.
+//! Scoping: the first fault of a query in the order of its text, and the query whose names are
+//! numbers and whose subqueries stand in LETs of their own.
 #![tactic(auto)]
 
+mod checks;
+mod clause_faults;
+mod entering;
+mod expr_faults;
+mod faults;
+mod lift_clauses;
+mod lift_collect;
+mod lift_exprs;
+mod lift_options;
+mod lift_traversals;
+mod names;
+mod numbers;
+mod option_faults;
+mod options;
 mod scoping;
 
-pub use aql_names::ScopeFault;
-pub use scoping::{Scoped, scope};
+pub use faults::ScopeFault;
+pub use scoping::{Scoped, first_fault, lift, scope};

@@ -5,14 +5,17 @@ ghost use Rattle.aql_tree.specs.View.{query_tree};
 ghost use Rattle.aql_meaning.specs.Row.{empty_row};
 ghost use Rattle.aql_meaning.specs.Meaning.{IsAnswer};
 ghost use Rattle.aql_lift.specs.Lifting.{scope_query};
-ghost use Rattle.aql_names.specs.Faults.{first_fault};
-ghost use Rattle.aql_names.specs.declared.faults.ScopeFault.TheVariants.{Memory};
+ghost use Rattle.aql_scope.specs.Faults as spec;
+ghost use Rattle.aql_scope.specs.declared.faults.ScopeFault.TheVariants.{Memory};
 
+use crate::clause_faults::in_query;
+use crate::faults::ScopeFault;
+use crate::lift_clauses::lift_query;
+use crate::names::{At, Scope};
+use crate::numbers::Numbers;
 use aql_doc::Catalog;
-use aql_names::{At, NameList, Scope, ScopeFault};
-use aql_resolve::query_within;
 use aql_tree::Query;
-use aql_value::Names;
+use aql_value::{Names, OutOfMemory};
 use std::alloc::Global;
 
 /// A query whose variables are numbers, from 1 on, and whose subqueries stand in LETs.
@@ -28,36 +31,56 @@ impl Drop for Scoped {
     }
 }
 
+/// The first fault of a query in the order of the text.
+pub fn first_fault(
+    query: &Query,
+    catalog: &Catalog,
+    alloc: Global,
+) -> Result<Option<ScopeFault>, OutOfMemory>
+    ensures { IfOk result (λ f. f ≡ spec.first_fault catalog.now (query_tree query.now)) }
+{
+    let at = At {
+        alloc,
+        catalog,
+        scope: &Scope::nothing(alloc),
+        lifts: true,
+    };
+    in_query(query, &at)
+}
+
+/// The query with numbers for its variables, and with each subquery that is not the whole right
+/// side of a LET in a LET of its own before its clause (AQL fundamentals, Subqueries). It takes
+/// every query: a name that is not visible becomes null, or after IN a collection.
+pub fn lift(query: &Query, alloc: Global) -> Result<Scoped, OutOfMemory>
+    ensures query { IfOk result
+        (λ s. query_tree s.query ≡ (scope_query [] 1 (query_tree query.now)).tree) }
+    ensures names { IfOk result (λ s. s.names ≡ (scope_query [] 1 (query_tree query.now)).said) }
+{
+    let mut numbers = Numbers::from(alloc, 1);
+    let lifted = lift_query(query, &Scope::nothing(alloc), &mut numbers)?;
+    Ok(Scoped {
+        query: lifted,
+        names: numbers.said,
+    })
+}
+
 /// Numbers the variables of a query, tells collections from variables, and puts each subquery that
 /// is not the whole right side of a LET into a LET of its own before its clause (AQL fundamentals,
 /// Subqueries), or gives the first fault in the order of the text. Every answer of the query that
 /// it gives is an answer of the query that it got.
-#[tactic(auto, using(crate::proofs::WholeQuery::visit_answered, crate::proofs::WholeQuery::answers_stay))]
 pub fn scope(alloc: Global, query: Query, catalog: &Catalog) -> Result<Scoped, ScopeFault>
     ensures lifted { IfOk result
         (λ s. query_tree s.query ≡ (scope_query [] 1 (query_tree query)).tree) }
     ensures names { IfOk result (λ s. s.names ≡ (scope_query [] 1 (query_tree query)).said) }
-    ensures no_fault { IfOk result (λ s. first_fault catalog.now (query_tree query) ≡ None) }
+    ensures no_fault { IfOk result (λ s. spec.first_fault catalog.now (query_tree query) ≡ None) }
     ensures fault { IfErr result (λ e.
-        (e ≡ Memory) ⊎ (first_fault catalog.now (query_tree query) ≡ Some e)) }
+        (e ≡ Memory) ⊎ (spec.first_fault catalog.now (query_tree query) ≡ Some e)) }
     ensures answers { IfOk result (λ s. (db : Database) (out : List Datum)
         → IsAnswer db (query_tree s.query) empty_row out
         → IsAnswer db (query_tree query) empty_row out) }
 {
-    let mut said = Names::new(alloc);
-    let nothing = Scope {
-        own: NameList::new(alloc),
-        outer: NameList::new(alloc),
-    };
-    let at = At {
-        alloc,
-        catalog,
-        scope: &nothing,
-        lifts: true,
-    };
-    let lifted = query_within(&query, &at, &mut said)?;
-    Ok(Scoped {
-        query: lifted,
-        names: said,
-    })
+    match first_fault(&query, catalog, alloc)? {
+        Some(fault) => Err(fault),
+        None => Ok(lift(&query, alloc)?),
+    }
 }

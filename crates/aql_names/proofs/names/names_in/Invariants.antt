@@ -1,8 +1,0 @@
-use Rattle.std.proofs.Common.{◌≡◌, ◌++◌, drop}
-use Rattle.aql_meaning.specs.Groups.{names_of}
-use Rattle.aql_lift.specs.Numbering.{idents}
-use Rattle.aql_names.proofs.names.names_in.Given as goal
-
-abbrev pub invariant-loop-entry : goal.invariant-loop-entry
-invariant-loop-entry l =
-    names_of (idents l.entries) ≡ l.all ++ names_of (idents (drop l.entry-index l.entries))

@@ -1,0 +1,100 @@
+-- A variable is declared before a part, and a clause is lifted.
+use Rattle.std.proofs.Common.{◌≡◌, ◌∙◌, ℕ, suc, List, [], ◌∷◌, ◌++◌, map, refl, sym, ap, ap₂, subst, append_assoc, false}
+use Rattle.aql_tree.specs.declared.syntax.Clause.{Clause}
+use Rattle.aql_tree.specs.declared.syntax.Ident.{Ident}
+use Rattle.aql_tree.specs.declared.syntax.Ident.TheVariants.{Num}
+use Rattle.aql_tree.specs.Tree.{ExprTree, literal, variable, current, array_literal, object_literal, access, function_call, unary_of, chain, array_comparison, ternary, range_of, subquery, ClauseTree, for_each, let_be, ClauseTrees, no_clauses, clause_then, QueryTree}
+use Rattle.aql_tree.specs.View.{clause_tree, clauses}
+use Rattle.aql_lift.specs.Numbering.{Numbering, text_of}
+use Rattle.aql_lift.specs.Lifting as spec
+use Rattle.aql_lift.specs.Lifting.{NumberedSubquery, Scoped, ScopedClause, over, declares, with_lets, append_clauses}
+use Rattle.aql_scope.specs.declared.numbers.Numbers.{Numbers}
+use Rattle.aql_scope.specs.Lifts.{Progress, progress, let_of, after}
+use Rattle.aql_scope.proofs.Turns.{progress_is, Given, before}
+use Rattle.aql_scope.proofs.Forms.{is_variable, is_subquery}
+
+-- these names were said, and n is the next number
+abbrev pub say : List (List ℕ) → ℕ → Progress → Progress
+say names n p = record { clauses = p.clauses; said = p.said ++ names; next = n }
+
+pub said : (lets : List Clause) (m k : Numbers) (names : List (List ℕ)) (n : ℕ) → k.said ≡ m.said ++ names
+    → k.next ≡ n → progress lets k ≡ say names n (progress lets m)
+said lets m k names n e f = progress_is _ _ _ _ _ _ refl e f
+
+pub declared_given : {T : Type 0} (xs : List Ident) (s : Scoped T) (a : T) (n : ℕ) (p q : Progress)
+    → Given a s (say (map text_of xs) n p) q → Given a (declares xs s) p q
+declared_given xs s a n p q g =
+    (g.0, g.1 ∙ progress_is _ _ _ _ _ _ refl (append_assoc p.said (map text_of xs) s.said) refl)
+
+-- ---- FOR and LET, by whether their expression is a variable or a subquery
+
+abbrev pub for_other : Numbering → Numbering → ℕ → Ident → ExprTree → ScopedClause
+for_other outer own n x e = record {
+  clause = declares (x ∷ []) (over (for_each (Num n)) (spec.expr (own ++ outer) (suc n) e));
+  own = (x, n) ∷ own;
+}
+
+pub for_is : (outer own : Numbering) (n : ℕ) (x : Ident) (e : ExprTree) → is_variable e ≡ false
+    → spec.clause outer own n (for_each x e) ≡ for_other outer own n x e
+for_is outer own n x (variable y) other = absurd (cc)
+for_is outer own n x (literal v) other = refl
+for_is outer own n x current other = refl
+for_is outer own n x (array_literal es) other = refl
+for_is outer own n x (object_literal ms) other = refl
+for_is outer own n x (access e ss) other = refl
+for_is outer own n x (function_call f es) other = refl
+for_is outer own n x (unary_of op e) other = refl
+for_is outer own n x (chain e ls) other = refl
+for_is outer own n x (array_comparison e kind op f) other = refl
+for_is outer own n x (ternary e m f) other = refl
+for_is outer own n x (range_of e f) other = refl
+for_is outer own n x (subquery q) other = refl
+
+abbrev pub let_other : Numbering → Numbering → ℕ → Ident → ExprTree → ScopedClause
+let_other outer own n x e = record {
+  clause = declares (x ∷ []) (over (let_be (Num n)) (spec.expr (own ++ outer) (suc n) e));
+  own = (x, n) ∷ own;
+}
+
+pub let_is : (outer own : Numbering) (n : ℕ) (x : Ident) (e : ExprTree) → is_subquery e ≡ false
+    → spec.clause outer own n (let_be x e) ≡ let_other outer own n x e
+let_is outer own n x (subquery q) other = absurd (cc)
+let_is outer own n x (literal v) other = refl
+let_is outer own n x current other = refl
+let_is outer own n x (variable y) other = refl
+let_is outer own n x (array_literal es) other = refl
+let_is outer own n x (object_literal ms) other = refl
+let_is outer own n x (access e ss) other = refl
+let_is outer own n x (function_call f es) other = refl
+let_is outer own n x (unary_of op e) other = refl
+let_is outer own n x (chain e ls) other = refl
+let_is outer own n x (array_comparison e kind op f) other = refl
+let_is outer own n x (ternary e m f) other = refl
+let_is outer own n x (range_of e f) other = refl
+
+-- ---- the clauses of a query, with their LETs
+
+pub before_append : {A T : Type 0} (cons : A → T → T) (ps qs : List A) (t : T)
+    → before cons (ps ++ qs) t ≡ before cons ps (before cons qs t)
+before_append cons [] qs t = refl
+before_append cons (p ∷ ps) qs t = ap (cons p) (before_append cons ps qs t)
+
+pub before_lets_of : (ts : List NumberedSubquery) (cs : ClauseTrees)
+    → before clause_then (map let_of ts) cs ≡ with_lets ts cs
+before_lets_of [] cs = refl
+before_lets_of (t ∷ ts) cs = ap (clause_then (let_of t)) (before_lets_of ts cs)
+
+pub clauses_lets : (cs : List ClauseTree) (ts : List NumberedSubquery)
+    → clauses (cs ++ map let_of ts) ≡ append_clauses (clauses cs) (with_lets ts no_clauses)
+clauses_lets [] [] = refl
+clauses_lets [] (t ∷ ts) = ap (clause_then (let_of t)) (clauses_lets [] ts)
+clauses_lets (c ∷ cs) ts = ap (clause_then c) (clauses_lets cs ts)
+
+-- a part after the declaration of a variable
+pub after_declare : {T : Type 0} (x : Ident) (s : ℕ → Scoped T) (a : T) (lets : List Clause) (m k : Numbers)
+    (q : Progress) → k.said ≡ m.said ++ text_of x ∷ [] → k.next ≡ suc m.next
+    → Given a (s k.next) (progress lets k) q → Given a (declares (x ∷ []) (s (suc m.next))) (progress lets m) q
+after_declare x s a lets m k q e f g =
+    declared_given (x ∷ []) (s (suc m.next)) a (suc m.next) (progress lets m) q
+    (subst (λ n. Given a (s n) (say (text_of x ∷ []) (suc m.next) (progress lets m)) q) f
+    (subst (λ p. Given a (s k.next) p q) (said lets m k (text_of x ∷ []) (suc m.next) e f) g))

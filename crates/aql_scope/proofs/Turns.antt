@@ -1,0 +1,137 @@
+-- One part is lifted after another: what each leaves is what the whole leaves.
+use Rattle.std.proofs.Common.{◌≡◌, ◌∙◌, ℕ, suc, ◌+◌, ◌<◌, ◌≤◌, List, [], ◌∷◌, ◌++◌, length, get_or, drop, map, refl, sym, ap, ap₂, subst, append_assoc, append-nil, add-one}
+use Rattle.std.proofs.Math.Seq.{drop-cons}
+use Rattle.std.proofs.lemmas.List.{map-append, drop_all}
+use Rattle.aql_tree.specs.Tree.{ClauseTree}
+use Rattle.aql_lift.specs.Numbering.{text_of}
+use Rattle.aql_lift.specs.Lifting.{NumberedSubquery, Scoped, as_it_is, over, both, three, declares}
+use Rattle.aql_scope.specs.Lifts.{Progress, let_of, after}
+
+pub progress_is : (cs ds : List ClauseTree) (said more : List (List ℕ)) (n m : ℕ) → cs ≡ ds → said ≡ more → n ≡ m
+    → ◌≡◌ {A = Progress} (record { clauses = cs; said = said; next = n })
+    (record { clauses = ds; said = more; next = m })
+progress_is cs ds said more n m e f g =
+    ap₂ (λ a b. let p : Progress = record { clauses = a; said = b; next = n } in p) e f
+    ∙ ap (λ k. let p : Progress = record { clauses = ds; said = more; next = k } in p) g
+
+-- ---- two parts, three parts, and none
+
+pub after_both : {S T U : Type 0} (h : S → T → U) (s : Scoped S) (t : Scoped T) (p : Progress)
+    → after t (after s p) ≡ after (both h s t) p
+after_both h s t p = progress_is _ _ _ _ t.next t.next
+    (append_assoc p.clauses (map let_of s.subqueries) (map let_of t.subqueries)
+    ∙ ap (λ ls. p.clauses ++ ls) (sym (map-append let_of s.subqueries t.subqueries)))
+    (append_assoc p.said s.said t.said) refl
+
+pub after_none : {T : Type 0} (t : T) (p : Progress) → p ≡ after (as_it_is t p.next) p
+after_none t p = progress_is _ _ _ _ p.next p.next (sym (append-nil p.clauses)) (sym (append-nil p.said)) refl
+
+-- of three parts the first two are one
+abbrev pub pair : {S T : Type 0} → S → T → S × T
+pair a b = (a, b)
+
+scoped_is : {T : Type 0} (t : T) (a b : List NumberedSubquery) (said more : List (List ℕ)) (n : ℕ)
+    → a ≡ b → said ≡ more
+    → ◌≡◌ {A = Scoped T} (record { tree = t; subqueries = a; said = said; next = n })
+    (record { tree = t; subqueries = b; said = more; next = n })
+scoped_is {T} t a b said more n e f = ap₂ (λ x y. let s : Scoped T = record {
+  tree = t;
+  subqueries = x;
+  said = y;
+  next = n;
+} in s) e f
+
+pub three_both : {S T U V : Type 0} (h : S → T → U → V) (s : Scoped S) (t : Scoped T) (u : Scoped U)
+    → three h s t u ≡ both (λ (p : S × T) c. h p.0 p.1 c) (both pair s t) u
+three_both h s t u = scoped_is _ _ _ _ _ _ (sym (append_assoc s.subqueries t.subqueries u.subqueries))
+    (sym (append_assoc s.said t.said u.said))
+
+-- what the function that lifts a part answers
+abbrev pub Given : {T : Type 0} → T → Scoped T → Progress → Progress → Type 0
+Given a s before then = (a ≡ s.tree) × (then ≡ after s before)
+
+-- the parts s and then t, which goes on at the next number
+pub both_given : {S T U : Type 0} (h : S → T → U) (s : Scoped S) (t : ℕ → Scoped T) (a : S) (b : T)
+    (p q r : Progress)
+    → Given a s p q → Given b (t q.next) q r → Given (h a b) (both h s (t s.next)) p r
+both_given h s t a b p q r g k = by (subst (λ (x : Progress). Given b (t x.next) x r) g.1 k) where
+  by : Given b (t s.next) (after s p) r → Given (h a b) (both h s (t s.next)) p r
+  by k = (ap₂ h g.0 k.0, k.1 ∙ after_both h s (t s.next) p)
+
+pub three_given : {S T U V : Type 0} (h : S → T → U → V) (s : Scoped S) (t : ℕ → Scoped T) (u : ℕ → Scoped U)
+    (a : S) (b : T) (c : U) (p q r l : Progress) → Given a s p q → Given b (t q.next) q r
+    → Given c (u r.next) r l → Given (h a b c) (three h s (t s.next) (u (t s.next).next)) p l
+three_given {S} {T} h s t u a b c p q r l g k m =
+    subst (λ x. Given (h a b c) x p l) (sym (three_both h s (t s.next) (u (t s.next).next)))
+    (both_given (λ (d : S × T) e. h d.0 d.1 e) (both pair s (t s.next)) u (a, b) c p r l
+    (both_given pair s t a b p q r g k) m)
+
+pub over_given : {S T : Type 0} (h : S → T) (s : Scoped S) (a : S) (p q : Progress) → Given a s p q
+    → Given (h a) (over h s) p q
+over_given h s a p q g = (ap h g.0, g.1)
+
+-- ---- lists
+
+-- what was lifted of a list stands before the rest
+abbrev pub before : {A T : Type 0} → (A → T → T) → List A → T → T
+before cons [] t = t
+before cons (a ∷ more) t = cons a (before cons more t)
+
+before_more : {A T : Type 0} (cons : A → T → T) (done : List A) (a : A) (t : T)
+    → before cons (done ++ a ∷ []) t ≡ before cons done (cons a t)
+before_more cons [] a t = refl
+before_more cons (b ∷ done) a t = ap (cons b) (before_more cons done a t)
+
+-- the whole from its beginning on is what was lifted of it, and the rest from here on
+abbrev pub Goes : {A T : Type 0} → (A → T → T) → Scoped T → Progress → List A → Scoped T → Progress → Type 0
+Goes cons whole from done rest now = (whole.tree ≡ before cons done rest.tree) × (after whole from ≡ after rest now)
+
+pub from_here : {A : Type 0} (all : List A) (i : ℕ) (x : A) → i < length all → x ≡ get_or all i x
+    → drop i all ≡ x ∷ drop (i + 1) all
+from_here all i x h e =
+    subst (λ n. drop i all ≡ x ∷ drop n all) (sym (add-one i))
+    (subst (λ y. drop i all ≡ y ∷ drop (suc i) all) (sym e) (drop-cons all i x h))
+
+module _ {X A T : Type 0} (part : X → A) (cons : A → T → T) (rest : ℕ → List A → Scoped T) (whole : Scoped T)
+    (all : List X) (i : ℕ) (done : List X) (from now : Progress)
+    (goes : Goes cons whole from (map part done) (rest now.next (map part (drop i all))) now)
+  where
+    -- one more was lifted
+    pub turn : {S : Type 0} (x y : X) (new : List X) (s : Scoped S) (h : S → T → T) (then : Progress)
+        → i < length all → x ≡ get_or all i x → new ≡ done ++ y ∷ []
+        → ((more : List A) → rest now.next (part x ∷ more) ≡ both h s (rest s.next more))
+        → ((t : T) → h s.tree t ≡ cons (part y) t) → then ≡ after s now
+        → Goes cons whole from (map part new) (rest then.next (map part (drop (i + 1) all))) then
+    turn x y new s h then lt is more step lifted e = by_then where
+      left : List A
+      left = map part (drop (i + 1) all)
+
+      at_s : Scoped T
+      at_s = rest s.next left
+
+      is_both : rest now.next (map part (drop i all)) ≡ both h s at_s
+      is_both = ap (λ xs. rest now.next (map part xs)) (from_here all i x lt is) ∙ step left
+
+      tree : whole.tree ≡ before cons (map part new) at_s.tree
+      tree = goes.0 ∙ ap (λ r. before cons (map part done) r.tree) is_both
+          ∙ ap (before cons (map part done)) (lifted at_s.tree)
+          ∙ sym (before_more cons (map part done) (part y) at_s.tree)
+          ∙ ap (λ ps. before cons ps at_s.tree) (sym (map-append part done (y ∷ [])))
+          ∙ ap (λ xs. before cons (map part xs) at_s.tree) (sym more)
+
+      left_by : after whole from ≡ after at_s (after s now)
+      left_by = goes.1 ∙ ap (λ r. after r now) is_both ∙ sym (after_both h s at_s now)
+
+      by_then : Goes cons whole from (map part new) (rest then.next left) then
+      by_then = subst (λ (p : Progress). Goes cons whole from (map part new) (rest p.next left) p) (sym e)
+          (tree, left_by)
+
+    -- all were lifted
+    pub finish : (e d : T) → length all ≤ i → rest now.next [] ≡ as_it_is e now.next
+        → before cons (map part done) e ≡ d → Given d whole from now
+    finish e d past ends is = (
+      sym (goes.0 ∙ ap (λ r. before cons (map part done) r.tree) none ∙ is),
+      after_none e now ∙ sym (goes.1 ∙ ap (λ r. after r now) none),
+    ) where
+      none : rest now.next (map part (drop i all)) ≡ as_it_is e now.next
+      none = ap (λ xs. rest now.next (map part xs)) (drop_all i all past) ∙ ends

@@ -1,0 +1,8 @@
+use Rattle.aql_scope.proofs.Forms.{traversal_made}
+use Rattle.aql_scope.proofs.lift_traversals.traversal_with.Goals as goal
+
+pub returns : goal.returns
+returns c =
+    let h = c.args.head in
+    traversal_made c.args.traversal.now h.vertex h.edge h.path c.args.start c.args.collections c.args.prune
+    c.chosen_options.result c.chosen_options.ensures

@@ -1,0 +1,202 @@
+//! The clauses of a lifted query, and the query.
+
+ghost use Rattle.std.specs.Prelude.{◌≡◌, [], ◌∷◌, map, option_map, IfOk, OnOk};
+ghost use Rattle.aql_tree.specs.Tree.{for_each, let_be, subquery};
+ghost use Rattle.aql_tree.specs.View.{tree, trees, query_tree, clause_tree, key_part};
+ghost use Rattle.aql_tree.specs.View.{collect_part, collect_clause, traversal_part, traversal_clause};
+ghost use Rattle.aql_tree.specs.declared.syntax.Ident.TheVariants.{Num};
+ghost use Rattle.aql_lift.specs.Numbering.{number_of, from_name};
+ghost use Rattle.aql_lift.specs.Lifting as spec;
+ghost use Rattle.aql_scope.specs.Lifts.{Lifts, LiftsQuery, progress, visible};
+
+use crate::lift_collect::lift_collect;
+use crate::lift_exprs::{let_query, lift_boxed, lift_expr};
+use crate::lift_traversals::lift_traversal;
+use crate::names::{NameList, Scope};
+use crate::numbers::Numbers;
+use aql_copy::copy_texts;
+use aql_tree::{Clause, Clauses, Expr, Ident, Key, Keys, Query};
+use aql_value::{OutOfMemory, Seq, Value};
+
+/// A query among the names that are visible where it stands.
+#[cycle(lift)]
+pub fn lift_query(
+    query: &Query,
+    around: &Scope,
+    numbers: &mut Numbers,
+) -> Result<Query, OutOfMemory>
+    ensures { LiftsQuery query_tree
+        (spec.scope_query (visible around.now) numbers.old.next (query_tree query.now))
+        numbers.old result numbers.new }
+{
+    let with = copy_texts(numbers.alloc, query.with.as_slice())?;
+    let mut scope = around.subquery(numbers.alloc)?;
+    let mut done = Seq::new(numbers.alloc);
+    for clause in query.clauses.as_slice() {
+        let lifted = lift_clause(clause, &mut scope, numbers, &mut done)?;
+        done.push(lifted)?;
+    }
+    let result = lift_boxed(&query.result, &scope, numbers, &mut done)?;
+    Ok(Query {
+        with,
+        clauses: done,
+        distinct: query.distinct,
+        result,
+    })
+}
+
+// A clause; the query's own names are then those after it.
+#[cycle(lift)]
+fn lift_clause(
+    clause: &Clause,
+    scope: &mut Scope,
+    numbers: &mut Numbers,
+    lets: &mut Clauses,
+) -> Result<Clause, OutOfMemory>
+    ensures clause { Lifts clause_tree (spec.clause scope.old.outer scope.old.own numbers.old.next
+        (clause_tree clause.now)).clause
+        (progress lets.old numbers.old) result (progress lets.new numbers.new) }
+    ensures own { OnOk result (scope.new.own
+        ≡ (spec.clause scope.old.outer scope.old.own numbers.old.next (clause_tree clause.now)).own) }
+    ensures outer { scope.new.outer ≡ scope.old.outer }
+{
+    match clause {
+        Clause::For { var, list } => lift_for(list, var, scope, numbers, lets),
+        Clause::ForDocs { var, collection } => {
+            let number = numbers.declare(var)?;
+            scope.own.enter(numbers.alloc, var, number)?;
+            Ok(Clause::ForDocs {
+                var: Ident::Num(number),
+                collection: collection.copy(numbers.alloc)?,
+            })
+        }
+        Clause::Traversal(traversal) => lift_traversal(traversal, scope, numbers, lets),
+        Clause::Filter(test) => Ok(Clause::Filter(lift_expr(test, scope, numbers, lets)?)),
+        Clause::Let { var, expr } => lift_let(expr, var, scope, numbers, lets),
+        Clause::Sort(keys) => Ok(Clause::Sort(lift_keys(keys.as_slice(), scope, numbers, lets)?)),
+        Clause::Limit { offset, count } => Ok(Clause::Limit {
+            offset: *offset,
+            count: *count,
+        }),
+        Clause::Collect(collect) => lift_collect(collect, scope, numbers, lets),
+    }
+}
+
+// FOR over a single name, which is a variable or a collection, or over any other expression.
+#[cycle(lift)]
+fn lift_for(
+    list: &Expr,
+    var: &Ident,
+    scope: &mut Scope,
+    numbers: &mut Numbers,
+    lets: &mut Clauses,
+) -> Result<Clause, OutOfMemory>
+    ensures clause { Lifts clause_tree (spec.clause scope.old.outer scope.old.own numbers.old.next
+        (for_each var.now (tree list.now))).clause
+        (progress lets.old numbers.old) result (progress lets.new numbers.new) }
+    ensures own { OnOk result (scope.new.own ≡ (spec.clause scope.old.outer scope.old.own
+        numbers.old.next (for_each var.now (tree list.now))).own) }
+    ensures outer { scope.new.outer ≡ scope.old.outer }
+{
+    let number = numbers.declare(var)?;
+    match list {
+        Expr::Var(ident) => {
+            let lifted = source(ident, number, scope, numbers)?;
+            scope.own.enter(numbers.alloc, var, number)?;
+            Ok(lifted)
+        }
+        _ => {
+            let list = lift_expr(list, scope, numbers, lets)?;
+            scope.own.enter(numbers.alloc, var, number)?;
+            Ok(Clause::For {
+                var: Ident::Num(number),
+                list,
+            })
+        }
+    }
+}
+
+// FOR over a single name: a visible variable, or else a collection.
+fn source(
+    ident: &Ident,
+    number: u32,
+    scope: &Scope,
+    numbers: &Numbers,
+) -> Result<Clause, OutOfMemory>
+    ensures { IfOk result (λ c. clause_tree c
+        ≡ from_name number (number_of (visible scope.now) ident.now) ident.now) }
+{
+    let var = Ident::Num(number);
+    if let Some(found) = scope.find(ident) {
+        let list = Expr::Var(Ident::Num(found));
+        return Ok(Clause::For { var, list });
+    }
+    match ident {
+        Ident::Name(name) => Ok(Clause::ForDocs {
+            var,
+            collection: name.copy(numbers.alloc)?,
+        }),
+        Ident::Num(_) => Ok(Clause::For {
+            var,
+            list: Expr::Lit(Value::Null),
+        }),
+    }
+}
+
+// LET of a subquery, which stays there, or of any other expression.
+#[cycle(lift)]
+fn lift_let(
+    value: &Expr,
+    var: &Ident,
+    scope: &mut Scope,
+    numbers: &mut Numbers,
+    lets: &mut Clauses,
+) -> Result<Clause, OutOfMemory>
+    ensures clause { Lifts clause_tree (spec.clause scope.old.outer scope.old.own numbers.old.next
+        (let_be var.now (tree value.now))).clause
+        (progress lets.old numbers.old) result (progress lets.new numbers.new) }
+    ensures own { OnOk result (scope.new.own ≡ (spec.clause scope.old.outer scope.old.own
+        numbers.old.next (let_be var.now (tree value.now))).own) }
+    ensures outer { scope.new.outer ≡ scope.old.outer }
+{
+    let number = numbers.declare(var)?;
+    match value {
+        Expr::Sub(query) => {
+            let inner = lift_query(query, scope, numbers)?;
+            scope.own.enter(numbers.alloc, var, number)?;
+            let_query(inner, number, numbers.alloc)
+        }
+        _ => {
+            let expr = lift_expr(value, scope, numbers, lets)?;
+            scope.own.enter(numbers.alloc, var, number)?;
+            Ok(Clause::Let {
+                var: Ident::Num(number),
+                expr,
+            })
+        }
+    }
+}
+
+#[cycle(lift)]
+fn lift_keys(
+    keys: &[Key],
+    scope: &Scope,
+    numbers: &mut Numbers,
+    lets: &mut Clauses,
+) -> Result<Keys, OutOfMemory>
+    ensures keys { Lifts (λ ks. trees (map (λ k. k.0) (map key_part ks)))
+        (spec.exprs (visible scope.now) numbers.old.next
+        (trees (map (λ k. k.0) (map key_part keys.now))))
+        (progress lets.old numbers.old) result (progress lets.new numbers.new) }
+    ensures directions { IfOk result (λ ks. map (λ k. k.1) (map key_part ks)
+        ≡ map (λ k. k.1) (map key_part keys.now)) }
+{
+    let mut done = Seq::new(numbers.alloc);
+    for key in keys {
+        done.push(Key {
+            expr: lift_expr(&key.expr, scope, numbers, lets)?,
+            descending: key.descending,
+        })?;
+    }
+    Ok(done)
+}

@@ -1,0 +1,57 @@
+//! The numbers of variables.
+
+ghost use Rattle.std.specs.Prelude.{◌≡◌, [], ◌∷◌, ◌++◌, suc, IfOk, OnOk};
+ghost use Rattle.aql_lift.specs.Numbering.{text_of};
+
+use crate::names::spelling;
+use aql_tree::Ident;
+use aql_value::{Names, OutOfMemory, Text};
+use std::alloc::Global;
+
+/// The next number, and the names of all variables that have one, in order.
+#[derive(Drop)]
+pub struct Numbers {
+    pub alloc: Global,
+    pub next: u32,
+    pub said: Names,
+}
+
+impl Numbers {
+    /// No variable has a number below this one.
+    pub fn from(alloc: Global, next: u32) -> Numbers
+        ensures next { result.next ≡ next }
+        ensures said { result.said ≡ [] }
+    {
+        Numbers {
+            alloc,
+            next,
+            said: Names::new(alloc),
+        }
+    }
+
+    /// Takes the next number for a variable of this name. A query whose variables need more numbers
+    /// than there are does not fit into memory.
+    pub fn take(&mut self, name: Text) -> Result<u32, OutOfMemory>
+        ensures number { IfOk result (λ n. n ≡ self.old.next) }
+        ensures next { OnOk result (self.new.next ≡ suc self.old.next) }
+        ensures said { OnOk result (self.new.said ≡ self.old.said ++ name ∷ []) }
+    {
+        let number = self.next;
+        let Some(next) = number.checked_add(1) else {
+            return Err(OutOfMemory);
+        };
+        self.said.push(name)?;
+        self.next = next;
+        Ok(number)
+    }
+
+    /// Takes the next number for a variable that is written like this one.
+    pub fn declare(&mut self, ident: &Ident) -> Result<u32, OutOfMemory>
+        ensures number { IfOk result (λ n. n ≡ self.old.next) }
+        ensures next { OnOk result (self.new.next ≡ suc self.old.next) }
+        ensures said { OnOk result (self.new.said ≡ self.old.said ++ text_of ident.now ∷ []) }
+    {
+        let name = spelling(self.alloc, ident)?;
+        self.take(name)
+    }
+}
