@@ -17,8 +17,8 @@ use Rattle.aql_doc.specs.Declarations.{place_of}
 use Rattle.aql_lift.specs.Numbering.{Numbering, number_of, idents, numbered_variable, from_name, number_traversal, after_traversal, traversal_names}
 use Rattle.aql_lift.specs.Lifting.{NumberedSubquery, with_lets, append_clauses, expr, exprs, maybe, members, steps, links, criteria, aggregates, into_part, clause, clauses, scope_query}
 use Rattle.aql_lift.specs.laws.PlainTakesNothing.{plain_maybe_takes_nothing}
-use Rattle.aql_names.specs.declared.faults.ScopeFault.TheVariants.{SubqueryNotAllowed, BadOption}
-use Rattle.aql_names.specs.Faults.{Place, is_among, visible_variables, inline, within_subquery, after_clause, after_clauses, first, unless, new_name, new_names, known_collection, known_collections, edge_collections, aggregate_fault, keep_fault, traversal_variables, setting_fault, setting_of, settings_after, in_expr, in_exprs, in_maybe, in_members, in_steps, in_links, in_settings, in_criteria, in_aggregates, in_into, in_clause, in_clauses, in_query}
+use Rattle.aql_scope.specs.declared.faults.ScopeFault.TheVariants.{SubqueryNotAllowed, BadOption}
+use Rattle.aql_scope.specs.Faults.{Place, is_among, visible_variables, inline, within_subquery, after_clause, after_clauses, first, unless, new_name, new_names, known_collection, known_collections, edge_collections, aggregate_fault, keep_fault, traversal_variables, setting_fault, setting_of, settings_after, in_expr, in_exprs, in_maybe, in_members, in_steps, in_links, in_settings, in_criteria, in_aggregates, in_into, in_clause, in_clauses, in_query}
 use Rattle.aql_plan.specs.declared.facts.Facts.{Facts}
 use Rattle.aql_plan.specs.Fits.{HasArgument, AllKnown}
 use Rattle.aql_plan.specs.Variables.{are_among}
@@ -26,8 +26,9 @@ use Rattle.aql_plan.specs.FirstPlan.{coll_number}
 use Rattle.aql_build.specs.Resolved.{traversal_vars, rows_after, rows_after_all, ClauseFits, ClausesFit, QueryFits}
 use Rattle.aql_build.specs.Limits.{LimitsEnd, AllLimitsEnd, MaybeLimitsEnd, MemberLimitsEnd, StepLimitsEnd, LinkLimitsEnd, AggregateLimitsEnd, IntoLimitsEnd, ClauseLimitsEnd, ClausesLimitsEnd, QueryLimitsEnd}
 use Rattle.aql_build.specs.Theorem.{IsOf}
-use Rattle.aql_build.proofs.Parts.{all_join, all_split, among_join, access_found, first_left, first_right, unless_none}
-use Rattle.aql_build.proofs.PlainWhere.{plain_maybe}
+use Rattle.aql_scope.proofs.First.{first_left, first_right, unless_none}
+use Rattle.aql_scope.proofs.PlainWhere.{plain_maybe}
+use Rattle.aql_build.proofs.Parts.{all_join, all_split, among_join, access_found}
 use Rattle.aql_build.proofs.Collections.{number_known, edge_numbers}
 use Rattle.aql_build.proofs.Visible.{Has, Extends, pushed, first_has, Covers, covers_more, name_found, object_found, not_visible, traversal_covers, clause_covers, Stands, stands_after, stands_after_all, stands_visible}
 

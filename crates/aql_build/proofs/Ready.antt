@@ -5,7 +5,7 @@ use Rattle.std.specs.List.{AllZip, AllByRecursion}
 use Rattle.aql_tree.specs.Tree.{QueryTree}
 use Rattle.aql_lift.specs.Lifting.{scope_query}
 use Rattle.aql_lift.specs.Theorem.{LiftedIsPlain, ScopedIsNumbered}
-use Rattle.aql_names.specs.Faults.{outermost}
+use Rattle.aql_scope.specs.Faults.{outermost}
 use Rattle.aql_plan.specs.laws.Among.{once_distinct}
 use Rattle.aql_build.specs.Resolved.{set_in}
 use Rattle.aql_build.specs.Theorem.{ScopingGivesIt}

@@ -13,7 +13,7 @@ use Rattle.aql_meaning.specs.Uses.{uses, member_uses}
 use Rattle.aql_meaning.specs.Visible.{onto, vars_after, aggregate_vars, into_var}
 use Rattle.aql_lift.specs.Numbering.{Numbering, number_of, idents, numbered_variable, from_name, number_in, enter, numbers_from, number_after, maybe_number, number_traversal, traversal_names, variable_members}
 use Rattle.aql_lift.specs.Lifting.{expr, maybe, criteria, aggregates, into_part, clause, clauses}
-use Rattle.aql_names.specs.Faults.{Place, is_among, visible_variables, after_clause, after_clauses}
+use Rattle.aql_scope.specs.Faults.{Place, is_among, visible_variables, after_clause, after_clauses}
 use Rattle.aql_plan.specs.Variables.{are_among}
 use Rattle.aql_plan.specs.laws.Among.{any_front, any_back}
 use Rattle.aql_plan.specs.laws.Idents.{same_self}

@@ -3,8 +3,8 @@ use Rattle.aql_lex.specs.declared.faults.LexFault.{LexFault}
 use Rattle.aql_lex.specs.declared.faults.LexFault.TheVariants as lex
 use Rattle.aql_grammar.specs.declared.faults.ParseFault.{ParseFault}
 use Rattle.aql_grammar.specs.declared.faults.ParseFault.TheVariants as parse
-use Rattle.aql_names.specs.declared.faults.ScopeFault.{ScopeFault}
-use Rattle.aql_names.specs.declared.faults.ScopeFault.TheVariants as scope
+use Rattle.aql_scope.specs.declared.faults.ScopeFault.{ScopeFault}
+use Rattle.aql_scope.specs.declared.faults.ScopeFault.TheVariants as scope
 use Rattle.aql_front.specs.declared.faults.QueryFault.{QueryFault}
 use Rattle.aql_front.specs.declared.faults.QueryFault.TheVariants.{Lexical, TooDeep, TooManyClauses, NotInGrammar, TraversalTooDeep, Scope, Memory}
 

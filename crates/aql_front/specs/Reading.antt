@@ -12,8 +12,8 @@ use Rattle.aql_grammar.specs.declared.faults.ParseFault.TheVariants as parse
 use Rattle.aql_parse.specs.Parses.{Parses, WithinLimits, IsShallow}
 use Rattle.aql_lift.specs.Lifting.{scope_query}
 use Rattle.aql_doc.specs.Held.{Held}
-use Rattle.aql_names.specs.declared.faults.ScopeFault.TheVariants as scope
-use Rattle.aql_names.specs.Faults.{first_fault}
+use Rattle.aql_scope.specs.declared.faults.ScopeFault.TheVariants as scope
+use Rattle.aql_scope.specs.Faults.{first_fault}
 use Rattle.aql_front.specs.declared.faults.QueryFault.{QueryFault}
 use Rattle.aql_front.specs.declared.faults.QueryFault.TheVariants.{TooLong, Lexical, TooDeep, TooManyClauses, NotInGrammar, TraversalTooDeep, Scope, Memory}
 

@@ -4,8 +4,8 @@ use Rattle.std.specs.Fmt.{decimal}
 use Rattle.aql_lex.specs.Faults.{lex_text}
 use Rattle.aql_script.specs.Texts.{limit_text}
 use Rattle.aql_script.specs.declared.faults.LimitKind.TheVariants.{QueryBytes, Nesting, Clauses, TraversalDepth}
-use Rattle.aql_names.specs.declared.faults.ScopeFault.{ScopeFault}
-use Rattle.aql_names.specs.declared.faults.ScopeFault.TheVariants as scope
+use Rattle.aql_scope.specs.declared.faults.ScopeFault.{ScopeFault}
+use Rattle.aql_scope.specs.declared.faults.ScopeFault.TheVariants as scope
 use Rattle.aql_front.specs.declared.faults.QueryFault.{QueryFault}
 use Rattle.aql_front.specs.declared.faults.QueryFault.TheVariants.{TooLong, Lexical, TooDeep, TooManyClauses, NotInGrammar, TraversalTooDeep, Scope, Memory}
 

@@ -5,7 +5,7 @@ ghost use Rattle.aql_tree.specs.Tree.{QueryTree};
 ghost use Rattle.aql_tree.specs.View.{query_tree};
 ghost use Rattle.aql_meaning.specs.Row.{empty_row};
 ghost use Rattle.aql_meaning.specs.Meaning.{IsAnswer};
-ghost use Rattle.aql_names.specs.Faults.{first_fault};
+ghost use Rattle.aql_scope.specs.Faults.{first_fault};
 ghost use Rattle.aql_front.specs.declared.faults.QueryFault.{QueryFault};
 ghost use Rattle.aql_front.specs.Reading.{IsWritten, IsRefused, Refuses, IsScoped};
 
