@@ -95,13 +95,16 @@ impl<W: Place, A: Executor<W>, B: Executor<W>> Executor<W> for Choice<A, B> {
 
     ghost more_counts = { choice_more A.Executor.own B.Executor.own A.more_counts B.more_counts };
 
-    ghost kept_gives = { choice_gives A.Executor.own B.Executor.own W.Place A.kept_gives B.kept_gives };
+    ghost kept_gives = { choice_gives A.Executor.own B.Executor.own W.Place
+        A.kept_gives B.kept_gives };
 
-    ghost kept_valid = { choice_valid A.Executor.own B.Executor.own W.Place A.kept_valid B.kept_valid };
+    ghost kept_valid = { choice_valid A.Executor.own B.Executor.own W.Place
+        A.kept_valid B.kept_valid };
 
     ghost kept_room = { choice_room A.Executor.own B.Executor.own W.Place A.kept_room B.kept_room };
 
-    ghost own_links = { choice_links A.Executor.own B.Executor.own W.Place A.own_links B.own_links };
+    ghost own_links = { choice_links A.Executor.own B.Executor.own W.Place
+        A.own_links B.own_links };
 }
 
 impl<W: Place, A: Unlinked<W>, B: Unlinked<W>> Unlinked<W> for Choice<A, B> {
@@ -160,9 +163,11 @@ impl<W: Place, A: Wired<W>, B: Wired<W>> Wired<W> for Choice<A, B> {
         }
     }
 
-    ghost stuck_serves = { choice_stuck A.stuck B.stuck A.serves B.serves A.stuck_serves B.stuck_serves };
+    ghost stuck_serves = { choice_stuck A.stuck B.stuck A.serves B.serves
+        A.stuck_serves B.stuck_serves };
 
     ghost may_serve = { choice_may A.may B.may A.serves B.serves A.may_serve B.may_serve };
 
-    ghost serves_port = { choice_ports A.node B.node A.serves B.serves A.serves_port B.serves_port };
+    ghost serves_port = { choice_ports A.node B.node A.serves B.serves
+        A.serves_port B.serves_port };
 }

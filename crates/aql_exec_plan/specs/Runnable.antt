@@ -1,6 +1,6 @@
--- Which plans have an executor for each node today, a line for each node: none is written yet for COLLECT,
--- traversals, RETURN DISTINCT, indexes, fragments and links.
-use Rattle.std.specs.Prelude.{true, false}
+-- Which plans have an executor for each node today, a line for each node: none is written yet for traversals,
+-- indexes, fragments and links.
+use Rattle.aql_meaning.specs.declared.grouping.Stage.TheVariants as stage
 use Rattle.aql_plan.specs.Plan.{Plan, Singleton, Over, Node, EnumerateCollection, Index, EnumerateList, Traversal, Calculation, Subquery, Filter, Sort, Limit, Collect, Return, NoResults, Scatter, Distribute, Remote, Gather}
 
 abbrev mutual
@@ -18,9 +18,10 @@ abbrev mutual
   HasExecutor (Filter e) = Unit {0}
   HasExecutor (Sort directions es n) = Unit {0}
   HasExecutor (Limit offset count) = Unit {0}
-  HasExecutor (Collect xs es gs i s) = ⊥
-  HasExecutor (Return true e) = ⊥
-  HasExecutor (Return false e) = Unit {0}
+  HasExecutor (Collect xs es gs i stage.Whole) = Unit {0}
+  HasExecutor (Collect xs es gs i stage.Partial) = ⊥
+  HasExecutor (Collect xs es gs i stage.Final) = ⊥
+  HasExecutor (Return distinct e) = Unit {0}
   HasExecutor NoResults = Unit {0}
   HasExecutor (Scatter coll only) = ⊥
   HasExecutor (Distribute coll es) = ⊥

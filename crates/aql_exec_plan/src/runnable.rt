@@ -4,6 +4,7 @@ ghost use Rattle.std.specs.Prelude.{◌↔◌, IsTrue};
 ghost use Rattle.aql_plan.specs.View.{plan_tree};
 ghost use Rattle.aql_exec_plan.specs.Runnable.{HasExecutors};
 
+use aql_meaning::Stage;
 use aql_plan::Plan;
 
 /// Whether each node of a plan, those of bodies too, has an executor.
@@ -19,15 +20,14 @@ pub fn has_executors(plan: &Plan) -> bool
         Plan::Filter { below, .. } => has_executors(below),
         Plan::Sort { below, .. } => has_executors(below),
         Plan::Limit { below, .. } => has_executors(below),
-        Plan::Return {
-            below,
-            distinct,
-            ..
-        } => !*distinct && has_executors(below),
+        Plan::Collect { below, stage, .. } => match stage {
+            Stage::Whole => has_executors(below),
+            Stage::Partial | Stage::Final => false,
+        },
+        Plan::Return { below, .. } => has_executors(below),
         Plan::NoResults { below } => has_executors(below),
         Plan::Index { .. }
         | Plan::Traversal { .. }
-        | Plan::Collect { .. }
         | Plan::Scatter { .. }
         | Plan::Distribute { .. }
         | Plan::Remote { .. }

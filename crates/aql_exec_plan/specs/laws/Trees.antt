@@ -111,7 +111,8 @@ module _ (facts : Facts) where
   all_below : (n : ℕ) → AllByRecursion (λ k. k < n) (numbers_below n)
   all_below zero = tt
   all_below (suc n) =
-      all_with (λ k. k < suc n) (numbers_below n) n (below_next n (numbers_below n) (all_below n)) (omega arith)
+      all_with (λ k. k < suc n) (numbers_below n) n (below_next n (numbers_below n) (all_below n))
+      (omega arith)
 
   length-numbers_below : (n : ℕ) → length (numbers_below n) ≡ n
   length-numbers_below zero = refl
@@ -125,14 +126,18 @@ module _ (facts : Facts) where
 
   scattered : FewShards facts → (b : Plan) (coll : ℕ) (only : Option ℕ) → Fits facts (Scatter coll only)
       → IsTree facts (operators_of facts b) → OnShards coll (Over b (Scatter coll only))
-  scattered few b coll None f h =
-      (λ shard l. (refl, tt), (h, f, all_below (shards_in facts coll), few_below (shards_in facts coll) (few coll)))
+  scattered few b coll None f h = (
+    λ shard l. (refl, tt),
+    (h, f, all_below (shards_in facts coll), few_below (shards_in facts coll) (few coll)),
+  )
   scattered few b coll (Some shard) f h = (λ other l. (refl, tt), (h, f, (f.1, tt), omega arith))
 
   distributed : FewShards facts → (b : Plan) (coll : ℕ) (es : ExprTrees) → Fits facts (Distribute coll es)
       → IsTree facts (operators_of facts b) → OnShards coll (Over b (Distribute coll es))
-  distributed few b coll es f h =
-      (λ shard l. (refl, tt), (h, f, all_below (shards_in facts coll), few_below (shards_in facts coll) (few coll)))
+  distributed few b coll es f h = (
+    λ shard l. (refl, tt),
+    (h, f, all_below (shards_in facts coll), few_below (shards_in facts coll) (few coll)),
+  )
 
   -- ---- nodes over the foot
 
@@ -150,8 +155,12 @@ module _ (facts : Facts) where
   reads_fragment : (b : Plan) (n : Node) (coll : ℕ) → ReadsFragment coll n → Fits facts n
       → OnShards coll b → OnShards coll (Over b n)
   reads_fragment b (EnumerateCollection x) coll i f h = (
-    λ shard l. on_rows (EnumerateCollection (reading_at (Some shard) x)) (operators_at facts (Some shard) b) (h.0 shard l)
-        (shard_there x.coll shard x.shard f.0 (subst (λ (c : ℕ). shard < shards_in facts c) (sym i.0) l), f.1),
+    λ shard l. on_rows (EnumerateCollection (reading_at (Some shard) x)) (operators_at facts (Some shard) b)
+        (h.0 shard l) (
+          shard_there x.coll shard x.shard f.0
+              (subst (λ (c : ℕ). shard < shards_in facts c) (sym i.0) l),
+          f.1,
+        ),
     h.1,
   )
   reads_fragment b (Index x index equal last None) coll i f h = (
@@ -170,7 +179,8 @@ module _ (facts : Facts) where
   reads_shard : (b : Plan) (n : Node) (coll : ℕ) → ReadsShard n → Fits facts n
       → OnShards coll b → OnShards coll (Over b n)
   reads_shard b (EnumerateCollection x) coll i f h = (
-    λ shard l. on_rows (EnumerateCollection (reading_at (Some shard) x)) (operators_at facts (Some shard) b) (h.0 shard l)
+    λ shard l. on_rows (EnumerateCollection (reading_at (Some shard) x)) (operators_at facts (Some shard) b)
+        (h.0 shard l)
         (own_there x.coll shard x.shard i f.0, f.1),
     h.1,
   )
