@@ -1,0 +1,5 @@
+pub mod Told
+pub mod Kept
+pub mod Framed
+pub mod Collecting
+pub mod laws
