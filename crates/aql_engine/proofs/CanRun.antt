@@ -1,10 +1,15 @@
 -- The operators of a plan that can be run are a tree: each of its nodes fits, and it has no fragment. And what
 -- the tally of a run counts.
+use Rattle.std.specs.List.{AllByRecursion}
 use Rattle.std.proofs.Common.{ℕ, ◌≡◌, ◌≤◌, ap, arith}
 use Rattle.aql_block.specs.declared.tally.Tally.{Tally}
 use Rattle.aql_plan.specs.declared.facts.Facts.{Facts}
 use Rattle.aql_plan.specs.Plan.{Plan, Singleton, Over, Node, Subquery, Collect, Scatter, Distribute, Remote, Gather}
+use Rattle.aql_meaning.specs.Numbered.{IsNumber}
+use Rattle.aql_meaning.specs.declared.grouping.Stage.TheVariants as stage
 use Rattle.aql_plan.specs.Fits.{Fits}
+use Rattle.aql_plan.specs.Variables.{vars_set, set_once}
+use Rattle.aql_plan.specs.laws.Carried.{all_parts}
 use Rattle.aql_plan.specs.Shapes.{Shape, IsOuter, ReadsFragment, ReadsShard, KeepsRowOrder, Shaped, one_row, calculated, with_subquery, plain_rows, ordered_rows, scatter, distribute, remote, lowest, lowest_in_order, other_reading, passing, sorting, gather, gather_in_order, partial, joining, finishing, returning, HasNoFragment, IsNoFragment}
 use Rattle.aql_exec.specs.Rests.{Counter, scanned_full, scanned_index, filtered, Counts, counts_of, Rises}
 use Rattle.aql_exec.specs.Operators.{IsTree}
@@ -12,6 +17,7 @@ use Rattle.aql_exec_plan.specs.EachFits.{EachFits, BodyFits}
 use Rattle.aql_exec_plan.specs.OperatorsOf.{operators_of}
 use Rattle.aql_exec_plan.specs.Runnable.{HasExecutors, HasExecutor}
 use Rattle.aql_exec_plan.specs.laws.Trees.{plain_tree}
+use Rattle.aql_engine.specs.Building.{SetsNumbers, NodeSetsNumbers}
 
 -- ---- each node fits
 
@@ -58,13 +64,15 @@ shaped_fits facts p s (returning {b = b} f h) = (shaped_fits facts b _ h, f, tt)
 -- ---- there is no fragment
 
 mutual
-  no_fragment : (p : Plan) → HasExecutors p → HasNoFragment p
+  pub no_fragment : (p : Plan) → HasExecutors p → HasNoFragment p
   no_fragment Singleton h = tt
   no_fragment (Over b n) h = (no_fragment b h.0, no_fragment_at n h.1)
 
   no_fragment_at : (n : Node) → HasExecutor n → IsNoFragment n
   no_fragment_at (Subquery x body) h = no_fragment body h
-  no_fragment_at (Collect xs es gs i s) h = absurd h
+  no_fragment_at (Collect xs es gs i stage.Whole) h = tt
+  no_fragment_at (Collect xs es gs i stage.Partial) h = absurd h
+  no_fragment_at (Collect xs es gs i stage.Final) h = absurd h
   no_fragment_at (Scatter coll only) h = absurd h
   no_fragment_at (Distribute coll es) h = absurd h
   no_fragment_at Remote h = absurd h
@@ -74,6 +82,22 @@ mutual
 pub runs_tree : (facts : Facts) (p : Plan) (s : Shape) → Shaped facts p s → HasExecutors p
     → IsTree facts (operators_of facts p)
 runs_tree facts p s h e = plain_tree facts p (no_fragment p e) (shaped_fits facts p s h)
+
+-- ---- what a COLLECT sets are numbers
+
+mutual
+  pub sets_numbers : (p : Plan) → HasExecutors p → AllByRecursion IsNumber (vars_set p) → SetsNumbers p
+  sets_numbers Singleton h a = tt
+  sets_numbers (Over b n) h a =
+      let both = all_parts IsNumber (set_once n) (vars_set b) a in
+      (sets_numbers b h.0 both.1, node_sets_numbers n h.1 both.0)
+
+  node_sets_numbers : (n : Node) → HasExecutor n → AllByRecursion IsNumber (set_once n) → NodeSetsNumbers n
+  node_sets_numbers (Subquery x body) h a = sets_numbers body h a.1
+  node_sets_numbers (Collect xs es gs i stage.Whole) h a = a
+  node_sets_numbers (Collect xs es gs i stage.Partial) h a = absurd h
+  node_sets_numbers (Collect xs es gs i stage.Final) h a = absurd h
+  node_sets_numbers n h a = tt
 
 -- ---- counts
 

@@ -1,9 +1,3 @@
-pub mod Loops
-pub mod Leading
-pub mod Inputs
-pub mod Rooms
-pub mod Delivering
-pub mod Running
 pub mod Flying
 pub mod Returned
 pub mod CanRun

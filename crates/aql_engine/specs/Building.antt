@@ -1,8 +1,22 @@
--- The operator of a node that has an executor.
-use Rattle.aql_plan.specs.Plan.{Node, Subquery, NoResults}
+-- The operator of a node that has an executor; and what is asked of the variables of a COLLECT.
+use Rattle.std.specs.List.{AllByRecursion}
+use Rattle.aql_meaning.specs.Numbered.{IsNumber}
+use Rattle.aql_plan.specs.Plan.{Plan, Singleton, Over, Node, Subquery, Collect, NoResults}
+use Rattle.aql_plan.specs.Needs.{sets}
 use Rattle.aql_exec.specs.Operators.{Operator, NoRows, OnRows, WithBody}
 
 abbrev pub operator_of : Node → Operator
 operator_of NoResults = NoRows
 operator_of (Subquery x body) = WithBody x
 operator_of n = OnRows n
+
+abbrev mutual
+  -- what each COLLECT of a plan sets are numbers, also in bodies
+  pub SetsNumbers : Plan → Type 0
+  SetsNumbers Singleton = Unit {0}
+  SetsNumbers (Over b n) = SetsNumbers b × NodeSetsNumbers n
+
+  pub NodeSetsNumbers : Node → Type 0
+  NodeSetsNumbers (Subquery x body) = SetsNumbers body
+  NodeSetsNumbers (Collect xs es gs i s) = AllByRecursion IsNumber (sets (Collect xs es gs i s))
+  NodeSetsNumbers n = Unit {0}

@@ -9,17 +9,19 @@ ghost use Rattle.aql_exec.specs.Operators.{within};
 ghost use Rattle.aql_exec_plan.specs.EachFits.{EachFits};
 ghost use Rattle.aql_exec_plan.specs.OperatorsOf.{operators_of, on_top};
 ghost use Rattle.aql_exec_plan.specs.Runnable.{HasExecutors, HasExecutor};
-ghost use Rattle.aql_engine.specs.Building.{operator_of};
+ghost use Rattle.aql_engine.specs.Building.{operator_of, SetsNumbers, NodeSetsNumbers};
 
 use crate::nodes::{
-    NodeExecutor, calculation, enumerate_collection, enumerate_list, filter, limit, no_results,
-    results, sort, start_row, subquery,
+    NodeExecutor, calculation, collect, distinct_results, enumerate_collection, enumerate_list,
+    filter, limit, no_results, results, sort, start_row, subquery,
 };
-use crate::tree::Tree;
 use crate::world::World;
-use aql_copy::{copy_expr, copy_keys, copy_maybe, copy_texts};
+use aql_copy::{
+    copy_aggregates, copy_expr, copy_into, copy_keys, copy_lets, copy_maybe, copy_texts,
+};
 use aql_exec::{Executor, Feed};
 use aql_exec_scan::Reading;
+use aql_exec_tree::Tree;
 use aql_plan::Plan;
 use aql_value::{Names, OutOfMemory};
 use std::alloc::Global;
@@ -28,6 +30,7 @@ use std::alloc::Global;
 pub fn tree_of(alloc: Global, plan: &Plan) -> Result<Tree<NodeExecutor>, OutOfMemory>
     requires executors { HasExecutors (plan_tree plan.now) }
     requires fits { (facts : Facts) × EachFits facts (plan_tree plan.now) }
+    requires numbers { SetsNumbers (plan_tree plan.now) }
     ensures { IfOk result (λ t. (facts : Facts) → ⟦<Tree<NodeExecutor> as Feed<World>>⟧.plan t
         ≡ operators_of facts (plan_tree plan.now)) }
 {
@@ -45,6 +48,7 @@ pub fn tree_of(alloc: Global, plan: &Plan) -> Result<Tree<NodeExecutor>, OutOfMe
         Plan::Filter { below, .. } => over(alloc, plan, tree_of(alloc, below)?),
         Plan::Sort { below, .. } => over(alloc, plan, tree_of(alloc, below)?),
         Plan::Limit { below, .. } => over(alloc, plan, tree_of(alloc, below)?),
+        Plan::Collect { below, .. } => over(alloc, plan, tree_of(alloc, below)?),
         Plan::Return { below, .. } => over(alloc, plan, tree_of(alloc, below)?),
         _ => unreachable!(),
     }
@@ -58,6 +62,7 @@ fn over(
 ) -> Result<Tree<NodeExecutor>, OutOfMemory>
     requires executor { HasExecutor (spec.top (plan_tree plan.now)) }
     requires fits { (facts : Facts) × Fits facts (spec.top (plan_tree plan.now)) }
+    requires numbers { NodeSetsNumbers (spec.top (plan_tree plan.now)) }
     ensures { IfOk result (λ t. ⟦<Tree<NodeExecutor> as Feed<World>>⟧.plan t
         ≡ on_top (operator_of (spec.top (plan_tree plan.now)))
         (⟦<Tree<NodeExecutor> as Feed<World>>⟧.plan below)) }
@@ -86,6 +91,7 @@ fn with_body(
 fn executor_of(alloc: Global, plan: &Plan) -> Result<NodeExecutor, OutOfMemory>
     requires executor { HasExecutor (spec.top (plan_tree plan.now)) }
     requires fits { (facts : Facts) × Fits facts (spec.top (plan_tree plan.now)) }
+    requires numbers { NodeSetsNumbers (spec.top (plan_tree plan.now)) }
     ensures { IfOk result (λ x. ⟦<NodeExecutor as Executor<World>>⟧.node x
         ≡ operator_of (spec.top (plan_tree plan.now))) }
 {
@@ -120,7 +126,23 @@ fn executor_of(alloc: Global, plan: &Plan) -> Result<NodeExecutor, OutOfMemory>
             Ok(sort(alloc, copy_keys(alloc, keys.as_slice())?, *limit))
         }
         Plan::Limit { offset, count, .. } => Ok(limit(alloc, *offset, *count)),
-        Plan::Return { expr, .. } => Ok(results(alloc, copy_expr(alloc, expr)?)),
+        Plan::Collect {
+            groups,
+            aggregates,
+            into,
+            ..
+        } => {
+            let criteria = copy_lets(alloc, groups.as_slice())?;
+            let aggregates = copy_aggregates(alloc, aggregates.as_slice())?;
+            Ok(collect(alloc, criteria, aggregates, copy_into(alloc, into)?))
+        }
+        Plan::Return { distinct, expr, .. } => {
+            let expr = copy_expr(alloc, expr)?;
+            if *distinct {
+                return Ok(distinct_results(alloc, expr));
+            }
+            Ok(results(alloc, expr))
+        }
         _ => unreachable!(),
     }
 }

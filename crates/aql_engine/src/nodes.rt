@@ -1,22 +1,27 @@
 //! The executors of the nodes of a tree.
 
-ghost use Rattle.std.specs.Prelude.{◌≡◌, ◌+◌, ◌<◌, ◌^◌, false};
+ghost use Rattle.std.specs.Prelude.{◌≡◌, ◌+◌, ◌<◌, ◌^◌, true, false};
+ghost use Rattle.std.specs.List.{AllByRecursion};
 ghost use Rattle.aql_tree.specs.declared.syntax.Ident.TheVariants.{Num};
 ghost use Rattle.aql_tree.specs.View.{tree};
+ghost use Rattle.aql_meaning.specs.Numbered.{IsNumber};
+ghost use Rattle.aql_plan.specs.Needs.{sets};
 ghost use Rattle.aql_plan.specs.Plan as plan;
 ghost use Rattle.aql_plan.specs.View.{directions, key_trees};
 ghost use Rattle.aql_exec.specs.Operators.{StartRow, NoRows, OnRows, WithBody};
+ghost use Rattle.aql_exec_collect.specs.Told.{node_of};
 ghost use Rattle.aql_exec_scan.specs.Scans as scans;
 
 use crate::world::World;
 use aql_exec::{
-    AsWired, Calculation, Executor, Filter, Keep, Let, Limit, Mapped, NoResults, Results, Return,
-    Singleton, Stream,
+    AsWired, Calculation, Executor, Filter, FirstResults, Keep, Let, Limit, Mapped, NoResults,
+    Results, Return, ReturnDistinct, Singleton, Stream,
 };
+use aql_exec_collect::Collect;
 use aql_exec_nodes::Choice;
 use aql_exec_rows::{Order, Sort, Subquery};
 use aql_exec_scan::{Documents, Elements, EnumerateCollection, EnumerateList, Reading};
-use aql_tree::{Expr, Keys};
+use aql_tree::{Aggregates, Expr, Into, Keys, Lets};
 use std::alloc::Global;
 
 /// The executors without an input.
@@ -28,8 +33,8 @@ type RowWise = Choice<Choice<Calculation, Return>, Choice<Filter, Limit>>;
 /// Those that give several rows for one.
 type Enumeration = Choice<EnumerateList, EnumerateCollection>;
 
-/// Those that hold rows.
-type Holder = Choice<Sort, Subquery>;
+/// Those that hold rows, or what they need of them.
+type Holder = Choice<Choice<Sort, Subquery>, Choice<Collect, ReturnDistinct>>;
 
 /// The executor of any node.
 pub type NodeExecutor = AsWired<Choice<Choice<Leaf, RowWise>, Choice<Enumeration, Holder>>>;
@@ -48,6 +53,13 @@ pub fn no_results() -> NodeExecutor
     AsWired::new(Choice::First(Choice::First(Choice::Second(NoResults))))
 }
 
+fn holder(executor: Holder) -> NodeExecutor
+    ensures { ⟦<NodeExecutor as Executor<World>>⟧.node result
+        ≡ ⟦<Holder as Executor<World>>⟧.node executor }
+{
+    AsWired::new(Choice::Second(Choice::Second(executor)))
+}
+
 fn row_wise(executor: RowWise) -> NodeExecutor
     ensures { ⟦<NodeExecutor as Executor<World>>⟧.node result
         ≡ ⟦<RowWise as Executor<World>>⟧.node executor }
@@ -64,7 +76,7 @@ pub fn calculation(alloc: Global, var: u32, expr: Expr) -> NodeExecutor
     row_wise(Choice::First(Choice::First(executor)))
 }
 
-/// RETURN.
+/// RETURN without DISTINCT.
 pub fn results(alloc: Global, expr: Expr) -> NodeExecutor
     ensures { ⟦<NodeExecutor as Executor<World>>⟧.node result
         ≡ OnRows (plan.Return false (tree expr)) }
@@ -115,7 +127,7 @@ pub fn sort(alloc: Global, keys: Keys, limit: Option<u64>) -> NodeExecutor
         ≡ OnRows (plan.Sort (directions keys) (key_trees keys) limit) }
 {
     let executor = Stream::new(Order::new(alloc, keys, limit));
-    AsWired::new(Choice::Second(Choice::Second(Choice::First(executor))))
+    holder(Choice::First(Choice::First(executor)))
 }
 
 /// A subquery.
@@ -123,5 +135,29 @@ pub fn subquery(alloc: Global, var: u32) -> NodeExecutor
     ensures { ⟦<NodeExecutor as Executor<World>>⟧.node result ≡ WithBody (Num var) }
 {
     let executor = Subquery::new(alloc, var);
-    AsWired::new(Choice::Second(Choice::Second(Choice::Second(executor))))
+    holder(Choice::First(Choice::Second(executor)))
+}
+
+/// COLLECT as one step.
+pub fn collect(
+    alloc: Global,
+    criteria: Lets,
+    aggregates: Aggregates,
+    into: Option<Into>,
+) -> NodeExecutor
+    requires { AllByRecursion IsNumber (sets (node_of criteria aggregates into)) }
+    ensures { ⟦<NodeExecutor as Executor<World>>⟧.node result
+        ≡ OnRows (node_of criteria aggregates into) }
+{
+    let executor = Collect::new(alloc, criteria, aggregates, into);
+    holder(Choice::Second(Choice::First(executor)))
+}
+
+/// RETURN DISTINCT.
+pub fn distinct_results(alloc: Global, expr: Expr) -> NodeExecutor
+    ensures { ⟦<NodeExecutor as Executor<World>>⟧.node result
+        ≡ OnRows (plan.Return true (tree expr)) }
+{
+    let executor = Stream::new(FirstResults::new(alloc, expr));
+    holder(Choice::Second(Choice::Second(executor)))
 }

@@ -8,14 +8,12 @@ ghost use Rattle.aql_engine.specs.Engine.{CanRun, IsRunOver};
 
 use crate::building::tree_of;
 use crate::engine::Ran;
-use crate::nodes::NodeExecutor;
 use crate::results::results_of;
-use crate::run::run_feed;
-use crate::tree::Tree;
 use crate::world::World;
 use aql_block::{Row, Tally};
 use aql_doc::Catalog;
-use aql_exec::{Feed, Picker};
+use aql_exec::{Delivers, Picker};
+use aql_exec_tree::run_feed;
 use aql_plan::Plan;
 use aql_shard::{Servers, split};
 use aql_value::OutOfMemory;
@@ -37,25 +35,24 @@ pub fn run_plan<P: Picker>(
     ensures run { IfOk result (λ ran. (ran.plan ≡ plan) × (ran.batch ≡ batch)
         × IsRunOver (stock servers.old) ran) }
 {
-    let tree = tree_of(alloc, &plan)?;
+    let mut tree = tree_of(alloc, &plan)?;
     let none = split(alloc, Catalog::new(alloc), 0)?;
     let mut world = World::new(alloc, mem::replace(servers, none));
-    let ran = run_tree(alloc, plan, tree, &mut world, picker, batch);
+    let ran = run_operators(alloc, plan, &mut tree, &mut world, picker, batch);
     *servers = world.into_servers();
     ran
 }
 
-// Runs the executors of a plan from the empty row.
-fn run_tree<P: Picker>(
+// Runs a feed, which runs the operators of a plan, from the empty row.
+fn run_operators<F: Delivers<World>, P: Picker>(
     alloc: Global,
     plan: Plan,
-    mut tree: Tree<NodeExecutor>,
+    feed: &mut F,
     world: &mut World,
     picker: &mut P,
     batch: u32,
 ) -> Result<Ran, OutOfMemory>
-    requires tree { ⟦<Tree<NodeExecutor> as Feed<World>>⟧.plan tree
-        ≡ operators_of (stock world.old.servers).facts (plan_tree plan) }
+    requires feed { F.plan feed.old ≡ operators_of (stock world.old.servers).facts (plan_tree plan) }
     requires plan { CanRun (stock world.old.servers) plan }
     requires batch { (1 ≤ batch) × (batch ≤ 10000) }
     ensures stock { stock world.new.servers ≡ stock world.old.servers }
@@ -64,7 +61,7 @@ fn run_tree<P: Picker>(
 {
     let mut tally = Tally::new();
     let start = Row::new(alloc);
-    let blocks = run_feed(alloc, &mut tree, &start, world, picker, batch, &mut tally)?;
+    let blocks = run_feed(alloc, feed, &start, world, picker, batch, &mut tally)?;
     let values = results_of(alloc, blocks)?;
     Ok(Ran {
         plan,

@@ -55,6 +55,13 @@ returns-in_ok-tree_of-in-Limit t c =
     rw is (if_map c.over-in-Limit.result (rw is at c.over-in-Limit.ensures) (λ x h facts. h ∙ ap (on_top _)
     (below facts ∙ ap (λ p. operators_of facts (plan_tree p)) c.deref-in-Limit.ensures)))
 
+pub returns-in_ok-tree_of-in-Collect : goal.returns-in_ok-tree_of-in-Collect
+returns-in_ok-tree_of-in-Collect t c =
+    let is = c.in-Collect.is in
+    let below = c.in_ok-tree_of-in-Collect.ensures in
+    rw is (if_map c.over-in-Collect.result (rw is at c.over-in-Collect.ensures) (λ x h facts. h ∙ ap (on_top _)
+    (below facts ∙ ap (λ p. operators_of facts (plan_tree p)) c.deref-in-Collect.ensures)))
+
 pub returns-in_ok-tree_of-in-Return : goal.returns-in_ok-tree_of-in-Return
 returns-in_ok-tree_of-in-Return t c =
     let is = c.in-Return.is in

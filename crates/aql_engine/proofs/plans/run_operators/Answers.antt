@@ -9,12 +9,12 @@ use Rattle.aql_exec_plan.specs.OperatorsOf.{operators_of}
 use Rattle.aql_exec_plan.specs.laws.Sound.{produces_runs}
 use Rattle.aql_shard.specs.Held.{stock}
 use Rattle.aql_engine.proofs.CanRun.{runs_tree, counted_from_none}
-use Rattle.aql_engine.proofs.plans.run_tree.Goals as goal
+use Rattle.aql_engine.proofs.plans.run_operators.Goals as goal
 
 pub run_feed-requires-clause-plan : goal.run_feed-requires-clause-plan
 run_feed-requires-clause-plan g c =
     let facts = (stock c.args.world.now.servers).facts in
-    subst (λ (t : OperatorTree). IsTree facts t) (sym c.requires.tree)
+    subst (λ (t : OperatorTree). IsTree facts t) (sym c.requires.feed)
     (runs_tree facts (plan_tree c.args.plan) Result c.requires.plan.well_formed.1 c.requires.plan.executors)
 
 pub returns-clause-run : goal.returns-clause-run
@@ -23,7 +23,7 @@ returns-clause-run g c =
     let run = c.in_ok-blocks.ensures.rows in
     let produced : Produces (operators_of w.facts (plan_tree c.args.plan)) w empty_row run.0 =
     subst (λ (row : Row). Produces (operators_of w.facts (plan_tree c.args.plan)) w row run.0) c.new-start.ensures
-    (subst (λ (t : OperatorTree). Produces t w (row_of c.new-start.result) run.0) c.requires.tree run.1) in
+    (subst (λ (t : OperatorTree). Produces t w (row_of c.new-start.result) run.0) c.requires.feed run.1) in
     let values = c.in_ok-values.ensures ∙ ap (map result_of) run.2 in (
       refl,
       refl,
