@@ -1,0 +1,13 @@
+pub mod Falling
+pub mod Filtered
+pub mod Filters
+pub mod Flat
+pub mod Permuted
+pub mod Inserted
+pub mod Joined
+pub mod Unused
+pub mod FiltersRemoved
+pub mod FiltersFused
+pub mod FiltersInside
+pub mod FiltersPass
+pub mod FiltersUp

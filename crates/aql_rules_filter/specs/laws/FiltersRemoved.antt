@@ -1,0 +1,96 @@
+-- What a plan gives without an unnecessary filter, it gave with it.
+use Rattle.std.proofs.Common.{◌≡◌, ◌∙◌, ◌<◌, List, [], true, false, refl, ap, sym, subst, subst₂, arith}
+use Rattle.std.specs.Prelude.{Option, Some, None, filter}
+use Rattle.aql_value.specs.Datum.{Datum}
+use Rattle.aql_value.specs.Truth.{truth}
+use Rattle.aql_tree.specs.declared.syntax.Ident.{Ident}
+use Rattle.aql_tree.specs.Tree.{ExprTree, literal}
+use Rattle.aql_meaning.specs.Uses.{Uses}
+use Rattle.aql_plan.specs.declared.facts.Facts.{Facts}
+use Rattle.aql_plan.specs.Plan.{Plan, Over, Filter, NoResults}
+use Rattle.aql_plan.specs.Needs.{result_uses}
+use Rattle.aql_plan.specs.Runs.{Outside}
+use Rattle.aql_plan.specs.Refines.{world}
+use Rattle.aql_plan.specs.Shapes.{Shape, Rows, Shaped, plain_rows}
+use Rattle.aql_plan.specs.laws.Agreement.{rows_agree}
+use Rattle.aql_plan.proofs.SomeRun.{some_run}
+use Rattle.aql_rewrite_plan.specs.declared.swap.Rename.{Rename}
+use Rattle.aql_rewrite_plan.specs.Places.{First}
+use Rattle.aql_rewrite_plan.specs.Placed.{Placed, IsWhole}
+use Rattle.aql_rewrite_plan.specs.Swaps.{Replaced, KeepsPlaced}
+use Rattle.aql_rules_filter.specs.Conditions.{literal_in}
+use Rattle.aql_rules_filter.specs.Measures.{filters, is_filter}
+use Rattle.aql_rules_filter.specs.RemoveUnnecessaryFilters.{Removes, passing, failing}
+use Rattle.aql_rules_filter.specs.laws.Falling.{total_falls}
+use Rattle.aql_rules_filter.specs.laws.Filtered.{holds, filtered, all_pass, none_pass}
+use Rattle.aql_rules_filter.specs.laws.Filters.{filter_shaped, same_filters}
+
+pub removes_refine : (facts : Facts) (us : Uses) (p q : Plan) (r : Option Rename) → Removes us p q r
+    → Replaced false facts us p q r
+removes_refine facts _ _ _ _ (passing {us = us} {v = v} e) = λ db meets start out g. (
+  out,
+  (out, g, sym (filtered (literal v) out ∙ all_pass (holds (literal v)) (λ row. e) out)),
+  rows_agree us out,
+)
+removes_refine facts _ _ _ _ (failing {us = us} {b = b} {v = v} e) = λ db meets start out g.
+    let some = some_run b (world facts db) Outside start in (
+      out,
+      (some.0, some.1, g ∙ sym (filtered (literal v) some.0 ∙ none_pass (holds (literal v)) (λ row. e) some.0)),
+      rows_agree us out,
+    )
+
+pub removes_keep : (facts : Facts) (outer away : List Ident) (us : Uses) (p q : Plan) (r : Option Rename)
+    → Placed false false facts outer away us p → Removes us p q r
+    → KeepsPlaced false false facts outer us p q r
+removes_keep facts outer away _ _ _ _ placed (passing {us = us} {b = b} {v = v} e) = record {
+  suits = placed.suits.0;
+  shape = λ s out h.
+      let k = filter_shaped facts b (literal v) s out h in
+      subst (λ (t : Shape). Shaped facts b t) (sym k.0) k.2;
+  found = placed.found.0;
+  vars = λ x used h. h;
+  fewer = λ x. omega arith;
+}
+removes_keep facts outer away _ _ _ _ placed (failing {us = us} {b = b} {v = v} e) = record {
+  suits = (placed.suits.0, tt);
+  shape = λ s out h.
+      let k = filter_shaped facts b (literal v) s out h in
+      subst (λ (t : Shape). Shaped facts (Over b NoResults) t) (sym k.0) (plain_rows tt tt k.2);
+  found = (placed.found.0, refl, refl, tt);
+  vars = λ x used h. h;
+  fewer = λ x. omega arith;
+}
+
+removes_lower : (us : Uses) (p q : Plan) (r : Option Rename) → Removes us p q r → filters q < filters p
+removes_lower _ _ _ _ (passing e) = omega arith
+removes_lower _ _ _ _ (failing e) = omega arith
+
+pub removes_fall : (facts : Facts) (p q : Plan) (r : Option Rename) → IsWhole false facts p
+    → First Removes false result_uses p q r → filters q < filters p
+removes_fall facts = total_falls is_filter same_filters facts Removes removes_lower
+
+-- ---- what the rule finds
+
+literal_is : (e : ExprTree) (v : Datum) → literal_in e ≡ Some v → e ≡ literal v
+literal_is (literal u) v h = let k : u ≡ v = cc in ap literal k
+literal_is e v h = cc
+
+none_found : (us : Uses) (b : Plan) (e : ExprTree) → literal_in e ≡ None
+    → (q : Plan) (r : Option Rename) → Removes us (Over b (Filter e)) q r → ⊥
+none_found us _ _ h _ _ (passing t) = cc
+none_found us _ _ h _ _ (failing t) = cc
+
+pub removes_stays : (us : Uses) (p b : Plan) (e : ExprTree) → p ≡ Over b (Filter e) → literal_in e ≡ None
+    → (q : Plan) (r : Option Rename) → Removes us p q r → ⊥
+removes_stays us p b e d h =
+    subst (λ (m : Plan). (q : Plan) (r : Option Rename) → Removes us m q r → ⊥) (sym d) (none_found us b e h)
+
+pub passing_at : (us : Uses) (p b q : Plan) (e : ExprTree) (v : Datum) → p ≡ Over b (Filter e)
+    → literal_in e ≡ Some v → truth v ≡ true → q ≡ b → Removes us p q None
+passing_at us p b q e v d h t k = subst₂ (λ (m s : Plan). Removes us m s None)
+    (sym (d ∙ ap (λ c. Over b (Filter c)) (literal_is e v h))) (sym k) (passing t)
+
+pub failing_at : (us : Uses) (p b q : Plan) (e : ExprTree) (v : Datum) → p ≡ Over b (Filter e)
+    → literal_in e ≡ Some v → truth v ≡ false → q ≡ Over b NoResults → Removes us p q None
+failing_at us p b q e v d h t k = subst₂ (λ (m s : Plan). Removes us m s None)
+    (sym (d ∙ ap (λ c. Over b (Filter c)) (literal_is e v h))) (sym k) (failing t)

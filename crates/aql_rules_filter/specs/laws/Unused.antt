@@ -1,0 +1,78 @@
+-- A variable that is not used may have any value.
+use Rattle.std.proofs.Common.{◌≡◌, ◌∙◌, List, [], ◌∷◌, ◌++◌, Bool, true, false, true≢false, cond, refl, ap, sym}
+use Rattle.std.specs.Prelude.{◌||◌, ◌&&◌, not, Option, Some, None, unwrap_or, option_to_list}
+use Rattle.std.specs.List.{list_any, list_all}
+use Rattle.std.proofs.lemmas.Bool.{and_parts, not-true}
+use Rattle.std.proofs.lemmas.List.Folds.{list_all-append}
+use Rattle.aql_value.specs.Datum.{Datum, null}
+use Rattle.aql_value.specs.Parts.{at_name}
+use Rattle.aql_value.specs.Truth.{truth}
+use Rattle.aql_tree.specs.declared.syntax.Ident.{Ident}
+use Rattle.aql_tree.specs.Tree.{ExprTree}
+use Rattle.aql_meaning.specs.Row.{Row, bind, bind_maybe, same_ident}
+use Rattle.aql_meaning.specs.Uses.{Use, Whole, Part, Uses, AgreeAt, Agree, used_variable, uses}
+use Rattle.aql_meaning.specs.laws.Agrees.{value_same}
+use Rattle.aql_plan.specs.Variables.{are_among}
+use Rattle.aql_plan.specs.laws.Idents.{same_swapped}
+use Rattle.aql_rewrite_plan.specs.Swaps.{is_used}
+use Rattle.aql_rewrite_plan.specs.laws.Among.{has, both, and_true}
+use Rattle.aql_rules_filter.specs.MoveFiltersUp.{none_used}
+use Rattle.aql_rules_filter.specs.laws.Filtered.{holds}
+
+neither : (a b : Bool) → (a || b) ≡ false → (a ≡ false) × (b ≡ false)
+neither true b h = absurd (true≢false h)
+neither false b h = (refl, h)
+
+agree_at : (u : Use) (x : Ident) (row : Row) (v : Datum) → same_ident x (used_variable u) ≡ false
+    → AgreeAt u row (bind x row v)
+agree_at (Whole y) x row v h = sym (ap (λ b. unwrap_or (cond b (Some v) (row y)) null) h)
+agree_at (Part y name) x row v h = sym (ap (λ b. at_name (unwrap_or (cond b (Some v) (row y)) null) name) h)
+
+pub agree_unused : (us : Uses) (x : Ident) (row : Row) (v : Datum) → is_used x us ≡ false
+    → Agree us row (bind x row v)
+agree_unused [] x row v h = tt
+agree_unused (u ∷ us) x row v h =
+    let k = neither (same_ident x (used_variable u)) (is_used x us) h in
+    (agree_at u x row v k.0, agree_unused us x row v k.1)
+
+-- a condition does not look at what it does not use
+pub holds_still : (c : ExprTree) (x : Ident) (row : Row) (v : Datum) → is_used x (uses c) ≡ false
+    → holds c (bind x row v) ≡ holds c row
+holds_still c x row v h = ap truth (sym (value_same c null row (bind x row v) (agree_unused (uses c) x row v h)))
+
+pub first_unused : (x : Ident) (xs : List Ident) (us : Uses) → none_used (x ∷ xs) us ≡ true
+    → (is_used x us ≡ false) × (none_used xs us ≡ true)
+first_unused x xs us h =
+    let k = and_parts (not (is_used x us)) (none_used xs us) h in (not-true (is_used x us) k.0, k.1)
+
+pub unused_split : (xs ys : List Ident) (us : Uses) → none_used (xs ++ ys) us ≡ true
+    → (none_used xs us ≡ true) × (none_used ys us ≡ true)
+unused_split xs ys us h = and_parts (none_used xs us) (none_used ys us)
+    (sym (list_all-append (λ x. not (is_used x us)) xs ys) ∙ h)
+
+pub holds_maybe : (c : ExprTree) (x : Option Ident) (row : Row) (v : Datum)
+    → none_used (option_to_list x) (uses c) ≡ true → holds c (bind_maybe x row v) ≡ holds c row
+holds_maybe c None row v h = refl
+holds_maybe c (Some x) row v h = holds_still c x row v (first_unused x [] (uses c) h).0
+
+-- what is used is there without the variables that are not
+among_without : (us : Uses) (x : Ident) (xs : List Ident) → is_used x us ≡ false
+    → are_among us (x ∷ xs) ≡ true → are_among us xs ≡ true
+among_without [] x xs h k = refl
+among_without (u ∷ us) x xs h k =
+    let l = neither (same_ident x (used_variable u)) (is_used x us) h in
+    let m = both (has (used_variable u) (x ∷ xs)) (are_among us (x ∷ xs)) k in
+    and_true (has (used_variable u) xs) (are_among us xs)
+    (by (same_ident (used_variable u) x) (same_swapped x (used_variable u) l.0) m.0)
+    (among_without us x xs l.1 m.1)
+  where
+    by : (b : Bool) → b ≡ false → (b || has (used_variable u) xs) ≡ true → has (used_variable u) xs ≡ true
+    by true e h = absurd (true≢false e)
+    by false e h = h
+
+pub among_others : (us : Uses) (xs ys : List Ident) → none_used xs us ≡ true
+    → are_among us (xs ++ ys) ≡ true → are_among us ys ≡ true
+among_others us [] ys h k = k
+among_others us (x ∷ xs) ys h k =
+    let l = first_unused x xs us h in
+    among_others us xs ys l.1 (among_without us x (xs ++ ys) l.0 k)

@@ -1,0 +1,53 @@
+//! A Filter over a Filter becomes one with the items of the lower, then of the upper.
+
+use crate::conditions::joined;
+use crate::readers::{filter_of, filter_over};
+use aql_plan::{Facts, Plan, Uses};
+use aql_rewrite_plan::{Rule, Swap};
+use aql_value::OutOfMemory;
+use std::alloc::Global;
+
+/// The rule fuse-filters.
+#[derive(Clone, Copy, Drop)]
+pub struct FuseFilters;
+
+impl Rule for FuseFilters {
+    ghost use Rattle.std.specs.Prelude.{false};
+    ghost use Rattle.aql_rules_filter.specs.Measures.{filters};
+    ghost use Rattle.aql_rules_filter.specs.FuseFilters.{Fuses};
+    ghost use Rattle.aql_rules_filter.specs.laws.FiltersFused.{fuses_refine, fuses_keep, fuses_fall};
+
+    ghost rewrites = { λ _ _. Fuses };
+
+    ghost fragments = { λ _. false };
+
+    ghost measure = { λ _. filters };
+
+    fn at(
+        &self,
+        alloc: Global,
+        part: &Plan,
+        _above: &[Uses],
+        _facts: &Facts,
+    ) -> Result<Option<Swap>, OutOfMemory> {
+        match filter_of(part) {
+            None => Ok(None),
+            Some((node, upper)) => match filter_of(node) {
+                None => Ok(None),
+                Some((below, lower)) => {
+                    let cond = joined(alloc, lower, upper)?;
+                    let below = below.copy(alloc)?;
+                    let part = filter_over(alloc, below, cond)?;
+                    Ok(Some(Swap { part, rename: None }))
+                }
+            },
+        }
+    }
+
+    ghost refines = { λ _ facts _ _ us p q r _ h. fuses_refine facts us p q r h };
+
+    ghost keeps = { λ _ facts outer away us p q r placed h.
+        fuses_keep facts outer away us p q r placed h };
+
+    ghost falls = { λ _ facts p q r whole h. fuses_fall facts p q r whole h };
+}

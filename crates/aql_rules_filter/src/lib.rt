@@ -1,0 +1,15 @@
+//! Rules on filters: each stands in the file of the name that plans print.
+#![tactic(auto)]
+
+mod conditions;
+mod fuse_filters;
+mod move_filters_into_enumerate;
+mod move_filters_up;
+mod readers;
+mod remove_unnecessary_filters;
+mod swapping;
+
+pub use fuse_filters::FuseFilters;
+pub use move_filters_into_enumerate::MoveFiltersIntoEnumerate;
+pub use move_filters_up::MoveFiltersUp;
+pub use remove_unnecessary_filters::RemoveUnnecessaryFilters;

@@ -1,0 +1,55 @@
+//! A Filter over an EnumerateCollection or an Index that keeps all attributes goes into it.
+
+use crate::conditions::joined_to;
+use crate::readers::{filter_of, own_filter, with_filter};
+use aql_plan::{Facts, Plan, Uses};
+use aql_rewrite_plan::{Rule, Swap};
+use aql_value::OutOfMemory;
+use std::alloc::Global;
+
+/// The rule move-filters-into-enumerate.
+#[derive(Clone, Copy, Drop)]
+pub struct MoveFiltersIntoEnumerate;
+
+impl Rule for MoveFiltersIntoEnumerate {
+    ghost use Rattle.std.specs.Prelude.{false};
+    ghost use Rattle.aql_rules_filter.specs.Measures.{filters};
+    ghost use Rattle.aql_rules_filter.specs.MoveFiltersIntoEnumerate.{MovesIn};
+    ghost use Rattle.aql_rules_filter.specs.laws.FiltersInside.{moves_in_refine, moves_in_keep, moves_in_fall};
+
+    ghost rewrites = { λ _ _. MovesIn };
+
+    ghost fragments = { λ _. false };
+
+    ghost measure = { λ _. filters };
+
+    fn at(
+        &self,
+        alloc: Global,
+        part: &Plan,
+        _above: &[Uses],
+        _facts: &Facts,
+    ) -> Result<Option<Swap>, OutOfMemory> {
+        match filter_of(part) {
+            None => Ok(None),
+            Some((node, cond)) => match own_filter(node) {
+                None => Ok(None),
+                Some(filter) => {
+                    let cond = joined_to(alloc, filter, cond)?;
+                    let node = node.copy(alloc)?;
+                    Ok(Some(Swap {
+                        part: with_filter(node, cond),
+                        rename: None,
+                    }))
+                }
+            },
+        }
+    }
+
+    ghost refines = { λ _ facts _ _ us p q r _ h. moves_in_refine facts us p q r h };
+
+    ghost keeps = { λ _ facts outer away us p q r placed h.
+        moves_in_keep facts outer away us p q r placed h };
+
+    ghost falls = { λ _ facts p q r whole h. moves_in_fall facts p q r whole h };
+}

@@ -1,0 +1,58 @@
+//! A Filter swaps places with the node below it, whose variables it does not use.
+
+use crate::readers::{filter_of, filter_over};
+use crate::swapping::{may_swap, uses_of};
+use aql_copy::copy_expr;
+use aql_plan::{Facts, Plan, Uses};
+use aql_rewrite_plan::{Rule, Swap};
+use aql_value::OutOfMemory;
+use std::alloc::Global;
+
+/// The rule move-filters-up.
+#[derive(Clone, Copy, Drop)]
+pub struct MoveFiltersUp;
+
+impl Rule for MoveFiltersUp {
+    ghost use Rattle.std.specs.Prelude.{false};
+    ghost use Rattle.aql_rules_filter.specs.MoveFiltersUp.{MovesUp, height};
+    ghost use Rattle.aql_rules_filter.specs.laws.FiltersUp.{moves_up_refine, moves_up_keep, moves_up_fall};
+
+    ghost rewrites = { λ _ _. MovesUp };
+
+    ghost fragments = { λ _. false };
+
+    ghost measure = { λ _. height };
+
+    fn at(
+        &self,
+        alloc: Global,
+        part: &Plan,
+        _above: &[Uses],
+        _facts: &Facts,
+    ) -> Result<Option<Swap>, OutOfMemory> {
+        match filter_of(part) {
+            None => Ok(None),
+            Some((node, cond)) => match node.below() {
+                None => Ok(None),
+                Some(below) => {
+                    let used = uses_of(alloc, cond)?;
+                    if !may_swap(node, &used) {
+                        return Ok(None);
+                    }
+                    let below = below.copy(alloc)?;
+                    let cond = copy_expr(alloc, cond)?;
+                    let lower = filter_over(alloc, below, cond)?;
+                    let part = node.over(alloc, lower)?;
+                    Ok(Some(Swap { part, rename: None }))
+                }
+            },
+        }
+    }
+
+    ghost refines = { λ _ facts _ _ us p q r _ h. moves_up_refine facts us p q r h };
+
+    ghost keeps = { λ _ facts outer away us p q r placed h.
+        moves_up_keep facts outer away us p q r placed h };
+
+    ghost falls = { λ _ facts p q r whole h. moves_up_fall facts p q r whole h };
+}

@@ -1,0 +1,60 @@
+//! A Filter with a literal goes where this is true-like, and becomes NoResults where it is not.
+
+use crate::conditions::literal_in;
+use aql_plan::{Facts, Plan, Uses};
+use aql_rewrite_plan::{Rule, Swap};
+use aql_value::{OutOfMemory, truthy};
+use std::alloc::Global;
+
+/// The rule remove-unnecessary-filters.
+#[derive(Clone, Copy, Drop)]
+pub struct RemoveUnnecessaryFilters;
+
+impl Rule for RemoveUnnecessaryFilters {
+    ghost use Rattle.std.specs.Prelude.{false};
+    ghost use Rattle.aql_rules_filter.specs.Measures.{filters};
+    ghost use Rattle.aql_rules_filter.specs.RemoveUnnecessaryFilters.{Removes};
+    ghost use Rattle.aql_rules_filter.specs.laws.FiltersRemoved.{removes_refine, removes_keep, removes_fall};
+
+    ghost rewrites = { λ _ _. Removes };
+
+    ghost fragments = { λ _. false };
+
+    ghost measure = { λ _. filters };
+
+    fn at(
+        &self,
+        alloc: Global,
+        part: &Plan,
+        _above: &[Uses],
+        _facts: &Facts,
+    ) -> Result<Option<Swap>, OutOfMemory> {
+        match part {
+            Plan::Filter { below, cond } => match literal_in(cond) {
+                None => Ok(None),
+                Some(value) => {
+                    let below = below.copy(alloc)?;
+                    if truthy(value) {
+                        return Ok(Some(Swap {
+                            part: below,
+                            rename: None,
+                        }));
+                    }
+                    let below = Box::new(alloc, below)?;
+                    Ok(Some(Swap {
+                        part: Plan::NoResults { below },
+                        rename: None,
+                    }))
+                }
+            },
+            _ => Ok(None),
+        }
+    }
+
+    ghost refines = { λ _ facts _ _ us p q r _ h. removes_refine facts us p q r h };
+
+    ghost keeps = { λ _ facts outer away us p q r placed h.
+        removes_keep facts outer away us p q r placed h };
+
+    ghost falls = { λ _ facts p q r whole h. removes_fall facts p q r whole h };
+}
