@@ -1,0 +1,2 @@
+pub mod FirstPlan
+pub mod Turns

@@ -1,0 +1,46 @@
+//! The passes that are built, by the names of their rules.
+
+ghost use Rattle.std.specs.Prelude.{◌≡◌, false, IfOk};
+ghost use Rattle.aql_plan.specs.Refines.{Refines};
+ghost use Rattle.aql_plan.specs.View.{plan_tree};
+ghost use Rattle.aql_rewrite_plan.specs.Placed.{IsWhole};
+ghost use Rattle.aql_rewrite_plan.specs.Swaps.{SetsNoMore};
+ghost use Rattle.aql_optimise.specs.Passes.{IsPassOf};
+
+use aql_plan::{Facts, Passed, Plan, RuleName};
+use aql_rewrite_plan::run_pass;
+use aql_rules_filter::{
+    FuseFilters, MoveFiltersIntoEnumerate, MoveFiltersUp, RemoveUnnecessaryFilters,
+};
+use aql_value::OutOfMemory;
+use std::alloc::Global;
+
+/// The plan after the pass of a rule. A rule whose pass is not built yet leaves it as it is.
+pub(crate) fn pass_of(
+    alloc: Global,
+    rule: RuleName,
+    plan: Plan,
+    facts: &Facts,
+) -> Result<Passed, OutOfMemory>
+    requires { IsWhole false facts.now (plan_tree plan) }
+    ensures passed { IfOk result
+        (λ x. IsPassOf rule facts.now (plan_tree plan) (plan_tree x.plan) x.changed) }
+    ensures refines { IfOk result (λ x. Refines facts.now (plan_tree x.plan) (plan_tree plan)) }
+    ensures whole { IfOk result (λ x. IsWhole false facts.now (plan_tree x.plan)) }
+    ensures sets { IfOk result (λ x. SetsNoMore (plan_tree plan) (plan_tree x.plan)) }
+{
+    match rule {
+        RuleName::MoveFiltersUp => run_pass(alloc, &MoveFiltersUp, plan, facts),
+        RuleName::RemoveUnnecessaryFilters => {
+            run_pass(alloc, &RemoveUnnecessaryFilters, plan, facts)
+        }
+        RuleName::FuseFilters => run_pass(alloc, &FuseFilters, plan, facts),
+        RuleName::MoveFiltersIntoEnumerate => {
+            run_pass(alloc, &MoveFiltersIntoEnumerate, plan, facts)
+        }
+        _ => Ok(Passed {
+            plan,
+            changed: false,
+        }),
+    }
+}
