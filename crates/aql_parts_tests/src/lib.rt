@@ -1,7 +1,9 @@
-//! Tests of the lower libraries: values, tokens, functions, copies, parsing, rewriting and
-//! evaluation.
+//! Tests of the lower libraries: values, tokens, functions, aggregates, copies, parsing, rewriting
+//! and evaluation.
 #![tactic(auto)]
 
+#[cfg(test)]
+mod aggregates;
 #[cfg(test)]
 mod copies;
 #[cfg(test)]

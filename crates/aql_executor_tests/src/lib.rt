@@ -1,0 +1,19 @@
+//! Tests of executors: each is turned by hand over lists as its inputs.
+#![tactic(auto)]
+
+#[cfg(test)]
+mod driving;
+#[cfg(test)]
+mod lists;
+#[cfg(test)]
+mod memory;
+#[cfg(test)]
+mod rows;
+#[cfg(test)]
+mod sorts;
+#[cfg(test)]
+mod sources;
+#[cfg(test)]
+mod streams;
+#[cfg(test)]
+mod subqueries;
