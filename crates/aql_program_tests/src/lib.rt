@@ -6,6 +6,8 @@ mod catalogs;
 #[cfg(test)]
 mod pages;
 #[cfg(test)]
+mod rows;
+#[cfg(test)]
 mod scoping;
 #[cfg(test)]
 mod scoping_rows;

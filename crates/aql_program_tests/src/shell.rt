@@ -2,6 +2,7 @@ ghost use Rattle.std.specs.Prelude.{◌≤◌};
 
 use crate::catalogs::names;
 use crate::pages::{Page, expect};
+use crate::rows::{CLAUSES, GROUPED, GROUPS, LONG_RUNS, NUMBERED};
 use aql_engine::Local;
 use aql_io::{MemorySink, MemorySource};
 use aql_top::run_shell;
@@ -148,7 +149,14 @@ fn lets(alloc: Global, count: usize, after: &str) -> Page {
     query
 }
 
-static DOCUMENTS: [(&str, &str, &str); 10] = [
+static DOCUMENTS: [(&str, &str, &str); 11] = [
+    // b and d have the same n: either may come first, and this program keeps their order
+    (
+        "{\"_key\":\"e\",\"n\":1}\n{\"_key\":\"a\",\"n\":5}\n\
+            {\"_key\":\"b\",\"n\":3}\n{\"_key\":\"d\",\"n\":3}\n",
+        "FOR x IN c SORT x.n DESC LIMIT 1, 2 RETURN x._key",
+        "\"b\"\n\"d\"\n",
+    ),
     ("", "FOR x IN c FILTER x.a == 1 RETURN x", ""),
     ("", "FOR X IN c FILTER X.a == -1 RETURN X\n\n", ""),
     (
@@ -199,79 +207,6 @@ fn prints_documents(rt: HostRuntime) {
     }
 }
 
-// The keys of `c` are p, q and r, with `n` 1, 3 and 3.
-const NUMBERED: &str =
-    "{\"_key\":\"p\",\"n\":1}\n{\"_key\":\"q\",\"n\":3}\n{\"_key\":\"r\",\"n\":3}\n";
-
-static CLAUSES: [(&str, &str); 27] = [
-    ("FOR i IN [3, 1, 2] SORT i DESC LIMIT 1, 1 RETURN i", "2\n"),
-    (
-        "FOR i IN 1..2 LET s = (FOR j IN 1..i RETURN j) RETURN s",
-        "[1]\n[1,2]\n",
-    ),
-    ("FOR i IN \"no array\" RETURN i", ""),
-    ("FOR i IN [] RETURN i", ""),
-    ("FOR i IN [[1, 2], [3]] FOR j IN i RETURN j", "1\n2\n3\n"),
-    ("FOR x IN c RETURN x.n", "1\n3\n3\n"),
-    ("FOR x IN c LIMIT 0 RETURN x", ""),
-    ("FOR x IN c LIMIT 3, 9223372036854775807 RETURN x", ""),
-    (
-        "FOR x IN c LIMIT 9223372036854775807, 9223372036854775807 RETURN x",
-        "",
-    ),
-    ("FOR x IN c LIMIT 1, 1 RETURN x._key", "\"q\"\n"),
-    (
-        "FOR x IN c SORT x.n DESC, x._key DESC RETURN x._key",
-        "\"r\"\n\"q\"\n\"p\"\n",
-    ),
-    (
-        "FOR x IN c SORT x.n DESC LIMIT 2, 1 RETURN x._key",
-        "\"p\"\n",
-    ),
-    (
-        "FOR x IN [2, null, \"a\", [], {}, true, 1] SORT x RETURN x",
-        "null\ntrue\n1\n2\n\"a\"\n[]\n{}\n",
-    ),
-    ("LET x = 1 LET y = x + 1 RETURN [x, y]", "[1,2]\n"),
-    ("SORT 1 RETURN 1", "1\n"),
-    ("LIMIT 1 RETURN 1", "1\n"),
-    ("LIMIT 0 RETURN 1", ""),
-    ("RETURN (RETURN 1)", "[1]\n"),
-    ("RETURN (FOR x IN c FILTER x.n > 5 RETURN x)", "[]\n"),
-    (
-        "RETURN LENGTH((FOR x IN c RETURN (FOR y IN c RETURN 1)))",
-        "3\n",
-    ),
-    (
-        "FILTER true FOR x IN c FILTER x.n == 1 RETURN x._key",
-        "\"p\"\n",
-    ),
-    (
-        "FOR x IN c FILTER x.n == 3 && x._key > \"q\" RETURN x._key",
-        "\"r\"\n",
-    ),
-    (
-        "FOR x IN c FOR y IN c FILTER x.n < y.n SORT y._key RETURN [x._key, y._key]",
-        "[\"p\",\"q\"]\n[\"p\",\"r\"]\n",
-    ),
-    (
-        "LET a = (FOR x IN c SORT x._key RETURN x.n) FOR i IN a FILTER i > 1 RETURN i",
-        "3\n3\n",
-    ),
-    (
-        "LET x = (FOR a IN c SORT a._key LIMIT 1 RETURN a._key) FOR i IN 1..3 RETURN x[0]",
-        "\"p\"\n\"p\"\n\"p\"\n",
-    ),
-    (
-        "FOR a IN [1, 2] LIMIT 1 FOR b IN c SORT b._key RETURN [a, b._key]",
-        "[1,\"p\"]\n[1,\"q\"]\n[1,\"r\"]\n",
-    ),
-    (
-        "FOR i IN 1..3 FILTER i > 1 LET d = i * 2 FILTER d < 6 RETURN {i, d}",
-        "{\"d\":4,\"i\":2}\n",
-    ),
-];
-
 #[test]
 fn runs_clauses(rt: HostRuntime) {
     let alloc = rt.alloc();
@@ -281,15 +216,14 @@ fn runs_clauses(rt: HostRuntime) {
     }
 }
 
-static LONG_RUNS: [(&str, &str); 4] = [
-    ("FOR i IN 1..5000 LIMIT 2500, 1 RETURN i", "2501\n"),
-    (
-        "FOR i IN 1..3000 FILTER i % 1000 == 0 RETURN i",
-        "1000\n2000\n3000\n",
-    ),
-    ("RETURN LENGTH((FOR i IN 1..2001 RETURN i))", "2001\n"),
-    ("FOR i IN 1..2001 SORT i DESC LIMIT 2000, 5 RETURN i", "1\n"),
-];
+#[test]
+fn runs_groups(rt: HostRuntime) {
+    let alloc = rt.alloc();
+    for (query, text) in &GROUPS {
+        let script = script_of(alloc, GROUPED, query);
+        prints(&rt, alloc, script.as_str(), text);
+    }
+}
 
 // A step of a run gives 1000 rows at most.
 #[test]
@@ -532,8 +466,7 @@ static NESTED: [(usize, &str, u8, &str); 2] = [
     (65, "1.5", 4, "query: byte 72: fraction"),
 ];
 
-static LETS: [(usize, &str, u8, &str); 3] = [
-    (127, "RETURN DISTINCT 1", 9, "not yet"),
+static LETS: [(usize, &str, u8, &str); 2] = [
     (128, "RETURN 1", 5, "limit: clauses"),
     (129, "", 5, "limit: clauses"),
 ];
@@ -567,6 +500,9 @@ fn refuses_beyond_limits(rt: HostRuntime) {
         let query = nested(alloc, *depth, inner);
         is_refused(&rt, alloc, query.as_str(), *status, line);
     }
+    let query = lets(alloc, 127, "RETURN DISTINCT 1");
+    let script = around(alloc, "%query\n", query.as_str(), "");
+    prints(&rt, alloc, script.as_str(), "1\n");
     for (count, after, status, line) in &LETS {
         let query = lets(alloc, *count, after);
         is_refused(&rt, alloc, query.as_str(), *status, line);
@@ -579,14 +515,10 @@ fn refuses_beyond_limits(rt: HostRuntime) {
     }
 }
 
-static OTHER_FORMS: [&str; 8] = [
-    "RETURN DISTINCT 1",
-    "FOR x IN c RETURN DISTINCT x",
-    "FOR x IN c COLLECT y = x.a RETURN y",
-    "FOR x IN c COLLECT WITH COUNT INTO n RETURN n",
+static OTHER_FORMS: [&str; 4] = [
     "FOR v IN OUTBOUND 'c/a' e RETURN v",
-    "RETURN (FOR x IN c RETURN DISTINCT x)",
-    "LET a = (FOR x IN c COLLECT y = x.a RETURN y) RETURN a",
+    "FOR v IN ANY 'c/a' e COLLECT y = v.a RETURN y",
+    "LET a = (FOR x IN c FOR v IN INBOUND x e RETURN DISTINCT v) RETURN a",
     "FOR x IN c FILTER LENGTH((FOR v IN OUTBOUND x e RETURN v)) > 1 RETURN x",
 ];
 
@@ -646,7 +578,12 @@ static ENDS: [(&str, u8, &str, &str); 6] = [
     ("%query\nRETURN y", 4, "", "aql: q"),
     ("%query\nRETURN 1.5", 4, "", "aql: q"),
     ("%document c shards=33\n%query\n", 5, "", "aql: l"),
-    ("%query\nRETURN DISTINCT 1", 9, "", "aql: n"),
+    (
+        "%edge e\n%query\nFOR v IN ANY 'c/a' e RETURN v",
+        9,
+        "",
+        "aql: n",
+    ),
 ];
 
 #[test]

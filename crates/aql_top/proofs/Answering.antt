@@ -14,11 +14,12 @@ use Rattle.aql_script.specs.declared.loading.Loaded.{Loaded}
 use Rattle.aql_lift.proofs.LiftedIsPlain.{scoped_is_lifted}
 use Rattle.aql_plan.specs.declared.facts.Facts.{Facts}
 use Rattle.aql_plan.specs.declared.plan.Plan.{Plan}
+use Rattle.aql_plan.specs.declared.rules.RuleName.{RuleName}
 use Rattle.aql_plan.specs.Facts.{Meets}
 use Rattle.aql_plan.specs.Plan as spec
 use Rattle.aql_plan.specs.View.{plan_tree}
 use Rattle.aql_plan.specs.FirstPlan.{first_plan}
-use Rattle.aql_plan.specs.Refines.{world, Answers as PlanAnswers}
+use Rattle.aql_plan.specs.Refines.{world, Refines, Answers as PlanAnswers}
 use Rattle.aql_plan.specs.Runs.{World}
 use Rattle.aql_plan.specs.WellFormed.{IsWellFormed}
 use Rattle.aql_plan.proofs.FirstAnswers.{first_answers}
@@ -29,14 +30,17 @@ use Rattle.aql_shard.specs.Known.{facts_of}
 use Rattle.aql_build.specs.Resolved.{IsResolved}
 use Rattle.aql_build.specs.Theorem.{ScopingGivesIt}
 use Rattle.aql_build_limits.specs.Theorem.{TextLimitsEnd}
+use Rattle.aql_opt.specs.declared.rule_sets.Rules.{Rules}
+use Rattle.aql_opt.specs.RuleSets.{Has}
 use Rattle.aql_opt.specs.Theorem.{FactsFit}
+use Rattle.aql_optimise.specs.Chosen.{Chosen}
 use Rattle.aql_engine.specs.declared.engine.Ran.{Ran}
 use Rattle.aql_engine.specs.Engine.{CanRun, Adds}
 use Rattle.aql_front.specs.declared.faults.QueryFault.{QueryFault}
 use Rattle.aql_front.specs.declared.faults.QueryFault.TheVariants.{TooLong, Lexical, TooDeep, TooManyClauses, NotInGrammar, TraversalTooDeep, Scope, Memory}
 use Rattle.aql_front.specs.Reading.{IsWritten, IsScoped, Refuses}
 use Rattle.aql_top.specs.Forms.{runs, ReadsAs, Answers, answer_text}
-use Rattle.aql_top.specs.Entries.{IsFirstPlan, AddsFirst}
+use Rattle.aql_top.specs.Entries.{IsChosenPlan, AddsChosen}
 use Rattle.aql_top.specs.Faults.{of_query, HasNoLines}
 use Rattle.aql_top.proofs.Executors.{query_runs, has_executors}
 
@@ -86,17 +90,36 @@ module _ (loaded : Loaded) (tree : QueryTree) (names : List (List ℕ))
     lines = refl;
   }
 
-pub is_first_plan : (loaded : Loaded) (tree : QueryTree) (names : List (List ℕ))
+  -- the values of a plan that refines it
+  pub chosen_answers : Meets facts (database loaded.catalog) → facts ≡ facts_of 0 loaded.catalog
+      → ((q : QueryTree) → IsWritten loaded.query q → (db : Database) (out : List value.Datum)
+      → IsAnswer db tree empty_row out → IsAnswer db q empty_row out)
+      → (chosen : spec.Plan) → Refines facts chosen plan → (values : List value.Datum)
+      → PlanAnswers chosen (world (facts_of 0 loaded.catalog) (database loaded.catalog)) empty_row values
+      → Answers loaded (answer_text values)
+  chosen_answers meets are keeps chosen refines values a =
+      let db = database loaded.catalog in
+      plan_answers meets are keeps values
+      (subst (λ f. PlanAnswers plan (world f db) empty_row values) are
+      (refines db meets empty_row values
+      (subst (λ f. PlanAnswers chosen (world f db) empty_row values) (sym are) a)))
+
+pub is_chosen_plan : (loaded : Loaded) (tree : QueryTree) (names : List (List ℕ))
     → IsScoped loaded.catalog loaded.query tree names → (facts : Facts)
-    → Meets facts (database loaded.catalog) → (plan : Plan) → plan_tree plan ≡ first_plan facts tree
-    → IsFirstPlan loaded plan
-is_first_plan loaded tree names s facts meets plan first = record {
+    → Meets facts (database loaded.catalog) → (first : spec.Plan) → first ≡ first_plan facts tree
+    → (rules : Rules) → ((rule : RuleName) → Has rules rule) → (plan : Plan) (applied : List RuleName)
+    → Chosen facts rules first (plan_tree plan) applied → IsChosenPlan loaded plan
+is_chosen_plan loaded tree names s facts meets first is rules all plan applied chosen = record {
   query = s.spelled;
   is_written = s.is_written;
   no_fault = s.no_fault;
   facts = facts;
   true_facts = meets;
-  plan_is = first ∙ ap (first_plan facts) s.lifted;
+  rules = rules;
+  all = all;
+  applied = applied;
+  chosen = subst (λ p. Chosen facts rules p (plan_tree plan) applied) (is ∙ ap (first_plan facts) s.lifted)
+      chosen;
 }
 
 -- the scoped query may be planned
@@ -140,9 +163,9 @@ module _ (w : World) (plan : Plan) (batch : ℕ) (before after : List Ran) (a : 
         ∙ ap (λ n. slice_get (before ++ a.ran ∷ []) n) (here ∙ ap length is)
         ∙ at_end before a.ran
 
-    pub adds_first : (loaded : Loaded) → IsFirstPlan loaded plan → AddsFirst loaded before after a.ran
-    adds_first loaded first =
-        record { added = a.added; first = subst (IsFirstPlan loaded) (sym a.same_plan) first }
+    pub adds_chosen : (loaded : Loaded) → IsChosenPlan loaded plan → AddsChosen loaded before after a.ran
+    adds_chosen loaded chosen =
+        record { added = a.added; chosen = subst (IsChosenPlan loaded) (sym a.same_plan) chosen }
 
 pub answer_of_entry : (loaded : Loaded) (servers : Holding)
     → servers ≡ record { held = loaded.catalog; servers = 0; counts = nothing_counted }

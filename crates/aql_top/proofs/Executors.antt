@@ -2,7 +2,7 @@
 use Rattle.std.proofs.Common.{◌≡◌, List, [], ◌∷◌, Bool, true, false, refl}
 use Rattle.std.proofs.lemmas.Bool.{false≢true}
 use Rattle.std.specs.Prelude.{◌&&◌}
-use Rattle.aql_tree.specs.Tree.{ExprTree, subquery, ClauseTree, traversal, filter_by, let_be, collect, ClauseTrees, no_clauses, clause_then, QueryTree, query}
+use Rattle.aql_tree.specs.Tree.{ExprTree, subquery, ClauseTree, traversal, filter_by, let_be, ClauseTrees, no_clauses, clause_then, QueryTree, query}
 use Rattle.aql_plan.specs.declared.facts.Facts.{Facts}
 use Rattle.aql_plan.specs.Plan.{Plan, Singleton, Over, Filter}
 use Rattle.aql_plan.specs.FirstPlan.{parts, filters, after_clause, after_clauses, first_plan}
@@ -34,7 +34,6 @@ module _ (facts : Facts) where
     clause_has : (b : Plan) (c : ClauseTree) → HasExecutors b → clause_runs c ≡ true
         → HasExecutors (after_clause facts b c)
     clause_has b (traversal w e names prune settings) h r = absurd (false≢true r)
-    clause_has b (collect xs es gs i) h r = absurd (false≢true r)
     clause_has b (filter_by e) h r = filters_have b (parts e) h
     clause_has b (let_be x (subquery q)) h r = (h, has_executors q r)
     clause_has b c h r = (h, tt)
@@ -48,14 +47,12 @@ module _ (facts : Facts) where
         clauses_have (after_clause facts b c) cs (clause_has b c h one) rest
 
     pub has_executors : (q : QueryTree) → runs q ≡ true → HasExecutors (first_plan facts q)
-    has_executors (query with cs true e) r = absurd (false≢true r)
-    has_executors (query with cs false e) r = (clauses_have Singleton cs tt r, tt)
+    has_executors (query with cs distinct e) r = (clauses_have Singleton cs tt r, tt)
 
   mutual
     clause_run : (b : Plan) (c : ClauseTree) → HasExecutors (after_clause facts b c)
         → HasExecutors b × (clause_runs c ≡ true)
     clause_run b (traversal w e names prune settings) h = absurd h.1
-    clause_run b (collect xs es gs i) h = absurd h.1
     clause_run b (filter_by e) h = (below_filters b (parts e) h, refl)
     clause_run b (let_be x (subquery q)) h = (h.0, query_runs q h.1)
     clause_run b c h = (h.0, refl)
@@ -69,5 +66,4 @@ module _ (facts : Facts) where
         (one.0, both (clause_runs c) (clauses_run cs) one.1 rest.1)
 
     pub query_runs : (q : QueryTree) → HasExecutors (first_plan facts q) → runs q ≡ true
-    query_runs (query with cs true e) h = absurd h.1
-    query_runs (query with cs false e) h = (clauses_run_too Singleton cs h.0).1
+    query_runs (query with cs distinct e) h = (clauses_run_too Singleton cs h.0).1

@@ -1,4 +1,5 @@
 pub mod Loading
 pub mod Executors
+pub mod ChosenExecutors
 pub mod Answering
 pub mod Ends

@@ -12,7 +12,7 @@ use Rattle.aql_front.specs.declared.faults.QueryFault.{QueryFault}
 use Rattle.aql_front.specs.declared.faults.QueryFault.TheVariants as query
 use Rattle.aql_top.specs.Forms.{TakesWords, ReadsAs, Answers, IsScriptWith, Accepts, Allows}
 use Rattle.aql_top.specs.Forms.{answer_text}
-use Rattle.aql_top.specs.Entries.{IsFirstPlan, AddsFirst, PrintsEntry, AddsAtMostOne}
+use Rattle.aql_top.specs.Entries.{IsChosenPlan, AddsChosen, PrintsEntry, AddsAtMostOne}
 use Rattle.aql_engine.specs.declared.engine.Ran.{Ran}
 use Rattle.aql_top.specs.Faults.{of_load, Leads, HasNoLines, status_of}
 use Rattle.aql_top.specs.Reasons.{query_status, RoseWhere}
@@ -105,17 +105,17 @@ module _ (before after : Option (List ℕ)) (loaded : Loaded) where
   accepted h r = script_with (λ l. ReadsAs l true) before after loaded h r
 
   pub entered : (entries entries' : List Ran) (ran : Ran) (Written : List ℕ → Type 0)
-      → Loads loaded before after → AddsFirst loaded entries entries' ran → Written (answer_text ran.values)
+      → Loads loaded before after → AddsChosen loaded entries entries' ran → Written (answer_text ran.values)
       → PrintsEntry before entries entries' Written
   entered entries entries' ran Written h a w = record {
     ran = ran;
     added = a.added;
-    first = script_with (λ l. IsFirstPlan l ran.plan) before after loaded h a.first;
+    chosen = script_with (λ l. IsChosenPlan l ran.plan) before after loaded h a.chosen;
     written = w;
   }
 
   pub at_most_one : (entries entries' : List Ran) → Loads loaded before after
-      → (entries' ≡ entries) ⊎ ((ran : Ran) × AddsFirst loaded entries entries' ran)
+      → (entries' ≡ entries) ⊎ ((ran : Ran) × AddsChosen loaded entries entries' ran)
       → AddsAtMostOne before entries entries'
   at_most_one entries entries' h (inl same) = inl same
   at_most_one entries entries' h (inr a) = inr (entered entries entries' a.0 (λ text. Unit {0}) h a.1 tt)

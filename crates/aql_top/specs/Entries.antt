@@ -1,4 +1,5 @@
--- What the engine's list has of a run of the program: one entry, of the first plan of the script's query.
+-- What the engine's list has of a run of the program: one entry, of the plan that the optimiser chooses for the
+-- script's query.
 use Rattle.std.specs.Prelude.{◌≡◌, ◌⊎◌, ℕ, List, [], ◌∷◌, ◌++◌, None, Option, IfSome}
 use Rattle.std.specs.Io.KnownBytes.{Appends}
 use Rattle.aql_io.specs.Bytes.{AppendsPrefix}
@@ -6,39 +7,47 @@ use Rattle.aql_doc.specs.Held.{database}
 use Rattle.aql_tree.specs.Tree.{QueryTree}
 use Rattle.aql_script.specs.declared.loading.Loaded.{Loaded}
 use Rattle.aql_lift.specs.Lifting.{scope_query}
-use Rattle.aql_names.specs.Faults.{first_fault}
+use Rattle.aql_scope.specs.Faults.{first_fault}
 use Rattle.aql_front.specs.Reading.{IsWritten}
 use Rattle.aql_plan.specs.declared.facts.Facts.{Facts}
 use Rattle.aql_plan.specs.declared.plan.Plan.{Plan}
+use Rattle.aql_plan.specs.declared.rules.RuleName.{RuleName}
 use Rattle.aql_plan.specs.Facts.{Meets}
 use Rattle.aql_plan.specs.View.{plan_tree}
 use Rattle.aql_plan.specs.FirstPlan.{first_plan}
+use Rattle.aql_opt.specs.declared.rule_sets.Rules.{Rules}
+use Rattle.aql_opt.specs.RuleSets.{Has}
+use Rattle.aql_optimise.specs.Chosen.{Chosen}
 use Rattle.aql_engine.specs.declared.engine.Ran.{Ran}
 use Rattle.aql_top.specs.Forms.{answer_text, IsScriptWith}
 
--- the first plan of the script's query, by facts that are true of its collections
-pub record IsFirstPlan (loaded : Loaded) (plan : Plan) : Type 0 where
+-- the plan that is chosen, with all rules and by facts that are true of the collections, for the script's
+-- query, whose first plan has a node for each clause
+pub record IsChosenPlan (loaded : Loaded) (plan : Plan) : Type 0 where
   pub query : QueryTree
   pub is_written : IsWritten loaded.query query
   pub no_fault : first_fault loaded.catalog query ≡ None
   pub facts : Facts
   pub true_facts : Meets facts (database loaded.catalog)
-  pub plan_is : plan_tree plan ≡ first_plan facts (scope_query [] 1 query).tree
+  pub rules : Rules
+  pub all : (rule : RuleName) → Has rules rule
+  pub applied : List RuleName
+  pub chosen : Chosen facts rules (first_plan facts (scope_query [] 1 query).tree) (plan_tree plan) applied
 
--- exactly one entry is new; its plan is the first plan of the script's query
-pub record AddsFirst (loaded : Loaded) (before after : List Ran) (ran : Ran) : Type 0 where
+-- exactly one entry is new; its plan is the one chosen for the script's query
+pub record AddsChosen (loaded : Loaded) (before after : List Ran) (ran : Ran) : Type 0 where
   pub added : after ≡ before ++ ran ∷ []
-  pub first : IsFirstPlan loaded ran.plan
+  pub chosen : IsChosenPlan loaded ran.plan
 
 -- the same of the script that the input is, and the lines of the entry's values were written in this way
 pub record PrintsEntry (input : Option (List ℕ)) (before after : List Ran) (Written : List ℕ → Type 0)
     : Type 0 where
   pub ran : Ran
   pub added : after ≡ before ++ ran ∷ []
-  pub first : IfSome input (IsScriptWith (λ loaded. IsFirstPlan loaded ran.plan))
+  pub chosen : IfSome input (IsScriptWith (λ loaded. IsChosenPlan loaded ran.plan))
   pub written : Written (answer_text ran.values)
 
--- no entry is new, or one of the first plan
+-- no entry is new, or one of the chosen plan
 abbrev pub AddsAtMostOne : Option (List ℕ) → List Ran → List Ran → Type 0
 AddsAtMostOne input before after = (after ≡ before) ⊎ PrintsEntry input before after (λ text. Unit {0})
 

@@ -1,15 +1,15 @@
 -- What the program takes, which queries run so far, and which lines it may print for one.
-use Rattle.std.specs.Prelude.{◌≡◌, ℕ, List, [], ◌∷◌, ◌++◌, Bool, true, false, ◌&&◌, not, None, flat_map}
+use Rattle.std.specs.Prelude.{◌≡◌, ℕ, List, [], ◌∷◌, ◌++◌, Bool, true, false, ◌&&◌, None, flat_map}
 use Rattle.aql_value.specs.Datum.{Datum}
 use Rattle.aql_value.specs.Json.{json_text}
-use Rattle.aql_tree.specs.Tree.{subquery, ClauseTree, traversal, let_be, collect, ClauseTrees, no_clauses, clause_then, QueryTree, query}
+use Rattle.aql_tree.specs.Tree.{subquery, ClauseTree, traversal, let_be, ClauseTrees, no_clauses, clause_then, QueryTree, query}
 use Rattle.aql_meaning.specs.Row.{empty_row}
 use Rattle.aql_meaning.specs.Meaning.{IsAnswer}
 use Rattle.aql_doc.specs.Held.{database}
 use Rattle.aql_script.specs.Script.{IsScript}
 use Rattle.aql_script.specs.declared.loading.Loaded.{Loaded}
 use Rattle.aql_lift.specs.Lifting.{scope_query}
-use Rattle.aql_names.specs.Faults.{first_fault}
+use Rattle.aql_scope.specs.Faults.{first_fault}
 use Rattle.aql_front.specs.Reading.{IsWritten, Refuses}
 use Rattle.aql_front.specs.declared.faults.QueryFault.{QueryFault}
 
@@ -18,12 +18,11 @@ abbrev pub TakesWords : List (List ℕ) → Type 0
 TakesWords (name ∷ []) = Unit {0}
 TakesWords _ = ⊥
 
--- a scoped query has no COLLECT, no traversal and no DISTINCT, nor has a subquery in it, which stands after
+-- a scoped query has no traversal, nor has a subquery in it, which stands after
 -- scoping only as the whole right side of a LET
 abbrev mutual
   pub clause_runs : ClauseTree → Bool
   clause_runs (traversal w e names prune settings) = false
-  clause_runs (collect xs es gs i) = false
   clause_runs (let_be x (subquery q)) = runs q
   clause_runs c = true
 
@@ -32,7 +31,7 @@ abbrev mutual
   clauses_run (clause_then c cs) = clause_runs c && clauses_run cs
 
   pub runs : QueryTree → Bool
-  runs (query with cs distinct e) = not distinct && clauses_run cs
+  runs (query with cs distinct e) = clauses_run cs
 
 -- the text of the script's query spells a query without fault; whether this, once scoped, is of the form that
 -- runs so far

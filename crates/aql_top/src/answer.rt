@@ -11,7 +11,7 @@ ghost use Rattle.aql_shard.specs.Known.{facts_of};
 ghost use Rattle.aql_exec_plan.specs.Runnable.{HasExecutors};
 ghost use Rattle.aql_engine.specs.declared.engine.Ran.{Ran};
 ghost use Rattle.aql_top.specs.Forms.{ReadsAs, Answers, answer_text};
-ghost use Rattle.aql_top.specs.Entries.{IsFirstPlan, AddsFirst};
+ghost use Rattle.aql_top.specs.Entries.{IsChosenPlan, AddsChosen};
 ghost use Rattle.aql_top.specs.Faults.{HasNoLines};
 ghost use Rattle.aql_top.specs.declared.faults.RunFault.TheVariants.{Memory};
 
@@ -22,8 +22,9 @@ use aql_build_limits::laws::text_limits_end;
 use aql_engine::Engine;
 use aql_exec_plan::has_executors;
 use aql_front::read_query;
-use aql_opt::facts;
 use aql_opt::laws::facts_fit;
+use aql_opt::{Rules, facts};
+use aql_optimise::optimise;
 use aql_plan::Plan;
 use aql_script::Loaded;
 use aql_shard::split;
@@ -33,7 +34,7 @@ use std::alloc::Global;
 /// How many rows a step of a run gives at most.
 const BATCH: u32 = 1000;
 
-/// Has the engine run the first plan of the query of a script, and gives the lines of the values of
+/// Has the engine run the plan that is chosen for the query of a script, and gives the lines of the values of
 /// its entry, which are those of one answer; or the fault where there are none.
 #[tactic(auto, using(crate::proofs::Answering::can_run))]
 pub(crate) fn answer<G: Engine>(
@@ -44,12 +45,12 @@ pub(crate) fn answer<G: Engine>(
     ensures runs { OnOk result (ReadsAs script true) }
     ensures lines { IfOk result (λ lines. Answers script lines.items) }
     ensures entry { IfOk result (λ lines. (ran : Ran)
-        × AddsFirst script (G.entries engine.old) (G.entries engine.new) ran
+        × AddsChosen script (G.entries engine.old) (G.entries engine.new) ran
         × (lines.items ≡ answer_text ran.values)) }
     ensures none { IfErr result (λ fault. HasNoLines script fault) }
     ensures idle { IfErr result (λ fault. fault ≢ Memory → engine.new ≡ engine.old) }
     ensures at_most { (G.entries engine.new ≡ G.entries engine.old)
-        ⊎ ((ran : Ran) × AddsFirst script (G.entries engine.old) (G.entries engine.new) ran) }
+        ⊎ ((ran : Ran) × AddsChosen script (G.entries engine.old) (G.entries engine.new) ran) }
 {
     let plan = plan_of(alloc, &script)?;
     let Loaded { catalog, query: _ } = script;
@@ -62,11 +63,12 @@ pub(crate) fn answer<G: Engine>(
     }
 }
 
-// The first plan of the query of a script.
-#[tactic(auto, using(crate::proofs::Answering::is_first_plan, crate::proofs::Answering::refused))]
+// The plan that is chosen for the query of a script. Whether a query runs is seen of its first
+// plan: a plan that is chosen for one with executors has executors too.
+#[tactic(auto, using(crate::proofs::Answering::refused))]
 fn plan_of(alloc: Global, script: &Loaded) -> Result<Plan, RunFault>
     ensures reads { OnOk result (ReadsAs script.now true) }
-    ensures first { IfOk result (λ plan. IsFirstPlan script.now plan) }
+    ensures chosen { IfOk result (λ plan. IsChosenPlan script.now plan) }
     ensures executors { IfOk result (λ plan. HasExecutors (plan_tree plan)) }
     ensures well_formed { IfOk result (λ plan.
         IsWellFormed (facts_of 0 script.now.catalog) [] (plan_tree plan)) }
@@ -86,7 +88,8 @@ fn plan_of(alloc: Global, script: &Loaded) -> Result<Plan, RunFault>
     if !has_executors(&plan) {
         return Err(RunFault::NotYet);
     }
-    Ok(plan)
+    let chosen = optimise(alloc, plan, &Rules::all(), &facts)?;
+    Ok(chosen.plan)
 }
 
 // The lines of a list of values.

@@ -75,7 +75,7 @@ pub fn run_shell<S: Source, K: Sink, E: Sink, G: Engine>(
         → (result ≡ 0) ⊎ ((result ≡ 6) ⊎ ((result ≡ 7) ⊎ (result ≡ 8))) }
 
     // What was written is made of the one entry that the engine's list gained: with 0 and 7 there
-    // is one, of the query's first plan, with 8 at most one, and else the engine was not called.
+    // is one, of the plan chosen for the query, with 8 at most one, and else the engine was not called.
     ensures entry { IsEntered result (S.left source.old) (G.entries engine.old)
         (G.entries engine.new) (K.written out.old) (K.written out.new) }
     ensures idle { (result ≢ 0) → (result ≢ 7) → (result ≢ 8) → engine.new ≡ engine.old }

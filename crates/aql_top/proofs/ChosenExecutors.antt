@@ -1,0 +1,98 @@
+-- A plan that is chosen for one whose nodes have executors has executors for its own.
+use Rattle.std.proofs.Common.{◌≡◌, List, Bool, true, false, Option, None, Some, sym, subst}
+use Rattle.aql_tree.specs.declared.syntax.Ident.TheVariants.{Num}
+use Rattle.aql_tree.specs.Tree.{ExprTree, variable}
+use Rattle.aql_meaning.specs.declared.grouping.Stage.TheVariants as stage
+use Rattle.aql_meaning.specs.Places.{put}
+use Rattle.aql_meaning.specs.Uses.{Uses}
+use Rattle.aql_plan.specs.declared.facts.Facts.{Facts}
+use Rattle.aql_plan.specs.declared.rules.RuleName.{RuleName}
+use Rattle.aql_plan.specs.declared.rules.RuleName.TheVariants as rule
+use Rattle.aql_plan.specs.Exprs.{map_plan, map_node}
+use Rattle.aql_plan.specs.Plan.{Plan, Singleton, Over, Node, Subquery, Collect}
+use Rattle.aql_exec_plan.specs.Runnable.{HasExecutors, HasExecutor}
+use Rattle.aql_rewrite_plan.specs.declared.swap.Rename.{Rename}
+use Rattle.aql_rewrite_plan.specs.Places.{Rewriting, First, below, here, body, Reaches, at_once, next, IsPass, renamed_by}
+use Rattle.aql_rules_filter.specs.MoveFiltersUp.{MovesUp, swapped}
+use Rattle.aql_rules_filter.specs.RemoveUnnecessaryFilters.{Removes, passing, failing}
+use Rattle.aql_rules_filter.specs.FuseFilters.{Fuses, fused}
+use Rattle.aql_rules_filter.specs.MoveFiltersIntoEnumerate.{MovesIn, into_enumerate, into_index}
+use Rattle.aql_opt.specs.declared.rule_sets.Rules.{Rules}
+use Rattle.aql_optimise.specs.Passes.{IsPassOf}
+use Rattle.aql_optimise.specs.Chosen.{RunsRule, switched_off, unchanged, changed, AfterRules, at_first, and_then, Chosen, all_rules}
+
+-- ---- other expressions, and other names
+
+mutual
+  mapped : (f : ExprTree → ExprTree) (p : Plan) → HasExecutors p → HasExecutors (map_plan f p)
+  mapped f Singleton h = tt
+  mapped f (Over b n) h = (mapped f b h.0, node_mapped f n h.1)
+
+  node_mapped : (f : ExprTree → ExprTree) (n : Node) → HasExecutor n → HasExecutor (map_node f n)
+  node_mapped f (Subquery x s) h = mapped f s h
+  node_mapped f (Collect xs es gs i stage.Whole) h = tt
+  node_mapped f (Collect xs es gs i stage.Partial) h = absurd h
+  node_mapped f (Collect xs es gs i stage.Final) h = absurd h
+  node_mapped f n h = h
+
+node_renamed : (r : Option Rename) (n : Node) → HasExecutor n → HasExecutor (renamed_by r n)
+node_renamed None n h = h
+node_renamed (Some r) n h = node_mapped (put (Num r.from) (variable (Num r.to))) n h
+
+-- ---- a pass of a rule that keeps this of the parts that it rewrites
+
+abbrev Keeping : Rewriting → Type 0
+Keeping R = (us : Uses) (p q : Plan) (r : Option Rename) → R us p q r → HasExecutors p → HasExecutors q
+
+module _ (R : Rewriting) (keeps : Keeping R) where
+  first_kept : (inside : Bool) (us : Uses) (p q : Plan) (r : Option Rename) → First R inside us p q r
+      → HasExecutors p → HasExecutors q
+  first_kept _ _ _ _ _ (below {n = n} {r = r} f) h = (first_kept _ _ _ _ _ f h.0, node_renamed r n h.1)
+  first_kept _ _ _ _ _ (here before f) h = keeps _ _ _ _ f h
+  first_kept _ _ _ _ _ (body before stays f) h = (h.0, first_kept _ _ _ _ _ f h.1)
+
+  reached_kept : (p q : Plan) (b : Bool) → Reaches R p q b → HasExecutors p → HasExecutors q
+  reached_kept _ _ _ at_once h = h
+  reached_kept _ _ _ (next reached f) h = first_kept _ _ _ _ _ f (reached_kept _ _ _ reached h)
+
+-- ---- the rules
+
+up_kept : Keeping MovesUp
+up_kept us p q r (swapped may unused) h = ((h.0.0, tt), h.0.1)
+
+removed_kept : Keeping Removes
+removed_kept us p q r (passing true_like) h = h.0
+removed_kept us p q r (failing false_like) h = (h.0, tt)
+
+fused_kept : Keeping Fuses
+fused_kept us p q r fused h = (h.0.0, tt)
+
+in_kept : Keeping MovesIn
+in_kept us p q r (into_enumerate whole) h = (h.0.0, tt)
+in_kept us p q r (into_index whole) h = absurd h.0.1
+
+pass_kept : (r : RuleName) (facts : Facts) (p q : Plan) (b : Bool) → IsPassOf r facts p q b
+    → HasExecutors p → HasExecutors q
+pass_kept rule.MoveFiltersUp facts p q b i h = reached_kept MovesUp up_kept p q b i.reached h
+pass_kept rule.RemoveUnnecessaryFilters facts p q b i h = reached_kept Removes removed_kept p q b i.reached h
+pass_kept rule.FuseFilters facts p q b i h = reached_kept Fuses fused_kept p q b i.reached h
+pass_kept rule.MoveFiltersIntoEnumerate facts p q b i h = reached_kept MovesIn in_kept p q b i.reached h
+pass_kept r facts p q b i h = subst HasExecutors (sym i.0) h
+
+-- ---- the turns of all rules
+
+turn_kept : (facts : Facts) (rules : Rules) (rule : RuleName) (p q : Plan) (told more : List RuleName)
+    → RunsRule facts rules rule p told q more → HasExecutors p → HasExecutors q
+turn_kept facts rules rule p _ told _ (switched_off off) h = h
+turn_kept facts rules rule p q told _ (unchanged on pass) h = pass_kept rule facts p q false pass h
+turn_kept facts rules rule p q told _ (changed on pass) h = pass_kept rule facts p q true pass h
+
+turns_kept : (facts : Facts) (rules : Rules) (p q : Plan) (order told : List RuleName)
+    → AfterRules facts rules p order q told → HasExecutors p → HasExecutors q
+turns_kept facts rules p _ _ _ at_first h = h
+turns_kept facts rules p _ _ _ (and_then after turn) h =
+    turn_kept facts rules _ _ _ _ _ turn (turns_kept facts rules p _ _ _ after h)
+
+pub chosen_kept : (facts : Facts) (rules : Rules) (p q : Plan) (told : List RuleName)
+    → Chosen facts rules p q told → HasExecutors p → HasExecutors q
+chosen_kept facts rules p q told c h = turns_kept facts rules p q all_rules told c h
