@@ -1,0 +1,10 @@
+pub mod Counts
+pub mod Totals
+pub mod Chosen
+pub mod Members
+pub mod Order
+pub mod Joined
+pub mod Binding
+pub mod Grouping
+pub mod Stages
+pub mod Formed
