@@ -1,0 +1,5 @@
+pub mod SimplifyConditions
+pub mod Members
+pub mod ReplaceOrWithIn
+pub mod Operations
+pub mod laws

@@ -1,0 +1,4 @@
+pub mod Attributes
+pub mod PartTests
+pub mod Simplified
+pub mod OrWithIn
