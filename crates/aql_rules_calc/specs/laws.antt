@@ -1,0 +1,11 @@
+pub mod Unused
+pub mod Apart
+pub mod Needed
+pub mod UnnecessaryCalculations
+pub mod BoundRows
+pub mod Moved
+pub mod RowsHold
+pub mod CalculatedTwice
+pub mod Attributes
+pub mod NamesUsed
+pub mod Projected

@@ -1,0 +1,122 @@
+//! A Calculation or Subquery swaps places with the node below it, of whose variables it uses none.
+
+ghost use Rattle.std.specs.Prelude.{◌≡◌, true, IfOk, option_map, option_to_list};
+ghost use Rattle.aql_tree.specs.declared.syntax.Ident.TheVariants.{Num};
+ghost use Rattle.aql_plan.specs.Needs.{sets};
+ghost use Rattle.aql_plan.specs.Plan.{top};
+ghost use Rattle.aql_plan.specs.View.{plan_tree};
+ghost use Rattle.aql_rewrite_plan.specs.Nodes.{uses_alone};
+ghost use Rattle.aql_rules_calc.specs.MoveCalculationsUp.{enumerates as spec_enumerates};
+ghost use Rattle.aql_rules_calc.specs.MoveCalculationsUp.{may_pass as spec_may_pass, none_used};
+
+use crate::needs::node_uses;
+use aql_plan::{Facts, Plan, Uses};
+use aql_rewrite_plan::{Rule, Swap};
+use aql_value::OutOfMemory;
+use std::alloc::Global;
+
+fn enumerates(node: &Plan) -> bool
+    ensures { result ≡ spec_enumerates (top (plan_tree node.now)) }
+{
+    matches!(
+        node,
+        Plan::EnumerateCollection { .. } | Plan::EnumerateList { .. } | Plan::Traversal { .. }
+    )
+}
+
+// Whether the upper node may go below the lower one, whatever it uses.
+fn may_pass(upper: &Plan, lower: &Plan) -> bool
+    ensures { result ≡ spec_may_pass (top (plan_tree upper.now)) (top (plan_tree lower.now)) }
+{
+    match upper {
+        Plan::Calculation { .. } => matches!(lower, Plan::Sort { .. }) || enumerates(lower),
+        Plan::Subquery { .. } => enumerates(lower),
+        _ => false,
+    }
+}
+
+// Whether a node does not use a variable that may be missing.
+fn leaves_out(alloc: Global, node: &Plan, var: Option<u32>) -> Result<bool, OutOfMemory>
+    ensures { IfOk result (λ b. b ≡ none_used (option_to_list (option_map (λ x. Num x) var))
+        (uses_alone (top (plan_tree node.now)))) }
+{
+    match var {
+        Some(var) => Ok(!node_uses(alloc, node, var)?),
+        None => Ok(true),
+    }
+}
+
+// Whether the upper node uses none of the variables of the lower one, below which it may go.
+fn uses_none(alloc: Global, upper: &Plan, lower: &Plan) -> Result<bool, OutOfMemory>
+    requires { spec_may_pass (top (plan_tree upper.now)) (top (plan_tree lower.now)) ≡ true }
+    ensures { IfOk result (λ b. b
+        ≡ none_used (sets (top (plan_tree lower.now))) (uses_alone (top (plan_tree upper.now)))) }
+{
+    match lower {
+        Plan::EnumerateCollection { var, .. } => Ok(!node_uses(alloc, upper, *var)?),
+        Plan::EnumerateList { var, .. } => Ok(!node_uses(alloc, upper, *var)?),
+        Plan::Traversal {
+            vertex,
+            edge,
+            path,
+            ..
+        } => {
+            let other_vertex = !node_uses(alloc, upper, *vertex)?;
+            let other_edge = leaves_out(alloc, upper, *edge)?;
+            let other_path = leaves_out(alloc, upper, *path)?;
+            Ok(other_vertex && other_edge && other_path)
+        }
+        _ => Ok(true),
+    }
+}
+
+/// The rule move-calculations-up.
+#[derive(Clone, Copy, Drop)]
+pub struct MoveCalculationsUp;
+
+impl Rule for MoveCalculationsUp {
+    ghost use Rattle.std.specs.Prelude.{false};
+    ghost use Rattle.aql_rules_calc.specs.MoveCalculationsUp.{Moves, height};
+    ghost use Rattle.aql_rules_calc.specs.laws.Moved.{moves_refine, moves_keep, moves_fall};
+
+    ghost rewrites = { λ _ _. Moves };
+
+    ghost fragments = { λ _. false };
+
+    ghost measure = { λ _. height };
+
+    fn at(
+        &self,
+        alloc: Global,
+        part: &Plan,
+        _above: &[Uses],
+        _facts: &Facts,
+    ) -> Result<Option<Swap>, OutOfMemory> {
+        match part.below() {
+            None => Ok(None),
+            Some(lower) => match lower.below() {
+                None => Ok(None),
+                Some(below) => {
+                    if !may_pass(part, lower) {
+                        return Ok(None);
+                    }
+                    if !uses_none(alloc, part, lower)? {
+                        return Ok(None);
+                    }
+                    let below = below.copy(alloc)?;
+                    let upper = part.over(alloc, below)?;
+                    let part = lower.over(alloc, upper)?;
+                    Ok(Some(Swap { part, rename: None }))
+                }
+            },
+        }
+    }
+
+    ghost refines = { λ _ facts outer away us p q r placed h.
+        moves_refine facts outer away us p q r placed h };
+
+    ghost keeps = { λ _ facts outer away us p q r placed h.
+        moves_keep facts outer away us p q r placed h };
+
+    ghost falls = { λ _ facts p q r whole h. moves_fall facts p q r whole h };
+}

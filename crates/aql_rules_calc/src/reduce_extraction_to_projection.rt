@@ -1,0 +1,303 @@
+//! Where at most five attributes of a document are looked at, only these are kept of it.
+
+ghost use Rattle.std.specs.Prelude.{◌≡◌, ◌≤◌, ◌↔◌, ◌++◌, ◌∷◌, [], IfOk, OnOk, IsTrue, MatchOption};
+ghost use Rattle.std.specs.Prelude.{Some, None, map, length, slice_get, option_copied};
+ghost use Rattle.aql_tree.specs.declared.syntax.Ident.{Ident as spec_Ident};
+ghost use Rattle.aql_tree.specs.declared.syntax.Ident.TheVariants.{Num};
+ghost use Rattle.aql_meaning.specs.Row.{same_ident};
+ghost use Rattle.aql_meaning.specs.Uses.{Part};
+ghost use Rattle.aql_plan.specs.Facts.{indexes_in};
+ghost use Rattle.aql_plan.specs.Plan.{top};
+ghost use Rattle.aql_plan.specs.Used.{use_tree, uses_tree};
+ghost use Rattle.aql_plan.specs.View.{plan_tree};
+ghost use Rattle.aql_rewrite_plan.specs.View.{above_uses};
+ghost use Rattle.aql_rules_calc.specs.Projections.{with_attrs as spec_with_attrs, AreAdded};
+ghost use Rattle.aql_rules_calc.specs.Projections.{read_whole as spec_read_whole};
+ghost use Rattle.aql_rules_calc.specs.Projections.{AreKept, order_of as spec_order_of};
+ghost use Rattle.aql_rules_calc.specs.ReduceExtractionToProjection.{with_name};
+
+use aql_plan::{Facts, IndexFact, Plan, Use, Uses};
+use aql_rewrite_plan::{Rule, Swap};
+use aql_tree::Ident;
+use aql_value::{CollNo, Names, OutOfMemory, Seq, Text};
+use std::alloc::Global;
+use std::cmp::Ordering;
+
+fn is_number(var: u32, ident: &Ident) -> bool
+    ensures { result ≡ same_ident (Num var) ident.now }
+{
+    match ident {
+        Ident::Num(n) => var == *n,
+        Ident::Name(_) => false,
+    }
+}
+
+fn add_copies(alloc: Global, names: &[Text], to: &mut Names) -> Result<(), OutOfMemory>
+    ensures { OnOk result (to.new ≡ to.old ++ names.now) }
+{
+    for name in names {
+        to.push(name.copy(alloc)?)?;
+    }
+    Ok(())
+}
+
+// Appends names in ascending order with one more, at its place.
+fn add_with(alloc: Global, names: &[Text], name: &str, to: &mut Names) -> Result<(), OutOfMemory>
+    ensures { OnOk result (to.new ≡ to.old ++ with_name names.now name.now) }
+{
+    match names.split_first() {
+        None => to.push(Text::new(alloc, name)?),
+        Some((first, rest)) => match name.cmp(first.as_str()) {
+            Ordering::Less => {
+                to.push(Text::new(alloc, name)?)?;
+                add_copies(alloc, names, to)
+            }
+            Ordering::Equal => add_copies(alloc, names, to),
+            Ordering::Greater => {
+                to.push(first.copy(alloc)?)?;
+                add_with(alloc, rest, name, to)
+            }
+        },
+    }
+}
+
+// Adds a name to those in ascending order, unless it is there. Whether there are at most five.
+fn add_name(alloc: Global, name: &str, names: &mut Names) -> Result<bool, OutOfMemory>
+    ensures added { OnOk result (names.new ≡ with_name names.old name.now) }
+    ensures few { IfOk result (λ few. IsTrue few ↔ (length names.new ≤ 5)) }
+{
+    let mut all = Seq::new(alloc);
+    add_with(alloc, names.as_slice(), name, &mut all)?;
+    *names = all;
+    Ok(names.len() <= 5)
+}
+
+// Adds the name by which a variable is used, if it is used by one. `false` exactly where it is used
+// as a whole, or there are more than five names.
+fn add_use(alloc: Global, var: u32, used: &Use, names: &mut Names) -> Result<bool, OutOfMemory>
+    requires { length names.old ≤ 5 }
+    ensures { IfOk result
+        (λ few. AreAdded few names.old (Num var) (use_tree used.now ∷ []) names.new) }
+{
+    match used {
+        Use::Whole(own) => Ok(!is_number(var, own)),
+        Use::Part(own, name) => {
+            if !is_number(var, own) {
+                return Ok(true);
+            }
+            add_name(alloc, name.as_str(), names)
+        }
+    }
+}
+
+// The same of one use after another, up to the first `false`.
+fn add_uses(alloc: Global, var: u32, uses: &[Use], names: &mut Names) -> Result<bool, OutOfMemory>
+    requires { length names.old ≤ 5 }
+    ensures { IfOk result
+        (λ few. AreAdded few names.old (Num var) (uses_tree uses.now) names.new) }
+{
+    for used in uses {
+        if !add_use(alloc, var, used, names)? {
+            return Ok(false);
+        }
+    }
+    Ok(true)
+}
+
+// The same of what the nodes above use, the nearest node first.
+fn add_above(
+    alloc: Global,
+    var: u32,
+    above: &[Uses],
+    names: &mut Names,
+) -> Result<bool, OutOfMemory>
+    requires { length names.old ≤ 5 }
+    ensures { IfOk result
+        (λ few. AreAdded few names.old (Num var) (above_uses above.now) names.new) }
+{
+    match above.split_last() {
+        None => Ok(true),
+        Some((own, further)) => {
+            if !add_uses(alloc, var, own.as_slice(), names)? {
+                return Ok(false);
+            }
+            add_above(alloc, var, further, names)
+        }
+    }
+}
+
+// The same of attributes of a variable that count as used.
+fn add_attributes(alloc: Global, order: &[Text], names: &mut Names) -> Result<bool, OutOfMemory>
+    requires { length names.old ≤ 5 }
+    ensures { IfOk result (λ few. (x : spec_Ident)
+        → AreAdded few names.old x (map (λ name. Part x name) order.now) names.new) }
+{
+    for name in order {
+        if !add_name(alloc, name.as_str(), names)? {
+            return Ok(false);
+        }
+    }
+    Ok(true)
+}
+
+// The names by which a variable is used, `order` with them; `None` exactly where it is used as a
+// whole, or there are more than five.
+fn kept_names(
+    alloc: Global,
+    var: u32,
+    order: &[Text],
+    above: &[Uses],
+) -> Result<Option<Names>, OutOfMemory>
+    ensures { IfOk result (λ kept. AreKept kept (Num var)
+        (above_uses above.now ++ map (λ name. Part (Num var) name) order.now)) }
+{
+    let mut names = Seq::new(alloc);
+    if !add_above(alloc, var, above, &mut names)? {
+        return Ok(None);
+    }
+    if !add_attributes(alloc, order, &mut names)? {
+        return Ok(None);
+    }
+    Ok(Some(names))
+}
+
+// An index of a collection, if there is one of this number.
+fn index_of(facts: &Facts, coll: CollNo, index: u32) -> Option<&IndexFact>
+    ensures { option_copied result ≡ slice_get (indexes_in facts.now coll.0) index }
+{
+    facts
+        .collections
+        .get(coll.0 as usize)?
+        .indexes
+        .get(index as usize)
+}
+
+// The attributes of an index, if it is ordered.
+fn order_of(facts: &Facts, coll: CollNo, index: u32, ordered: Option<bool>) -> &[Text]
+    ensures { result.now ≡ spec_order_of facts.now coll.0 index ordered }
+{
+    match ordered {
+        None => &[],
+        Some(_) => match index_of(facts, coll, index) {
+            Some(known) => known.attributes.as_slice(),
+            None => &[],
+        },
+    }
+}
+
+// A node that reads, with these attributes kept; any other node as it is.
+fn with_attrs(plan: Plan, names: Names) -> Plan
+    ensures { plan_tree result ≡ spec_with_attrs names (plan_tree plan) }
+{
+    match plan {
+        Plan::EnumerateCollection {
+            below,
+            var,
+            coll,
+            filter,
+            attrs: _,
+            shard,
+        } => Plan::EnumerateCollection {
+            below,
+            var,
+            coll,
+            filter,
+            attrs: Some(names),
+            shard,
+        },
+        Plan::Index {
+            below,
+            var,
+            coll,
+            filter,
+            attrs: _,
+            shard,
+            index,
+            equal,
+            last,
+            ordered,
+        } => Plan::Index {
+            below,
+            var,
+            coll,
+            filter,
+            attrs: Some(names),
+            shard,
+            index,
+            equal,
+            last,
+            ordered,
+        },
+        other => other,
+    }
+}
+
+// The variable of a node that reads documents whole, and the attributes of its order; `None`
+// exactly at every other node.
+fn read_whole<'a>(node: &Plan, facts: &'a Facts) -> Option<(u32, &'a [Text])>
+    ensures { MatchOption result (spec_read_whole facts.now (top (plan_tree node.now)) ≡ None)
+        (λ r. spec_read_whole facts.now (top (plan_tree node.now)) ≡ Some (Num r.0, r.1.now)) }
+{
+    match node {
+        Plan::EnumerateCollection {
+            var,
+            attrs: None,
+            ..
+        } => Some((*var, &[])),
+        Plan::Index {
+            var,
+            coll,
+            attrs: None,
+            index,
+            ordered,
+            ..
+        } => Some((*var, order_of(facts, *coll, *index, *ordered))),
+        _ => None,
+    }
+}
+
+/// The rule reduce-extraction-to-projection.
+#[derive(Clone, Copy, Drop)]
+pub struct ReduceExtractionToProjection;
+
+impl Rule for ReduceExtractionToProjection {
+    ghost use Rattle.std.specs.Prelude.{false};
+    ghost use Rattle.aql_rules_calc.specs.ReduceExtractionToProjection.{Reduces, whole_readers};
+    ghost use Rattle.aql_rules_calc.specs.laws.Projected.{reduces_refine, reduces_keep};
+    ghost use Rattle.aql_rules_calc.specs.laws.Projected.{reduces_fall};
+
+    ghost rewrites = { λ _ facts. Reduces facts };
+
+    ghost fragments = { λ _. false };
+
+    ghost measure = { λ _. whole_readers };
+
+    fn at(
+        &self,
+        alloc: Global,
+        part: &Plan,
+        above: &[Uses],
+        facts: &Facts,
+    ) -> Result<Option<Swap>, OutOfMemory> {
+        match read_whole(part, facts) {
+            None => Ok(None),
+            Some((var, order)) => match kept_names(alloc, var, order, above)? {
+                None => Ok(None),
+                Some(names) => {
+                    let whole = part.copy(alloc)?;
+                    Ok(Some(Swap {
+                        part: with_attrs(whole, names),
+                        rename: None,
+                    }))
+                }
+            },
+        }
+    }
+
+    ghost refines = { λ _ facts _ _ us p q r _ h. reduces_refine facts us p q r h };
+
+    ghost keeps = { λ _ facts outer away us p q r placed h.
+        reduces_keep facts outer away us p q r placed h };
+
+    ghost falls = { λ _ facts p q r whole h. reduces_fall facts p q r whole h };
+}

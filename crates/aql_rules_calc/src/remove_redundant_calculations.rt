@@ -1,0 +1,122 @@
+//! A Calculation goes where a lower node has calculated the same expression.
+
+ghost use Rattle.std.specs.Prelude.{◌≡◌, None, MatchOption};
+ghost use Rattle.aql_tree.specs.declared.syntax.Ident.{Ident as spec_Ident};
+ghost use Rattle.aql_tree.specs.declared.syntax.Ident.TheVariants.{Num};
+ghost use Rattle.aql_tree.specs.View.{tree};
+ghost use Rattle.aql_meaning.specs.Plain.{IsPlain};
+ghost use Rattle.aql_plan.specs.Plan as spec;
+ghost use Rattle.aql_plan.specs.Plan.{top};
+ghost use Rattle.aql_plan.specs.View.{plan_tree};
+ghost use Rattle.aql_rules_calc.specs.Readers.{calculation_in as spec_calculation_in};
+ghost use Rattle.aql_rules_calc.specs.RemoveRedundantCalculations.{IsNotOf, Calculates};
+
+use crate::needs::gives_new_rows;
+use aql_plan::{Facts, Plan, Uses};
+use aql_rewrite_expr::same_expr;
+use aql_rewrite_plan::{Rename, Rule, Swap};
+use aql_tree::Expr;
+use aql_value::OutOfMemory;
+use std::alloc::Global;
+
+// The input, the variable and the expression of a Calculation; `None` exactly at every other node.
+fn calculation_in(node: &Plan) -> Option<(&Plan, u32, &Expr)>
+    ensures { MatchOption result (spec_calculation_in (plan_tree node.now) ≡ None)
+        (λ c. plan_tree node.now
+        ≡ spec.Over (plan_tree c.0.now) (spec.Calculation (Num c.1) (tree c.2.now))) }
+{
+    match node {
+        Plan::Calculation { below, var, expr } => Some((below, *var, expr)),
+        _ => None,
+    }
+}
+
+// The variable under which the top node calculates an expression, if it does.
+fn calculates(plan: &Plan, expr: &Expr) -> Option<u32>
+    requires { IsPlain (tree expr.now) }
+    ensures { MatchOption result (IsNotOf (tree expr.now) (top (plan_tree plan.now)))
+        (λ w. top (plan_tree plan.now) ≡ spec.Calculation (Num w) (tree expr.now)) }
+{
+    match calculation_in(plan) {
+        None => None,
+        Some((_, var, own)) => {
+            if same_expr(expr, own) {
+                return Some(var);
+            }
+            None
+        }
+    }
+}
+
+// The variable under which the rows of a plan have the value of an expression, where a node
+// calculates it and none above that makes new rows.
+fn calculated(plan: &Plan, expr: &Expr) -> Option<u32>
+    requires { IsPlain (tree expr.now) }
+    ensures { MatchOption result
+        ((w : spec_Ident) → Calculates (tree expr.now) w (plan_tree plan.now) → ⊥)
+        (λ w. Calculates (tree expr.now) (Num w) (plan_tree plan.now)) }
+{
+    match plan.below() {
+        None => None,
+        Some(below) => match calculates(plan, expr) {
+            Some(var) => Some(var),
+            None => {
+                if gives_new_rows(plan) {
+                    return None;
+                }
+                calculated(below, expr)
+            }
+        },
+    }
+}
+
+/// The rule remove-redundant-calculations.
+#[derive(Clone, Copy, Drop)]
+pub struct RemoveRedundantCalculations;
+
+impl Rule for RemoveRedundantCalculations {
+    ghost use Rattle.std.specs.Prelude.{false};
+    ghost use Rattle.aql_plan.specs.Nodes.{weight};
+    ghost use Rattle.aql_rules_calc.specs.RemoveRedundantCalculations.{Redundant};
+    ghost use Rattle.aql_rules_calc.specs.laws.CalculatedTwice.{redundant_refine, redundant_keep};
+    ghost use Rattle.aql_rules_calc.specs.laws.CalculatedTwice.{redundant_fall};
+
+    ghost rewrites = { λ _ _. Redundant };
+
+    ghost fragments = { λ _. false };
+
+    ghost measure = { λ _. weight };
+
+    fn at(
+        &self,
+        alloc: Global,
+        part: &Plan,
+        _above: &[Uses],
+        _facts: &Facts,
+    ) -> Result<Option<Swap>, OutOfMemory> {
+        match calculation_in(part) {
+            None => Ok(None),
+            Some((below, var, expr)) => match calculated(below, expr) {
+                None => Ok(None),
+                Some(lower) => {
+                    let part = below.copy(alloc)?;
+                    Ok(Some(Swap {
+                        part,
+                        rename: Some(Rename {
+                            from: var,
+                            to: lower,
+                        }),
+                    }))
+                }
+            },
+        }
+    }
+
+    ghost refines = { λ _ facts outer away us p q r placed h.
+        redundant_refine facts outer away us p q r placed h };
+
+    ghost keeps = { λ _ facts outer away us p q r placed h.
+        redundant_keep facts outer away us p q r placed h };
+
+    ghost falls = { λ _ facts p q r whole h. redundant_fall facts p q r whole h };
+}
