@@ -4,5 +4,6 @@ pub mod RemoveUnnecessaryFilters
 pub mod FuseFilters
 pub mod MoveFiltersIntoEnumerate
 pub mod MoveFiltersUp
+pub mod OptimizeTraversals
 pub mod Readers
 pub mod laws

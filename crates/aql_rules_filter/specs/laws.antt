@@ -11,3 +11,5 @@ pub mod FiltersFused
 pub mod FiltersInside
 pub mod FiltersPass
 pub mod FiltersUp
+pub mod FewerVariables
+pub mod TraversalsOptimized

@@ -1,10 +1,14 @@
 //! Filters, and nodes with a filter of their own.
 
 ghost use Rattle.std.specs.Prelude.{◌≡◌, Some, None, IfOk, MatchOption, option_map};
+ghost use Rattle.aql_tree.specs.declared.syntax.Ident.TheVariants.{Num};
 ghost use Rattle.aql_tree.specs.View.{tree, maybe};
 ghost use Rattle.aql_plan.specs.Plan as spec;
 ghost use Rattle.aql_plan.specs.Plan.{top};
 ghost use Rattle.aql_plan.specs.View.{plan_tree};
+ghost use Rattle.aql_rules_filter.specs.OptimizeTraversals.{traversal_in};
+ghost use Rattle.aql_rules_filter.specs.Readers.{plan_without_edge, plan_without_path};
+ghost use Rattle.aql_rules_filter.specs.Readers.{open_path as spec_open_path};
 ghost use Rattle.aql_rules_filter.specs.Readers.{own_filter as spec_own_filter, plan_filtered, filter_in};
 
 use aql_plan::Plan;
@@ -77,6 +81,33 @@ pub(crate) fn with_filter(node: Plan, cond: Expr) -> Plan
             last,
             ordered,
         },
+        Plan::Traversal {
+            below,
+            vertex,
+            edge,
+            path,
+            min,
+            max,
+            direction,
+            start,
+            collections,
+            prune,
+            options,
+            ..
+        } => Plan::Traversal {
+            below,
+            vertex,
+            edge,
+            path,
+            min,
+            max,
+            direction,
+            start,
+            collections,
+            prune,
+            options,
+            filter: Some(cond),
+        },
         other => other,
     }
 }
@@ -99,4 +130,117 @@ pub(crate) fn filter_over(alloc: Global, below: Plan, cond: Expr) -> Result<Plan
 {
     let below = Box::new(alloc, below)?;
     Ok(Plan::Filter { below, cond })
+}
+
+/// A Traversal without a variable for its edges.
+pub(crate) fn without_edge(node: Plan) -> Plan
+    ensures { plan_tree result ≡ plan_without_edge (plan_tree node) }
+{
+    match node {
+        Plan::Traversal {
+            below,
+            vertex,
+            path,
+            min,
+            max,
+            direction,
+            start,
+            collections,
+            prune,
+            options,
+            filter,
+            ..
+        } => Plan::Traversal {
+            below,
+            vertex,
+            edge: None,
+            path,
+            min,
+            max,
+            direction,
+            start,
+            collections,
+            prune,
+            options,
+            filter,
+        },
+        other => other,
+    }
+}
+
+/// A Traversal without a variable for its paths.
+pub(crate) fn without_path(node: Plan) -> Plan
+    ensures { plan_tree result ≡ plan_without_path (plan_tree node) }
+{
+    match node {
+        Plan::Traversal {
+            below,
+            vertex,
+            edge,
+            min,
+            max,
+            direction,
+            start,
+            collections,
+            prune,
+            options,
+            filter,
+            ..
+        } => Plan::Traversal {
+            below,
+            vertex,
+            edge,
+            path: None,
+            min,
+            max,
+            direction,
+            start,
+            collections,
+            prune,
+            options,
+            filter,
+        },
+        other => other,
+    }
+}
+
+/// The variable of the paths of a Traversal without a filter; `None` exactly where the node is
+/// none.
+pub(crate) fn open_path(node: &Plan) -> Option<Option<u32>>
+    ensures { option_map (λ path. option_map (λ x. Num x) path) result
+        ≡ spec_open_path (top (plan_tree node.now)) }
+{
+    match node {
+        Plan::Traversal {
+            path,
+            filter: None,
+            ..
+        } => Some(*path),
+        _ => None,
+    }
+}
+
+/// The variables of edges and paths of a Traversal, its PRUNE and its filter; `None` exactly where
+/// the node is none.
+pub(crate) fn traversal_of(
+    node: &Plan,
+) -> Option<(Option<u32>, Option<u32>, &Option<Expr>, &Option<Expr>)>
+    ensures { MatchOption result (traversal_in (top (plan_tree node.now)) ≡ None)
+        (λ t. traversal_in (top (plan_tree node.now)) ≡ Some (
+          option_map (λ x. Num x) t.0,
+          option_map (λ x. Num x) t.1,
+          maybe (option_map tree t.2.now),
+          maybe (option_map tree t.3.now),
+        )) }
+{
+    match node {
+        Plan::Traversal {
+            edge,
+            path,
+            prune,
+            filter,
+            ..
+        } => Some((*edge, *path, prune, filter)),
+        _ => None,
+    }
 }
