@@ -8,9 +8,16 @@ ghost use Rattle.aql_rewrite_plan.specs.Swaps.{SetsNoMore};
 ghost use Rattle.aql_optimise.specs.Passes.{IsPassOf};
 
 use aql_plan::{Facts, Passed, Plan, RuleName};
+use aql_rewrite_node_exprs::AtExprs;
 use aql_rewrite_plan::run_pass;
+use aql_rules_calc::{
+    MoveCalculationsUp, ReduceExtractionToProjection, RemoveRedundantCalculations,
+    RemoveUnnecessaryCalculations,
+};
+use aql_rules_conditions::{ReplaceOrWithIn, SimplifyConditions};
 use aql_rules_filter::{
-    FuseFilters, MoveFiltersIntoEnumerate, MoveFiltersUp, RemoveUnnecessaryFilters,
+    FuseFilters, MoveFiltersIntoEnumerate, MoveFiltersUp, OptimizeTraversals,
+    RemoveUnnecessaryFilters,
 };
 use aql_value::OutOfMemory;
 use std::alloc::Global;
@@ -30,13 +37,36 @@ pub(crate) fn pass_of(
     ensures sets { IfOk result (λ x. SetsNoMore (plan_tree plan) (plan_tree x.plan)) }
 {
     match rule {
+        RuleName::SimplifyConditions => {
+            let rule = AtExprs {
+                rule: SimplifyConditions,
+            };
+            run_pass(alloc, &rule, plan, facts)
+        }
+        RuleName::MoveCalculationsUp => run_pass(alloc, &MoveCalculationsUp, plan, facts),
         RuleName::MoveFiltersUp => run_pass(alloc, &MoveFiltersUp, plan, facts),
+        RuleName::RemoveRedundantCalculations => {
+            run_pass(alloc, &RemoveRedundantCalculations, plan, facts)
+        }
         RuleName::RemoveUnnecessaryFilters => {
             run_pass(alloc, &RemoveUnnecessaryFilters, plan, facts)
         }
+        RuleName::RemoveUnnecessaryCalculations => {
+            run_pass(alloc, &RemoveUnnecessaryCalculations, plan, facts)
+        }
+        RuleName::ReplaceOrWithIn => {
+            let rule = AtExprs {
+                rule: ReplaceOrWithIn,
+            };
+            run_pass(alloc, &rule, plan, facts)
+        }
         RuleName::FuseFilters => run_pass(alloc, &FuseFilters, plan, facts),
+        RuleName::OptimizeTraversals => run_pass(alloc, &OptimizeTraversals, plan, facts),
         RuleName::MoveFiltersIntoEnumerate => {
             run_pass(alloc, &MoveFiltersIntoEnumerate, plan, facts)
+        }
+        RuleName::ReduceExtractionToProjection => {
+            run_pass(alloc, &ReduceExtractionToProjection, plan, facts)
         }
         _ => Ok(Passed {
             plan,

@@ -9,16 +9,24 @@ use Rattle.aql_plan.specs.declared.facts.Facts.{Facts}
 use Rattle.aql_plan.specs.declared.rules.RuleName.{RuleName}
 use Rattle.aql_plan.specs.declared.rules.RuleName.TheVariants as rule
 use Rattle.aql_plan.specs.Exprs.{map_plan, map_node}
-use Rattle.aql_plan.specs.Plan.{Plan, Singleton, Over, Node, Subquery, Collect}
+use Rattle.aql_plan.specs.Plan.{Plan, Singleton, Over, Node, EnumerateCollection, Index, EnumerateList, Traversal, Calculation, Subquery, Filter, Sort, Collect, Return, Distribute, Gather}
 use Rattle.aql_exec_plan.specs.Runnable.{HasExecutors, HasExecutor}
 use Rattle.aql_rewrite_plan.specs.declared.swap.Rename.{Rename}
+use Rattle.aql_rewrite_plan.specs.NodeExprs.{over_exprs}
 use Rattle.aql_rewrite_plan.specs.Places.{Rewriting, First, below, here, body, Reaches, at_once, next, IsPass, renamed_by}
+use Rattle.aql_rules_calc.specs.MoveCalculationsUp.{Moves, swapped as calculation_moved}
+use Rattle.aql_rules_calc.specs.ReduceExtractionToProjection.{Reduces, enumeration, by_index}
+use Rattle.aql_rules_calc.specs.RemoveRedundantCalculations.{Redundant, calculated_twice}
+use Rattle.aql_rules_calc.specs.RemoveUnnecessaryCalculations.{Removes as RemovesCalculation, calculation, with_subquery}
 use Rattle.aql_rules_filter.specs.MoveFiltersUp.{MovesUp, swapped}
 use Rattle.aql_rules_filter.specs.RemoveUnnecessaryFilters.{Removes, passing, failing}
 use Rattle.aql_rules_filter.specs.FuseFilters.{Fuses, fused}
+use Rattle.aql_rules_filter.specs.OptimizeTraversals.{Optimizes, edge_goes, path_goes, filter_goes_in}
 use Rattle.aql_rules_filter.specs.MoveFiltersIntoEnumerate.{MovesIn, into_enumerate, into_index}
 use Rattle.aql_opt.specs.declared.rule_sets.Rules.{Rules}
-use Rattle.aql_optimise.specs.Passes.{IsPassOf}
+use Rattle.aql_rules_conditions.specs.SimplifyConditions.{Simplifies}
+use Rattle.aql_rules_conditions.specs.ReplaceOrWithIn.{Replaces}
+use Rattle.aql_optimise.specs.Passes.{AtExprs, IsPassOf}
 use Rattle.aql_optimise.specs.Chosen.{RunsRule, switched_off, unchanged, changed, AfterRules, at_first, and_then, Chosen, all_rules}
 
 -- ---- other expressions, and other names
@@ -34,6 +42,22 @@ mutual
   node_mapped f (Collect xs es gs i stage.Partial) h = absurd h
   node_mapped f (Collect xs es gs i stage.Final) h = absurd h
   node_mapped f n h = h
+
+node_over : (n : Node) (es : List ExprTree) → HasExecutor n → HasExecutor (over_exprs n es)
+node_over (EnumerateCollection x) es h = tt
+node_over (Index x index equal last ordered) es h = absurd h
+node_over (EnumerateList x e) es h = tt
+node_over (Traversal shape e colls prune keep) es h = absurd h
+node_over (Calculation x e) es h = tt
+node_over (Filter e) es h = tt
+node_over (Sort directions keys n) es h = tt
+node_over (Collect xs keys gs i stage.Whole) es h = tt
+node_over (Collect xs keys gs i stage.Partial) es h = absurd h
+node_over (Collect xs keys gs i stage.Final) es h = absurd h
+node_over (Return distinct e) es h = tt
+node_over (Distribute coll keys) es h = absurd h
+node_over (Gather directions keys) es h = absurd h
+node_over n es h = h
 
 node_renamed : (r : Option Rename) (n : Node) → HasExecutor n → HasExecutor (renamed_by r n)
 node_renamed None n h = h
@@ -57,6 +81,32 @@ module _ (R : Rewriting) (keeps : Keeping R) where
 
 -- ---- the rules
 
+exprs_kept : (R : ExprTree → ExprTree → Type 0) → Keeping (AtExprs R)
+exprs_kept R us Singleton q None a h = absurd a
+exprs_kept R us Singleton q (Some r) a h = absurd a
+exprs_kept R us (Over b n) q None a h =
+    subst HasExecutors (sym a.2) (h.0, node_over n a.0 h.1)
+exprs_kept R us (Over b n) q (Some r) a h = absurd a
+
+moved_kept : Keeping Moves
+moved_kept us p q r (calculation_moved may unused) h = ((h.0.0, h.1), h.0.1)
+
+redundant_kept : Keeping Redundant
+redundant_kept us p q r (calculated_twice before) h = h.0
+
+unnecessary_kept : Keeping RemovesCalculation
+unnecessary_kept us p q r (calculation unused) h = h.0
+unnecessary_kept us p q r (with_subquery unused) h = h.0
+
+reduced_kept : (facts : Facts) → Keeping (Reduces facts)
+reduced_kept facts us p q r (enumeration may) h = (h.0, tt)
+reduced_kept facts us p q r (by_index may) h = absurd h.1
+
+optimized_kept : Keeping Optimizes
+optimized_kept us p q r (edge_goes w unused other) h = absurd h.1
+optimized_kept us p q r (path_goes w gone unused other) h = absurd h.1
+optimized_kept us p q r (filter_goes_in unused) h = absurd h.0.1
+
 up_kept : Keeping MovesUp
 up_kept us p q r (swapped may unused) h = ((h.0.0, tt), h.0.1)
 
@@ -73,10 +123,23 @@ in_kept us p q r (into_index whole) h = absurd h.0.1
 
 pass_kept : (r : RuleName) (facts : Facts) (p q : Plan) (b : Bool) → IsPassOf r facts p q b
     → HasExecutors p → HasExecutors q
+pass_kept rule.SimplifyConditions facts p q b i h =
+    reached_kept (AtExprs Simplifies) (exprs_kept Simplifies) p q b i.reached h
+pass_kept rule.ReplaceOrWithIn facts p q b i h =
+    reached_kept (AtExprs Replaces) (exprs_kept Replaces) p q b i.reached h
+pass_kept rule.MoveCalculationsUp facts p q b i h = reached_kept Moves moved_kept p q b i.reached h
+pass_kept rule.RemoveRedundantCalculations facts p q b i h =
+    reached_kept Redundant redundant_kept p q b i.reached h
+pass_kept rule.RemoveUnnecessaryCalculations facts p q b i h =
+    reached_kept RemovesCalculation unnecessary_kept p q b i.reached h
 pass_kept rule.MoveFiltersUp facts p q b i h = reached_kept MovesUp up_kept p q b i.reached h
 pass_kept rule.RemoveUnnecessaryFilters facts p q b i h = reached_kept Removes removed_kept p q b i.reached h
 pass_kept rule.FuseFilters facts p q b i h = reached_kept Fuses fused_kept p q b i.reached h
 pass_kept rule.MoveFiltersIntoEnumerate facts p q b i h = reached_kept MovesIn in_kept p q b i.reached h
+pass_kept rule.OptimizeTraversals facts p q b i h =
+    reached_kept Optimizes optimized_kept p q b i.reached h
+pass_kept rule.ReduceExtractionToProjection facts p q b i h =
+    reached_kept (Reduces facts) (reduced_kept facts) p q b i.reached h
 pass_kept r facts p q b i h = subst HasExecutors (sym i.0) h
 
 -- ---- the turns of all rules
