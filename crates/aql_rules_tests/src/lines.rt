@@ -1,0 +1,265 @@
+// Small plans, a line for each node, the lowest first, over one collection of edges.
+use aql_func::BinOp;
+use aql_meaning::{Last, TraversalOptions};
+use aql_plan::{CollFact, Facts, IndexFact, IndexKind, Plan};
+use aql_tree::{Direction, Expr, Ident, Key, Link, Step, UniqueEdges, UniqueVertices};
+use aql_value::{CollNo, OutOfMemory, Seq, Text, Value};
+use std::alloc::Global;
+
+/// An attribute of a variable: `(1, "a")` is `#1.a`.
+pub type Part = (u32, &'static str);
+
+/// A condition: attributes with `&&` between them. No attribute stands for no condition.
+pub type Cond = &'static [Part];
+
+/// A node of a plan.
+#[derive(Clone, Copy)]
+pub enum Line {
+    /// FOR over the collection.
+    Docs(u32),
+    /// The same with a filter of its own.
+    DocsIf(u32, Cond),
+    /// The same with one attribute of each document alone.
+    DocsCut(u32),
+    /// The same over an index.
+    Found(u32),
+    /// FOR over an array.
+    Each(u32, Part),
+    /// FOR over paths: the variables of vertices, edges and paths, PRUNE, and a filter of its own.
+    Paths(u32, Option<u32>, Option<u32>, Cond, Cond),
+    /// LET of a number.
+    Let(u32, i64),
+    /// LET of a subquery, which filters by a number, sets a variable to 3 and returns it.
+    Rows(u32, u32, i64),
+    /// FILTER.
+    Filter(Cond),
+    /// FILTER by a number.
+    FilterBy(i64),
+    /// SORT.
+    Sort(Part, Option<u64>),
+    /// LIMIT of the first rows.
+    Limit(u64),
+    /// RETURN of a variable.
+    Return(u32),
+}
+
+fn names(alloc: Global, name: &str) -> Result<Seq<Text>, OutOfMemory> {
+    let mut names = Seq::new(alloc);
+    names.push(Text::new(alloc, name)?)?;
+    Ok(names)
+}
+
+fn indexes(alloc: Global) -> Result<Seq<IndexFact>, OutOfMemory> {
+    let mut widths = Seq::new(alloc);
+    widths.push(10)?;
+    widths.push(1)?;
+    let attributes = names(alloc, "a")?;
+    let mut indexes = Seq::new(alloc);
+    indexes.push(IndexFact {
+        kind: IndexKind::Sorted,
+        attributes,
+        widths,
+    })?;
+    Ok(indexes)
+}
+
+/// What is known of the collection: ten edges in one place, and an index of one attribute.
+pub fn one_collection(alloc: Global) -> Result<Facts, OutOfMemory> {
+    let name = Text::new(alloc, "c")?;
+    let keys = names(alloc, "_key")?;
+    let indexes = indexes(alloc)?;
+    let mut collections = Seq::new(alloc);
+    collections.push(CollFact {
+        name,
+        edge: true,
+        documents: 10,
+        shards: 1,
+        keys,
+        indexes,
+    })?;
+    Ok(Facts {
+        servers: 0,
+        collections,
+    })
+}
+
+fn attribute(alloc: Global, part: Part) -> Result<Expr, OutOfMemory> {
+    let mut steps = Seq::new(alloc);
+    steps.push(Step::Name(Text::new(alloc, part.1)?))?;
+    Expr::access(alloc, Expr::Var(Ident::Num(part.0)), steps)
+}
+
+fn chain(alloc: Global, first: Part, rest: &[Part]) -> Result<Expr, OutOfMemory> {
+    let mut links = Seq::new(alloc);
+    for part in rest {
+        links.push(Link::new(BinOp::And, attribute(alloc, *part)?))?;
+    }
+    Expr::chain(alloc, attribute(alloc, first)?, links)
+}
+
+fn maybe_cond(alloc: Global, parts: &[Part]) -> Result<Option<Expr>, OutOfMemory> {
+    match parts {
+        [] => Ok(None),
+        [part] => Ok(Some(attribute(alloc, *part)?)),
+        [first, rest @ ..] => Ok(Some(chain(alloc, *first, rest)?)),
+    }
+}
+
+fn cond(alloc: Global, parts: &[Part]) -> Result<Expr, OutOfMemory> {
+    Ok(maybe_cond(alloc, parts)?.unwrap_or(number(1)))
+}
+
+fn number(n: i64) -> Expr {
+    Expr::Lit(Value::Num(n))
+}
+
+fn docs(below: Box<Plan>, var: u32, filter: Option<Expr>, attrs: Option<Seq<Text>>) -> Plan {
+    Plan::EnumerateCollection {
+        below,
+        var,
+        coll: CollNo(0),
+        filter,
+        attrs,
+        shard: None,
+    }
+}
+
+fn found(alloc: Global, below: Box<Plan>, var: u32) -> Plan {
+    Plan::Index {
+        below,
+        var,
+        coll: CollNo(0),
+        filter: None,
+        attrs: None,
+        shard: None,
+        index: 0,
+        equal: Seq::new(alloc),
+        last: Last::None,
+        ordered: None,
+    }
+}
+
+// The variables of a Traversal.
+#[derive(Clone, Copy)]
+struct Walked {
+    vertex: u32,
+    edge: Option<u32>,
+    path: Option<u32>,
+}
+
+fn paths(
+    alloc: Global,
+    below: Box<Plan>,
+    vars: Walked,
+    prune: Option<Expr>,
+    filter: Option<Expr>,
+) -> Result<Plan, OutOfMemory> {
+    let start = Expr::Lit(Value::Text(Text::new(alloc, "c/1")?));
+    let mut collections = Seq::new(alloc);
+    collections.push(CollNo(0))?;
+    Ok(Plan::Traversal {
+        below,
+        vertex: vars.vertex,
+        edge: vars.edge,
+        path: vars.path,
+        min: 1,
+        max: 2,
+        direction: Direction::Outbound,
+        start,
+        collections,
+        prune,
+        options: TraversalOptions {
+            edges: UniqueEdges::Path,
+            vertices: UniqueVertices::None,
+            bfs: false,
+        },
+        filter,
+    })
+}
+
+fn source(alloc: Global, below: Box<Plan>, line: Line) -> Result<Plan, OutOfMemory> {
+    match line {
+        Line::Docs(var) => Ok(docs(below, var, None, None)),
+        Line::DocsIf(var, filter) => Ok(docs(below, var, maybe_cond(alloc, filter)?, None)),
+        Line::DocsCut(var) => Ok(docs(below, var, None, Some(names(alloc, "a")?))),
+        Line::Found(var) => Ok(found(alloc, below, var)),
+        Line::Each(var, list) => {
+            let list = attribute(alloc, list)?;
+            Ok(Plan::EnumerateList { below, var, list })
+        }
+        Line::Paths(vertex, edge, path, prune, filter) => {
+            let prune = maybe_cond(alloc, prune)?;
+            let filter = maybe_cond(alloc, filter)?;
+            paths(alloc, below, Walked { vertex, edge, path }, prune, filter)
+        }
+        _ => Ok(Plan::NoResults { below }),
+    }
+}
+
+fn sorted(
+    alloc: Global,
+    below: Box<Plan>,
+    key: Part,
+    limit: Option<u64>,
+) -> Result<Plan, OutOfMemory> {
+    let mut keys = Seq::new(alloc);
+    keys.push(Key::new(attribute(alloc, key)?, false))?;
+    Ok(Plan::Sort { below, keys, limit })
+}
+
+fn filter(below: Box<Plan>, cond: Expr) -> Plan {
+    Plan::Filter { below, cond }
+}
+
+fn calculation(below: Box<Plan>, var: u32, n: i64) -> Plan {
+    Plan::Calculation {
+        below,
+        var,
+        expr: number(n),
+    }
+}
+
+fn result(below: Box<Plan>, var: u32) -> Plan {
+    Plan::Return {
+        below,
+        expr: Expr::Var(Ident::Num(var)),
+        distinct: false,
+    }
+}
+
+fn body(alloc: Global, var: u32, n: i64) -> Result<Plan, OutOfMemory> {
+    let start = Box::new(alloc, Plan::Singleton)?;
+    let filtered = Box::new(alloc, filter(start, number(n)))?;
+    let set = Box::new(alloc, calculation(filtered, var, 3))?;
+    Ok(result(set, var))
+}
+
+fn node(alloc: Global, below: Box<Plan>, line: Line) -> Result<Plan, OutOfMemory> {
+    match line {
+        Line::Let(var, n) => Ok(calculation(below, var, n)),
+        Line::Rows(var, inner, n) => {
+            let body = Box::new(alloc, body(alloc, inner, n)?)?;
+            Ok(Plan::Subquery { below, var, body })
+        }
+        Line::Filter(parts) => Ok(filter(below, cond(alloc, parts)?)),
+        Line::FilterBy(n) => Ok(filter(below, number(n))),
+        Line::Sort(key, limit) => sorted(alloc, below, key, limit),
+        Line::Limit(count) => Ok(Plan::Limit {
+            below,
+            offset: 0,
+            count,
+        }),
+        Line::Return(var) => Ok(result(below, var)),
+        _ => source(alloc, below, line),
+    }
+}
+
+/// The plan of these lines.
+pub fn plan_of(alloc: Global, lines: &[Line]) -> Result<Plan, OutOfMemory> {
+    let mut plan = Plan::Singleton;
+    for line in lines {
+        let below = Box::new(alloc, plan)?;
+        plan = node(alloc, below, *line)?;
+    }
+    Ok(plan)
+}
