@@ -1,5 +1,6 @@
 pub mod Rests
 pub mod Counting
+pub mod Charges
 pub mod Operators
 pub mod Steps
 pub mod Links

@@ -1,12 +1,13 @@
 //! The executor that makes its rows by a transform, and counts them for itself: it asks its input
 //! for all rows, whatever is asked of it.
 
-ghost use Rattle.std.specs.Prelude.{◌≡◌, ℕ, ◌+◌, ◌*◌, ◌≤◌, ◌^◌, List, [], cond, true, false, IfOk, OnOk};
+ghost use Rattle.std.specs.Prelude.{◌≡◌, ℕ, ◌+◌, ◌≤◌, List, [], cond, true, false, IfOk, OnOk};
 ghost use Rattle.std.proofs.Math.Nat.{le_refl};
 ghost use Rattle.aql_meaning.specs.Row as meaning;
 ghost use Rattle.aql_plan.specs.Fits.{Fits};
 ghost use Rattle.aql_exec.specs.Rests.{Counts, Rest, Rises};
 ghost use Rattle.aql_exec.specs.Steps.{IsCall, InCall, Led, told};
+ghost use Rattle.aql_exec.specs.Charges.{charge_of};
 ghost use Rattle.aql_exec.specs.Operators.{OnRows, is_first};
 
 use crate::feed::{Executor, Place};
@@ -114,7 +115,7 @@ impl<W: Place, T: Transform<W>> Executor<W> for Stream<T> {
 
     ghost full = { λ _ _. 1 };
 
-    ghost charge = { λ _ _ _. 2 ^ 64 + 1 };
+    ghost charge = { λ s _ _. charge_of (T.node s.transform) + 1 };
 
     ghost may = { λ _ _ _. Unit {0} };
 

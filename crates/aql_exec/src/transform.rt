@@ -1,6 +1,6 @@
 //! What makes rows of rows, block by block: the part of an executor that knows its node.
 
-ghost use Rattle.std.specs.Prelude.{◌≡◌, ℕ, ◌+◌, ◌*◌, ◌<◌, ◌≤◌, ◌^◌, ◌++◌, List, [], length, IfOk, OnOk};
+ghost use Rattle.std.specs.Prelude.{◌≡◌, ℕ, ◌+◌, ◌*◌, ◌<◌, ◌≤◌, ◌++◌, List, [], length, IfOk, OnOk};
 ghost use Rattle.std.specs.Prelude.{Bool, true, false};
 ghost use Rattle.aql_meaning.specs.Row as meaning;
 ghost use Rattle.aql_plan.specs.Plan.{Node};
@@ -10,6 +10,7 @@ ghost use Rattle.aql_block.specs.Rows.{row_of};
 ghost use Rattle.aql_block.specs.Tables.{rows_of};
 ghost use Rattle.aql_exec.specs.Rests.{Counts, Rest, Ahead, Rises};
 ghost use Rattle.aql_exec.specs.Counting.{GivesCounting};
+ghost use Rattle.aql_exec.specs.Charges.{charge_of};
 
 use crate::feed::Place;
 use aql_block::{Block, Row, Tally};
@@ -56,7 +57,8 @@ pub trait Transform<W: Place> {
         ensures valid { OnOk result ((w : World) → valid self.old w → valid self.new w) }
         ensures closed { OnOk result (closed self.new ≡ false) }
         ensures held { OnOk result
-            ((w : World) → held self.new w ≤ held self.old w + 2 ^ 64 * length (rows_of block)) }
+            ((w : World) → held self.new w ≤ held self.old w
+            + charge_of (node self.old) * length (rows_of block)) }
         ensures left { OnOk result ((w : World) (rows : List meaning.Row) (r : Rest)
             → left self.new w rows r → left self.old w (rows_of block ++ rows) r) };
 

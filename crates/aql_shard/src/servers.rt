@@ -4,7 +4,7 @@ ghost use Rattle.std.specs.Io.BufRead.{Rests};
 ghost use Rattle.aql_value.specs.View.{datum_of};
 ghost use Rattle.aql_doc.specs.Declarations.{place_of};
 ghost use Rattle.aql_plan.specs.Fits.{IsShard};
-ghost use Rattle.aql_shard.specs.Held.{stock, nothing_counted, one_read, documents_read};
+ghost use Rattle.aql_shard.specs.Held.{stock, nothing_counted, one_read, more_found, documents_read};
 ghost use Rattle.aql_shard.specs.Known.{facts_of, shards_of};
 ghost use Rattle.aql_shard.specs.contracts.servers.Servers.{the_row};
 
@@ -93,6 +93,24 @@ impl Servers {
         ensures { result ≡ length (documents_read (stock self.now) coll.0 shard) }
     {
         self.catalog.count(coll)
+    }
+
+    /// What the servers hold, for a lookup to look through: nothing is counted here. It counts what
+    /// it finds by `count_found`.
+    pub fn catalog(&self) -> &Catalog
+        ensures { result.now ≡ self.now.held }
+    {
+        &self.catalog
+    }
+
+    /// Counts documents that a lookup found, both in the tally and in the servers' own counts.
+    pub fn count_found(&mut self, found: u64, tally: &mut Tally)
+        ensures tally { tally.new ≡ more_found found tally.old }
+        ensures counts { self.new ≡
+            record self.old { counts = more_found found self.old.counts } }
+    {
+        tally.add_indexed(found);
+        self.counts.add_indexed(found);
     }
 
     /// The document at a place of a collection, or of one shard of it. It is handed out and
