@@ -1,0 +1,13 @@
+pub mod Permuted
+pub mod Depth
+pub mod Moves
+pub mod Lefts
+pub mod Along
+pub mod Rooms
+pub mod Counted
+pub mod Going
+pub mod Fitting
+pub mod Numbers
+pub mod Arrivals
+pub mod Grown
+pub mod Choosing

@@ -1,0 +1,80 @@
+//! Rows, as expressions see them.
+
+ghost use Rattle.std.specs.Prelude.{◌≡◌, None, Some, IfOk, map, filter, option_to_list, length, ◌∷◌, [], ◌<◌, ◌^◌};
+ghost use Rattle.aql_meaning.specs.Plain.{MaybePlain};
+ghost use Rattle.aql_meaning.specs.AtRows.{passes, stops};
+ghost use Rattle.aql_plan.specs.View.{maybe_tree};
+ghost use Rattle.aql_block.specs.Rows.{row_of};
+ghost use Rattle.aql_exec_graph.specs.Searches.{Judged};
+
+use aql_block::{Row, Tally};
+use aql_expr::{RowView, eval};
+use aql_tree::Expr;
+use aql_value::{OutOfMemory, Value, truthy};
+use std::alloc::Global;
+
+// A row by itself.
+#[derive(Drop)]
+pub(crate) struct OwnRow<'a> {
+    pub(crate) row: &'a Row,
+}
+
+impl RowView for OwnRow<'_> {
+    ghost use Rattle.aql_exec.specs.BlockRows.{no_names};
+
+    ghost vars = { λ r. row_of r.row.now };
+
+    fn value(&self, var: u32) -> Option<&Value> {
+        self.row.value(var)
+    }
+
+    ghost numbered = { λ r name. no_names r.row.now name };
+}
+
+// Whether PRUNE stops a walk at a row; where there is none, it goes on.
+pub(crate) fn stops(alloc: Global, prune: &Option<Expr>, row: &Row) -> Result<bool, OutOfMemory>
+    requires { MaybePlain (maybe_tree prune.now) }
+    ensures { IfOk result (λ b. b ≡ stops (maybe_tree prune.now) (row_of row.now)) }
+{
+    match prune {
+        None => Ok(false),
+        Some(prune) => {
+            let value = eval(alloc, prune, &OwnRow { row })?;
+            Ok(truthy(&value))
+        }
+    }
+}
+
+// Whether the filter lets a row pass; where there is none, each row passes.
+fn passes(alloc: Global, filter: &Option<Expr>, row: &Row) -> Result<bool, OutOfMemory>
+    requires { MaybePlain (maybe_tree filter.now) }
+    ensures { IfOk result (λ b. b ≡ passes (maybe_tree filter.now) (row_of row.now)) }
+{
+    match filter {
+        None => Ok(true),
+        Some(filter) => {
+            let value = eval(alloc, filter, &OwnRow { row })?;
+            Ok(truthy(&value))
+        }
+    }
+}
+
+// The row, where the filter lets it pass; else it is counted as one that was dropped.
+pub(crate) fn judge(
+    alloc: Global,
+    filter: &Option<Expr>,
+    row: Row,
+    tally: &mut Tally,
+) -> Result<Option<Row>, OutOfMemory>
+    requires { MaybePlain (maybe_tree filter.now) }
+    ensures { IfOk result (λ kept.
+        Judged (maybe_tree filter.now) 0 (row_of row ∷ []) (map row_of (option_to_list kept))
+        tally.old tally.new) }
+{
+    let _filtered = tally.filtered;
+    if passes(alloc, filter, &row)? {
+        return Ok(Some(row));
+    }
+    tally.add_filtered(1);
+    Ok(None)
+}
