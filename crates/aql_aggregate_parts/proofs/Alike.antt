@@ -23,10 +23,10 @@ recover : (o : Option Datum) → slice_get (elements (at_most_one o)) 0 ≡ o
 recover None = refl
 recover (Some t) = refl
 
-same_option : (o p : Option Datum) → at_most_one o ≡ at_most_one p → o ≡ p
+pub same_option : (o p : Option Datum) → at_most_one o ≡ at_most_one p → o ≡ p
 same_option o p e = sym (recover o) ∙ ap (λ t. slice_get (elements t) 0) e ∙ recover p
 
-same_distinct : (us ts : List Datum) → list (distinct us) ≡ list (distinct ts) → distinct us ≡ distinct ts
+pub same_distinct : (us ts : List Datum) → list (distinct us) ≡ list (distinct ts) → distinct us ≡ distinct ts
 same_distinct us ts e = sym (datum_list-array_of (distinct us)) ∙ ap elements e
     ∙ datum_list-array_of (distinct ts)
 

@@ -54,7 +54,8 @@ pub(crate) fn at_most_one(alloc: Global, value: Value) -> Result<Value, OutOfMem
     Ok(Value::List(items))
 }
 
-fn is_null(value: &Value) -> bool
+/// Whether it is null.
+pub(crate) fn is_null(value: &Value) -> bool
     ensures { result ≡ aggregates.is_null (datum_of value.now) }
 {
     matches!(value, Value::Null)

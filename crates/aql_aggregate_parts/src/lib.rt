@@ -4,7 +4,11 @@
 mod accumulator;
 mod counting;
 mod elements;
+mod joining;
+mod staged;
 mod summing;
 
 pub use accumulator::PartAccumulator;
+pub use joining::{JoinedCounts, JoinedSums, StateAccumulator, WideSum};
+pub use staged::{StagedAccumulator, StagedKind};
 pub use summing::PartSum;

@@ -13,8 +13,8 @@ use crate::counting::{count_value, more, none_counted, one_more};
 use aql_value::{Items, OutOfMemory, Value, to_number, truthy};
 use std::alloc::Global;
 
-// A state tells a sum as a multiple of this and a rest.
-const HALF: i128 = 9_223_372_036_854_775_808;
+/// A state tells a sum as a multiple of this and a rest.
+pub(crate) const HALF: i128 = 9_223_372_036_854_775_808;
 
 /// What SUM keeps: how many members there were, whether one is neither null nor a number, and the
 /// sum of the numbers.
@@ -96,8 +96,8 @@ impl PartSum {
     }
 }
 
-// The number, or null where it is out of the range of numbers.
-fn in_64_bits(number: i128) -> Value
+/// The number, or null where it is out of the range of numbers.
+pub(crate) fn in_64_bits(number: i128) -> Value
     ensures { datum_of result ≡ number_or_null number }
 {
     match i64::try_from(number) {

@@ -8,31 +8,38 @@ use Rattle.aql_value.specs.View.{datum_of, datums_in}
 use Rattle.aql_value.specs.laws.Lists.{datum_list-array_of}
 use Rattle.aql_func.specs.Lists.{add}
 use Rattle.aql_tree.specs.declared.syntax.Let.{Let}
-use Rattle.aql_meaning.specs.Row.{Row}
+use Rattle.aql_meaning.specs.declared.grouping.Stage.{Stage}
+use Rattle.aql_meaning.specs.declared.grouping.Stage.TheVariants as stage
+use Rattle.aql_meaning.specs.Row.{Row, value_at}
 use Rattle.aql_meaning.specs.AtRows.{keys_of}
 use Rattle.aql_meaning.specs.Groups.{GroupedRow}
-use Rattle.aql_meaning.specs.Stages.{arguments_at, taken_at}
-use Rattle.aql_aggregate.specs.declared.kinds.AggregateKind.{AggregateKind}
-use Rattle.aql_exec_collect.specs.Told.{criteria_trees, aggregate_trees, into_of}
-use Rattle.aql_exec_collect.specs.Kept.{seen, members_of, AreGroups, Holds, Grows, Takes}
+use Rattle.aql_aggregate_parts.specs.declared.staged.StagedKind.{StagedKind}
+use Rattle.aql_exec_collect.specs.Told.{criteria_vars, criteria_trees, seen_by}
+use Rattle.aql_exec_collect.specs.Kept.{seen, key_of, members_of, AreGroups, Holds, Grows, Takes}
 use Rattle.aql_exec_collect.specs.laws.Members.{new_key}
 use Rattle.aql_exec_collect.specs.declared.grouping.Grouping.{Grouping}
 use Rattle.aql_exec_collect.specs.declared.group.Group.{Group}
 use Rattle.aql_exec_collect.specs.declared.groups.Groups.{Groups}
 use Rattle.aql_exec_collect.proofs.Seen.{keys_more, placed, one_row_more, member_more}
 
-module _ (g : Grouping) (kinds : List AggregateKind) (at : Row) (k : Datum)
-    (is : k ≡ list (keys_of (criteria_trees g.criteria) at)) (rows : List GroupedRow) (old mid : Groups)
+module _ (g : Grouping) (kinds : List StagedKind) (at : Row) (k : Datum)
+    (is : k ≡ key_of (seen g at)) (rows : List GroupedRow) (old mid : Groups)
     (h : Holds g kinds rows old) (keys : datums_in mid.keys.keys ≡ add true (datums_in old.keys.keys) k)
     (grows : Grows kinds (is_in (datums_in old.keys.keys) k) old.kept.items mid.kept.items) where
   listed : list (elements k) ≡ k
   listed = subst (λ k. list (elements k) ≡ k) (sym is)
-      (ap (λ ts. list ts) (datum_list-array_of (keys_of (criteria_trees g.criteria) at)))
+      (ap (λ ts. list ts) (datum_list-array_of (seen g at).criteria))
+
+  -- without criteria
+  bare : (s : Stage) (ls : List Let) → ls ≡ [] → key_of (seen_by s ls g.aggregates g.into at) ≡ list []
+  bare stage.Whole ls n = ap (λ (ls : List Let). list (keys_of (criteria_trees ls) at)) n
+  bare stage.Partial ls n = ap (λ (ls : List Let). list (keys_of (criteria_trees ls) at)) n
+  bare stage.Final ls n = ap (λ (ls : List Let). list (map (value_at at) (criteria_vars ls))) n
 
   unseen : is_in (datums_in old.keys.keys) k ≡ false
       → members_of k rows ≡ []
   unseen e = new_key g.criteria rows k
-      (λ n. is ∙ ap (λ (ls : List Let). list (keys_of (criteria_trees ls) at)) n)
+      (λ n. is ∙ bare g.stage g.criteria n)
       (ap (λ ks. is_in ks k) (sym h.keys) ∙ e)
 
   pub placed_groups : AreGroups kinds g.into rows (datums_in mid.keys.keys) mid.kept.items
@@ -43,8 +50,8 @@ module _ (g : Grouping) (kinds : List AggregateKind) (at : Row) (k : Datum)
   pub row_added : (new : Groups) (i : ℕ) (v : Option Value) (g' : Group) (arguments : List Datum)
       → slice_get (datums_in mid.keys.keys) i ≡ Some k → new.keys ≡ mid.keys
       → new.kept.items ≡ set mid.kept.items i g'
-      → arguments ≡ arguments_at (aggregate_trees g.aggregates) at
-      → option_map datum_of v ≡ option_map (λ _. taken_at (into_of g.into) at) g.into
+      → arguments ≡ (seen g at).arguments
+      → option_map datum_of v ≡ option_map (λ _. (seen g at).into_value) g.into
       → Takes arguments (map datum_of (option_to_list v)) (get_or mid.kept.items i g') g'
       → Holds g kinds (rows ++ seen g at ∷ []) new
   row_added new i v g' arguments place same kept args taken takes =
@@ -57,7 +64,7 @@ module _ (g : Grouping) (kinds : List AggregateKind) (at : Row) (k : Datum)
       (λ ms m. member_more kinds g.into ms row v (get_or mid.kept.items i g') g' taken takes' m) in
       record {
         keys = keys_same ∙ keys ∙ ap (λ ks. add true ks k) h.keys
-            ∙ ap (add true _) is ∙ sym (keys_more g.criteria rows row at refl);
+            ∙ ap (add true _) is ∙ sym (keys_more g.criteria rows row (bare g.stage g.criteria));
         groups = subst (λ ks. AreGroups kinds g.into (rows ++ row ∷ []) ks new.kept.items) (sym keys_same)
             (subst (AreGroups kinds g.into (rows ++ row ∷ []) (datums_in mid.keys.keys)) (sym kept) groups);
       }

@@ -14,7 +14,6 @@ use Rattle.aql_value.specs.Datum.{Datum, null}
 use Rattle.aql_value.specs.Parts.{list, elements, is_below}
 use Rattle.aql_value.specs.Compare.{compare}
 use Rattle.aql_value.specs.View.{datum_of, datums_in}
-use Rattle.aql_func.specs.Aggregates.{Aggregate, aggregate, aggregate_named}
 use Rattle.aql_func.specs.Lists.{among, sort_values}
 use Rattle.aql_func.proofs.Ascending.{sorted_is}
 use Rattle.aql_tree.specs.declared.syntax.Ident.{Ident}
@@ -25,10 +24,10 @@ use Rattle.aql_tree.specs.View.{AggregatePart, aggregates, aggregate_part}
 use Rattle.aql_meaning.specs.Row.{Row, bind, bind_all}
 use Rattle.aql_meaning.specs.Groups as meaning
 use Rattle.aql_meaning.specs.Groups.{GroupedRow, groups, rows_of_group, aggregate_values, WithInto}
-use Rattle.aql_meaning.specs.Visible.{aggregate_vars, into_var, functions_by, aggregate_functions}
+use Rattle.aql_meaning.specs.Visible.{aggregate_vars, into_var}
+use Rattle.aql_meaning.specs.Stages.{stage_functions}
 use Rattle.aql_block.specs.Rows.{row_of}
-use Rattle.aql_aggregate.specs.declared.kinds.AggregateKind.{AggregateKind}
-use Rattle.aql_aggregate.specs.View.{aggregate_of}
+use Rattle.aql_aggregate_parts.specs.declared.staged.StagedKind.{StagedKind}
 use Rattle.aql_exec_collect.specs.Told.{criteria_vars, aggregate_trees, into_of, AreKinds}
 use Rattle.aql_exec_collect.specs.Kept.{IsGroup, result_of_members, taken_of, members_of, keys_seen, AreGroups, Holds, Result, finished_of, finished_in, functions_of, result_of, key_of}
 use Rattle.aql_exec_collect.specs.Framed.{numbered, with_taken, framed, IsFrame}
@@ -59,7 +58,7 @@ listed_in_order : (keys : List Datum) → Listed keys → Listed (sort_values ke
 listed_in_order [] ls = tt
 listed_in_order (key ∷ keys) ls = listed_among key ls.0 (sort_values keys) (listed_in_order keys ls.1)
 
-all_listed : (kinds : List AggregateKind) (into : Option Into) (rows : List GroupedRow) (keys : List Datum)
+all_listed : (kinds : List StagedKind) (into : Option Into) (rows : List GroupedRow) (keys : List Datum)
     (gs : List Group) → AreGroups kinds into rows keys gs → Listed keys
 all_listed kinds into rows [] [] a = tt
 all_listed kinds into rows [] (g ∷ gs) a = absurd a
@@ -90,12 +89,12 @@ with_into (Some i) (Some n) members row e = (
   ap (λ x. bind x row (list (map (λ (from : GroupedRow). from.into_value) members))) (ap some_in e),
 )
 
-module _ (g : Grouping) (kinds : List AggregateKind) (rows : List GroupedRow) (frame : Frame)
-    (is : IsFrame g frame) (known : AreKinds g.aggregates kinds) where
+module _ (g : Grouping) (kinds : List StagedKind) (rows : List GroupedRow) (frame : Frame)
+    (is : IsFrame g frame) (known : AreKinds g.stage g.aggregates kinds) where
   abbrev RowOf : List Datum → Row → Type 0
   RowOf criteria row = WithInto (into_var (into_of g.into)) (rows_of_group criteria rows)
       (meaning.group_row (criteria_vars g.criteria) (aggregate_vars (aggregate_trees g.aggregates))
-      (aggregate_functions (aggregate_trees g.aggregates)) (row_of frame.start) rows criteria) row
+      (stage_functions g.stage (aggregate_trees g.aggregates)) (row_of frame.start) rows criteria) row
 
   row_of_key : (key : Datum) → list (elements key) ≡ key
       → RowOf (elements key) (framed frame (result_of g.into kinds rows key))
@@ -103,9 +102,9 @@ module _ (g : Grouping) (kinds : List AggregateKind) (rows : List GroupedRow) (f
       let members = rows_of_group (elements key) rows in
       let same : members ≡ members_of key rows = ap (λ k. members_of k rows) l in
       let row = meaning.group_row (criteria_vars g.criteria) (aggregate_vars (aggregate_trees g.aggregates))
-      (aggregate_functions (aggregate_trees g.aggregates)) (row_of frame.start) rows (elements key) in
+      (stage_functions g.stage (aggregate_trees g.aggregates)) (row_of frame.start) rows (elements key) in
       let values : aggregate_values (functions_of kinds) 0 (members_of key rows)
-      ≡ aggregate_values (aggregate_functions (aggregate_trees g.aggregates)) 0 members =
+      ≡ aggregate_values (stage_functions g.stage (aggregate_trees g.aggregates)) 0 members =
       ap₂ (λ fs ms. aggregate_values fs 0 ms) (sym (functions_are g kinds known)) (sym same) in
       let inner : bind_all (numbered frame.criteria.items) (elements key) (row_of frame.start)
       ≡ bind_all (criteria_vars g.criteria) (elements key) (row_of frame.start) =
@@ -193,10 +192,10 @@ module _ (of : Datum → Result) (own : (key : Datum) → (of key).criteria ≡ 
 -- ---- one group after another
 
 -- the first of the groups that are left is finished
-pub one_finished : (kinds : List AggregateKind) (into : Option Into) (rows : List GroupedRow) (key : Datum)
+pub one_finished : (kinds : List StagedKind) (into : Option Into) (rows : List GroupedRow) (key : Datum)
     (keys keys' : List Datum) (g : Group) (gs kept : List Group) (all all' : List Finished) (f : Finished)
     (total : List Result) → keys' ≡ key ∷ keys → kept ≡ gs ++ g ∷ [] → all' ≡ all ++ f ∷ []
-    → ((kinds : List AggregateKind) (members : List GroupedRow) (taken : List Datum)
+    → ((kinds : List StagedKind) (members : List GroupedRow) (taken : List Datum)
     → IsGroup kinds members taken g → finished_of f ≡ result_of_members kinds key members taken)
     → AreGroups kinds into rows keys' (reverse kept)
     × (finished_in all ++ map (result_of into kinds rows) keys' ≡ total)

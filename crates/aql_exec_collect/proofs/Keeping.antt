@@ -6,12 +6,10 @@ use Rattle.aql_value.specs.declared.values.Value.{Value}
 use Rattle.aql_value.specs.Datum.{Datum}
 use Rattle.aql_value.specs.View.{datum_of, datums_in}
 use Rattle.aql_func.specs.Arguments.{argument}
-use Rattle.aql_func.specs.Aggregates.{Aggregate, aggregate}
 use Rattle.aql_meaning.specs.Groups.{GroupedRow, aggregate_values}
-use Rattle.aql_aggregate.specs.declared.kinds.AggregateKind.{AggregateKind}
-use Rattle.aql_aggregate.specs.declared.accumulator.Accumulator.{Accumulator}
-use Rattle.aql_aggregate.specs.View.{aggregate_of}
-use Rattle.aql_aggregate.specs.States.{Keeps}
+use Rattle.aql_aggregate_parts.specs.declared.staged.StagedKind.{StagedKind}
+use Rattle.aql_aggregate_parts.specs.declared.staged.StagedAccumulator.{StagedAccumulator}
+use Rattle.aql_aggregate_parts.specs.Staged.{Staged, staged, made, KeepsIn}
 use Rattle.aql_exec_collect.specs.Kept.{KeptAt, AreKept, arguments_of, functions_of}
 
 -- ---- one more accumulator
@@ -28,47 +26,47 @@ found_push (z ∷ zs) x y (suc n) e = by (found_push zs x y n e)
     by (inl e) = inl e
     by (inr e) = inr (ap suc e.0, e.1)
 
-kept_longer : (accs more : List Accumulator) (n : ℕ) (kind : Aggregate) (ts : List Datum)
+kept_longer : (accs more : List StagedAccumulator) (n : ℕ) (kind : Staged) (ts : List Datum)
     → KeptAt accs n kind ts → KeptAt (accs ++ more) n kind ts
 kept_longer [] more n kind ts h = absurd h
 kept_longer (a ∷ accs) more zero kind ts h = h
 kept_longer (a ∷ accs) more (suc n) kind ts h = kept_longer accs more n kind ts h
 
-kept_last : (accs : List Accumulator) (a : Accumulator) (kind : Aggregate) (ts : List Datum) → Keeps a kind ts
-    → KeptAt (accs ++ a ∷ []) (length accs) kind ts
+kept_last : (accs : List StagedAccumulator) (a : StagedAccumulator) (kind : Staged) (ts : List Datum)
+    → KeepsIn a kind ts → KeptAt (accs ++ a ∷ []) (length accs) kind ts
 kept_last [] a kind ts h = h
 kept_last (b ∷ accs) a kind ts h = kept_last accs a kind ts h
 
-pub kept_push : (kinds : List AggregateKind) (accs : List Accumulator) (k : AggregateKind) (a : Accumulator)
-    → length accs ≡ length kinds → Keeps a (aggregate_of k) [] → AreKept kinds accs []
+pub kept_push : (kinds : List StagedKind) (accs : List StagedAccumulator) (k : StagedKind)
+    (a : StagedAccumulator) → length accs ≡ length kinds → KeepsIn a (staged k) [] → AreKept kinds accs []
     → AreKept (kinds ++ k ∷ []) (accs ++ a ∷ []) []
 kept_push kinds accs k a l h kept n kind e = by (found_push kinds k kind n e)
   where
     by : (slice_get kinds n ≡ Some kind) ⊎ ((n ≡ length kinds) × (kind ≡ k))
-        → KeptAt (accs ++ a ∷ []) n (aggregate_of kind) []
-    by (inl e) = kept_longer accs (a ∷ []) n (aggregate_of kind) [] (kept n kind e)
-    by (inr e) = subst (λ n. KeptAt (accs ++ a ∷ []) n (aggregate_of kind) []) (l ∙ sym e.0)
-        (subst (λ k. KeptAt (accs ++ a ∷ []) (length accs) (aggregate_of k) []) (sym e.1)
-        (kept_last accs a (aggregate_of k) [] h))
+        → KeptAt (accs ++ a ∷ []) n (staged kind) []
+    by (inl e) = kept_longer accs (a ∷ []) n (staged kind) [] (kept n kind e)
+    by (inr e) = subst (λ n. KeptAt (accs ++ a ∷ []) n (staged kind) []) (l ∙ sym e.0)
+        (subst (λ k. KeptAt (accs ++ a ∷ []) (length accs) (staged k) []) (sym e.1)
+        (kept_last accs a (staged k) [] h))
 
-pub none_kept : (accs : List Accumulator) → AreKept [] accs []
+pub none_kept : (accs : List StagedAccumulator) → AreKept [] accs []
 none_kept accs n kind e = absurd (cc)
 
 -- ---- one member more
 
-kept_here : (accs : List Accumulator) (i : ℕ) (a : Accumulator) (kind : Aggregate) (ts : List Datum)
-    → a ≡ get_or accs i a → KeptAt accs i kind ts → Keeps a kind ts
+kept_here : (accs : List StagedAccumulator) (i : ℕ) (a : StagedAccumulator) (kind : Staged) (ts : List Datum)
+    → a ≡ get_or accs i a → KeptAt accs i kind ts → KeepsIn a kind ts
 kept_here [] i a kind ts e h = absurd h
-kept_here (b ∷ accs) zero a kind ts e h = subst (λ a. Keeps a kind ts) (sym e) h
+kept_here (b ∷ accs) zero a kind ts e h = subst (λ a. KeepsIn a kind ts) (sym e) h
 kept_here (b ∷ accs) (suc i) a kind ts e h = kept_here accs i a kind ts e h
 
-set_here : (accs : List Accumulator) (i : ℕ) (a : Accumulator) (kind : Aggregate) (ts : List Datum)
-    → i < length accs → Keeps a kind ts → KeptAt (set accs i a) i kind ts
+set_here : (accs : List StagedAccumulator) (i : ℕ) (a : StagedAccumulator) (kind : Staged) (ts : List Datum)
+    → i < length accs → KeepsIn a kind ts → KeptAt (set accs i a) i kind ts
 set_here [] i a kind ts l h = absurd (omega (arith, l))
 set_here (b ∷ accs) zero a kind ts l h = h
 set_here (b ∷ accs) (suc i) a kind ts l h = set_here accs i a kind ts (omega (arith, l)) h
 
-set_beside : (accs : List Accumulator) (i n : ℕ) (a : Accumulator) (kind : Aggregate) (ts : List Datum)
+set_beside : (accs : List StagedAccumulator) (i n : ℕ) (a : StagedAccumulator) (kind : Staged) (ts : List Datum)
     → (n ≡ i → ⊥) → KeptAt accs n kind ts → KeptAt (set accs i a) n kind ts
 set_beside [] i n a kind ts d h = absurd h
 set_beside (b ∷ accs) zero zero a kind ts d h = absurd (d refl)
@@ -91,11 +89,11 @@ same_or_not (suc n) (suc i) = by (same_or_not n i)
 abbrev pub with_first : ℕ → List Datum → ℕ → List Datum → List Datum
 with_first i vs n ts = cond (nat_lt n i) (ts ++ argument vs n ∷ []) ts
 
-abbrev pub Taking : ℕ → List Datum → List Accumulator → List Accumulator → Type 0
-Taking i vs before accs = (n : ℕ) (kind : Aggregate) (ts : List Datum) → KeptAt before n kind ts
+abbrev pub Taking : ℕ → List Datum → List StagedAccumulator → List StagedAccumulator → Type 0
+Taking i vs before accs = (n : ℕ) (kind : Staged) (ts : List Datum) → KeptAt before n kind ts
     → KeptAt accs n kind (with_first i vs n ts)
 
-pub none_taking : (vs : List Datum) (accs : List Accumulator) → Taking 0 vs accs accs
+pub none_taking : (vs : List Datum) (accs : List StagedAccumulator) → Taking 0 vs accs accs
 none_taking vs accs n kind ts h =
     let e : nat_lt n 0 ≡ false = grind arith in
     subst (λ b. KeptAt accs n kind (cond b (ts ++ argument vs n ∷ []) ts)) (sym e) h
@@ -107,9 +105,9 @@ further n i d = by (nat_lt n i) refl
     by true e = grind (arith, e)
     by false e = grind (arith, e, d)
 
-pub one_taking : (vs : List Datum) (before accs : List Accumulator) (i : ℕ) (a a' : Accumulator)
+pub one_taking : (vs : List Datum) (before accs : List StagedAccumulator) (i : ℕ) (a a' : StagedAccumulator)
     → a ≡ get_or accs i a → i < length accs
-    → ((kind : Aggregate) (ts : List Datum) → Keeps a kind ts → Keeps a' kind (ts ++ argument vs i ∷ []))
+    → ((kind : Staged) (ts : List Datum) → KeepsIn a kind ts → KeepsIn a' kind (ts ++ argument vs i ∷ []))
     → Taking i vs before accs → Taking (i + 1) vs before (set accs i a')
 one_taking vs before accs i a a' e l add taking n kind ts h = by (same_or_not n i)
   where
@@ -129,14 +127,14 @@ one_taking vs before accs i a a' e l add taking n kind ts h = by (same_or_not n 
         subst (λ b. KeptAt (set accs i a') n kind (cond b (ts ++ argument vs n ∷ []) ts)) (sym q)
         (set_beside accs i n a' kind (with_first i vs n ts) d (taking n kind ts h))
 
-kept_within : (accs : List Accumulator) (n : ℕ) (kind : Aggregate) (ts : List Datum) → KeptAt accs n kind ts
+kept_within : (accs : List StagedAccumulator) (n : ℕ) (kind : Staged) (ts : List Datum) → KeptAt accs n kind ts
     → n < length accs
 kept_within [] n kind ts h = absurd h
 kept_within (a ∷ accs) zero kind ts h = omega arith
 kept_within (a ∷ accs) (suc n) kind ts h = (let l = kept_within accs n kind ts h in omega (arith, l))
 
-pub all_taking : (vs : List Datum) (before accs : List Accumulator) (i : ℕ) → length before ≡ i
-    → Taking i vs before accs → (n : ℕ) (kind : Aggregate) (ts : List Datum) → KeptAt before n kind ts
+pub all_taking : (vs : List Datum) (before accs : List StagedAccumulator) (i : ℕ) → length before ≡ i
+    → Taking i vs before accs → (n : ℕ) (kind : Staged) (ts : List Datum) → KeptAt before n kind ts
     → KeptAt accs n kind (ts ++ argument vs n ∷ [])
 all_taking vs before accs i l taking n kind ts h =
     let w = kept_within before n kind ts h in
@@ -146,12 +144,12 @@ all_taking vs before accs i l taking n kind ts h =
 -- ---- values
 
 -- with the values of the aggregates that are left the values so far are all
-abbrev pub Values : List Datum → List AggregateKind → List GroupedRow → Type 0
+abbrev pub Values : List Datum → List StagedKind → List GroupedRow → Type 0
 Values values kinds members =
     values ++ aggregate_values (functions_of (drop (length values) kinds)) (length values) members
     ≡ aggregate_values (functions_of kinds) 0 members
 
-pub no_values : (kinds : List AggregateKind) (members : List GroupedRow) → Values [] kinds members
+pub no_values : (kinds : List StagedKind) (members : List GroupedRow) → Values [] kinds members
 no_values kinds members = refl
 
 first_left : {X : Type 0} (xs : List X) (k : ℕ) (x : X) (rest : List X) → drop k xs ≡ x ∷ rest
@@ -165,14 +163,14 @@ first_left (y ∷ ys) (suc k) x rest e =
 none_left : {X : Type 0} (xs : List X) (k : ℕ) → drop k xs ≡ [] → length xs ≤ k
 none_left xs k e = (let n = length-drop k xs in let m = ap length e in omega (arith, n, m))
 
-pub value_more : (all : List Accumulator) (values : List Datum) (a : Accumulator) (v : Datum)
-    (left : List Accumulator) → drop (length values) all ≡ a ∷ left
-    → ((kind : Aggregate) (ts : List Datum) → Keeps a kind ts → v ≡ aggregate kind ts)
-    → (kinds : List AggregateKind) (members : List GroupedRow) → AreKept kinds all members
+pub value_more : (all : List StagedAccumulator) (values : List Datum) (a : StagedAccumulator) (v : Datum)
+    (left : List StagedAccumulator) → drop (length values) all ≡ a ∷ left
+    → ((kind : Staged) (ts : List Datum) → KeepsIn a kind ts → v ≡ made kind ts)
+    → (kinds : List StagedKind) (members : List GroupedRow) → AreKept kinds all members
     → length all ≡ length kinds → Values values kinds members → Values (values ++ v ∷ []) kinds members
 value_more all values a v left e f kinds members kept l h = by (drop (length values) kinds) refl
   where
-    by : (ks : List AggregateKind) → drop (length values) kinds ≡ ks → Values (values ++ v ∷ []) kinds members
+    by : (ks : List StagedKind) → drop (length values) kinds ≡ ks → Values (values ++ v ∷ []) kinds members
     by [] p =
         let n = none_left kinds (length values) p in
         let m = (first_left all (length values) a left e).2 in
@@ -181,10 +179,10 @@ value_more all values a v left e f kinds members kept l h = by (drop (length val
         let k = length values in
         let all_at = first_left all k a left e in
         let kinds_at = first_left kinds k kind ks p in
-        let keeps : Keeps a (aggregate_of kind) (arguments_of k members) =
-        subst (λ o. MatchOption o ⊥ (λ a. Keeps a (aggregate_of kind) (arguments_of k members))) all_at.0
+        let keeps : KeepsIn a (staged kind) (arguments_of k members) =
+        subst (λ o. MatchOption o ⊥ (λ a. KeepsIn a (staged kind) (arguments_of k members))) all_at.0
         (kept k kind kinds_at.0) in
-        let is = f (aggregate_of kind) (arguments_of k members) keeps in
+        let is = f (staged kind) (arguments_of k members) keeps in
         let longer : length (values ++ v ∷ []) ≡ suc k = length-append values (v ∷ []) ∙ add-one k in
         let one : aggregate_values (functions_of (drop k kinds)) k members
         ≡ v ∷ aggregate_values (functions_of ks) (k + 1) members =
@@ -196,7 +194,7 @@ value_more all values a v left e f kinds members kept l h = by (drop (length val
         ∙ append_assoc values (v ∷ []) (aggregate_values (functions_of ks) (k + 1) members)
         ∙ ap (λ vs. values ++ vs) (sym one) ∙ h
 
-pub values_done : (all : List Accumulator) (values : List Datum) (kinds : List AggregateKind)
+pub values_done : (all : List StagedAccumulator) (values : List Datum) (kinds : List StagedKind)
     (members : List GroupedRow) → drop (length values) all ≡ [] → length all ≡ length kinds
     → Values values kinds members → values ≡ aggregate_values (functions_of kinds) 0 members
 values_done all values kinds members e l h =
@@ -207,8 +205,8 @@ values_done all values kinds members e l h =
     ∙ sym (ap (λ ks. values ++ aggregate_values (functions_of ks) (length values) members) none) ∙ h
 
 -- one accumulator less is left
-pub next_left : (all : List Accumulator) (values : List Datum) (a : Accumulator) (v : Datum)
-    (left : List Accumulator) → drop (length values) all ≡ a ∷ left
+pub next_left : (all : List StagedAccumulator) (values : List Datum) (a : StagedAccumulator) (v : Datum)
+    (left : List StagedAccumulator) → drop (length values) all ≡ a ∷ left
     → drop (length (values ++ v ∷ [])) all ≡ left
 next_left all values a v left e =
     ap (λ n. drop n all) (length-append values (v ∷ []) ∙ add-one (length values))

@@ -12,16 +12,18 @@ use Rattle.aql_tree.specs.declared.syntax.AggregateItem.{AggregateItem, the_lemm
 use Rattle.aql_tree.specs.declared.syntax.Into.{Into, the_lemmas as into_lemmas}
 use Rattle.aql_tree.specs.Tree.{MaybeExpr, no_expr, one_expr, expr_then, aggregate_then, AggregateTrees}
 use Rattle.aql_tree.specs.View.{tree, LetPart, AggregatePart, IntoPart, let_part, aggregate_part, into_part, maybe, aggregates}
-use Rattle.aql_meaning.specs.Row.{Row}
+use Rattle.aql_meaning.specs.declared.grouping.Stage.{Stage}
+use Rattle.aql_meaning.specs.declared.grouping.Stage.TheVariants as stage
+use Rattle.aql_meaning.specs.Row.{Row, value_at}
 use Rattle.aql_meaning.specs.Plain.{MaybePlain}
 use Rattle.aql_meaning.specs.Numbered.{IsNumber}
 use Rattle.aql_meaning.specs.Stages.{arguments_at}
 use Rattle.aql_meaning.specs.Visible.{aggregate_vars}
 use Rattle.aql_plan.specs.Fits.{HasArgument}
 use Rattle.aql_plan.specs.View.{maybe_tree}
-use Rattle.aql_aggregate.specs.declared.kinds.AggregateKind.{AggregateKind}
-use Rattle.aql_aggregate.specs.View.{aggregate_of}
-use Rattle.aql_exec_collect.specs.Told.{is_number, criteria_vars, criteria_trees, aggregate_trees, AreKinds}
+use Rattle.aql_aggregate_parts.specs.declared.staged.StagedKind.{StagedKind}
+use Rattle.aql_aggregate_parts.specs.Staged.{Staged, staged}
+use Rattle.aql_exec_collect.specs.Told.{is_number, criteria_vars, criteria_trees, aggregate_trees, in_stage, seen_by, AreKinds}
 
 -- the item at a place, with those after it
 pub here : {X : Type 0} (xs : List X) (i : ℕ) (x : X) → x ≡ get_or xs i x → i < length xs
@@ -54,13 +56,13 @@ aggregates_here gs i x e l = ap aggregate_trees (here gs i x e l)
     ∙ ap (λ (p : AggregatePart). aggregate_then p.0 p.1 (maybe p.2) (aggregate_trees (drop (i + 1) gs)))
     (aggregate_is x)
 
-abbrev pub named : List AggregateItem → List (Option Aggregate)
-named gs = map (λ (g : AggregatePart). aggregate_named g.1) (map aggregate_part gs)
+abbrev pub named : Stage → List AggregateItem → List (Option Staged)
+named s gs = map (λ (g : AggregatePart). in_stage s (aggregate_named g.1)) (map aggregate_part gs)
 
-pub named_here : (gs : List AggregateItem) (i : ℕ) (x : AggregateItem) → x ≡ get_or gs i x → i < length gs
-    → named (drop i gs) ≡ aggregate_named x.name ∷ named (drop (i + 1) gs)
-named_here gs i x e l = ap named (here gs i x e l)
-    ∙ ap (λ (p : AggregatePart). aggregate_named p.1 ∷ named (drop (i + 1) gs)) (aggregate_is x)
+pub named_here : (s : Stage) (gs : List AggregateItem) (i : ℕ) (x : AggregateItem) → x ≡ get_or gs i x
+    → i < length gs → named s (drop i gs) ≡ in_stage s (aggregate_named x.name) ∷ named s (drop (i + 1) gs)
+named_here s gs i x e l = ap (named s) (here gs i x e l)
+    ∙ ap (λ (p : AggregatePart). in_stage s (aggregate_named p.1) ∷ named s (drop (i + 1) gs)) (aggregate_is x)
 
 -- one more at the end of a list, whose others come after it
 pub one_more_of : {X : Type 0} (done done' left left' all : List X) (x : X) → left ≡ x ∷ left'
@@ -89,11 +91,22 @@ as_many_arguments : (gs : List AggregatePart) (row : Row)
 as_many_arguments [] row = refl
 as_many_arguments (g ∷ gs) row = ap suc (as_many_arguments gs row)
 
-pub as_many_kinds : (gs : List AggregateItem) (kinds : List AggregateKind) (row : Row) → AreKinds gs kinds
-    → length (arguments_at (aggregate_trees gs) row) ≡ length kinds
-as_many_kinds gs kinds row e = as_many_arguments (map aggregate_part gs) row
-    ∙ sym (length-map (map aggregate_part gs) (λ (g : AggregatePart). aggregate_named g.1)) ∙ sym (ap length e)
-    ∙ length-map kinds (λ k. Some (aggregate_of k))
+as_many_found : (gs : List AggregatePart) (row : Row)
+    → length (map (value_at row) (aggregate_vars (aggregates gs))) ≡ length gs
+as_many_found [] row = refl
+as_many_found (g ∷ gs) row = ap suc (as_many_found gs row)
+
+pub as_many_kinds : (s : Stage) (ls : List Let) (gs : List AggregateItem) (i : Option Into)
+    (kinds : List StagedKind) (row : Row) → AreKinds s gs kinds
+    → length (seen_by s ls gs i row).arguments ≡ length kinds
+as_many_kinds s ls gs i kinds row e = by s
+    ∙ sym (length-map (map aggregate_part gs) (λ (g : AggregatePart). in_stage s (aggregate_named g.1)))
+    ∙ sym (ap length e) ∙ length-map kinds (λ k. Some (staged k))
+  where
+    by : (s : Stage) → length (seen_by s ls gs i row).arguments ≡ length (map aggregate_part gs)
+    by stage.Whole = as_many_arguments (map aggregate_part gs) row
+    by stage.Partial = as_many_arguments (map aggregate_part gs) row
+    by stage.Final = as_many_found (map aggregate_part gs) row
 
 -- numbers from 1 on are numbers
 pub numbers_all : (xs : List Ident) → AllByRecursion IsNumber xs → list_all is_number xs ≡ true

@@ -10,18 +10,15 @@ use Rattle.aql_value.specs.Parts.{list, elements, same, is_in}
 use Rattle.aql_value.specs.declared.values.Value.{Value}
 use Rattle.aql_value.specs.View.{datum_of, datums_in}
 use Rattle.aql_func.specs.Arguments.{argument}
-use Rattle.aql_func.specs.Aggregates.{Aggregate}
 use Rattle.aql_func.specs.Lists.{firsts}
 use Rattle.aql_func.proofs.Firsts.{firsts_push, noted, in_firsts, same_flip, same_is}
 use Rattle.aql_tree.specs.declared.syntax.Let.{Let}
 use Rattle.aql_tree.specs.declared.syntax.Into.{Into}
-use Rattle.aql_meaning.specs.Row.{Row}
-use Rattle.aql_meaning.specs.AtRows.{keys_of}
 use Rattle.aql_meaning.specs.Groups.{GroupedRow}
-use Rattle.aql_aggregate.specs.declared.kinds.AggregateKind.{AggregateKind}
-use Rattle.aql_aggregate.specs.declared.accumulator.Accumulator.{Accumulator}
-use Rattle.aql_aggregate.specs.View.{aggregate_of}
-use Rattle.aql_exec_collect.specs.Told.{criteria_vars, criteria_trees}
+use Rattle.aql_aggregate_parts.specs.declared.staged.StagedKind.{StagedKind}
+use Rattle.aql_aggregate_parts.specs.declared.staged.StagedAccumulator.{StagedAccumulator}
+use Rattle.aql_aggregate_parts.specs.Staged.{Staged, staged}
+use Rattle.aql_exec_collect.specs.Told.{criteria_vars}
 use Rattle.aql_exec_collect.specs.Kept.{KeptAt, AreKept, arguments_of, taken_of, IsGroup, key_of, members_of, keys_seen, AreGroups, Grows, Takes}
 use Rattle.aql_exec_collect.specs.laws.Members.{same_self, either_false}
 use Rattle.aql_exec_collect.specs.declared.group.Group.{Group}
@@ -32,11 +29,10 @@ value_in o = unwrap_or o null
 -- ---- keys
 
 -- the keys with that of a row more
-pub keys_more : (ls : List Let) (rows : List GroupedRow) (row : GroupedRow) (at : Row)
-    → row.criteria ≡ keys_of (criteria_trees ls) at
+pub keys_more : (ls : List Let) (rows : List GroupedRow) (row : GroupedRow) → (ls ≡ [] → key_of row ≡ list [])
     → keys_seen (criteria_vars ls) (rows ++ row ∷ []) ≡ noted (keys_seen (criteria_vars ls) rows) (key_of row)
-keys_more [] rows row at e = sym (ap (λ c. noted (list [] ∷ []) (list c)) e)
-keys_more (l ∷ ls) rows row at e =
+keys_more [] rows row e = sym (ap (λ key. noted (list [] ∷ []) key) (e refl))
+keys_more (l ∷ ls) rows row e =
     ap firsts (map-append key_of rows (row ∷ [])) ∙ firsts_push (map key_of rows) (key_of row)
 
 -- ---- members
@@ -58,7 +54,7 @@ same_members key rows row e =
 
 -- ---- groups
 
-module _ (kinds : List AggregateKind) (into : Option Into) where
+module _ (kinds : List StagedKind) (into : Option Into) where
   -- the groups of other keys stay
   others_keep : (rows : List GroupedRow) (row : GroupedRow) (keys : List Datum) (gs : List Group)
       → is_in keys (key_of row) ≡ false → AreGroups kinds into rows keys gs
@@ -170,19 +166,19 @@ taken_more (Some i) ms row v e =
     ap (λ ts. map (λ (row : GroupedRow). row.into_value) ms ++ ts) (listed v ∙ ap option_to_list e)
     ∙ sym (map-append (λ (row : GroupedRow). row.into_value) ms (row ∷ []))
 
-pub member_more : (kinds : List AggregateKind) (into : Option Into) (ms : List GroupedRow) (row : GroupedRow)
+pub member_more : (kinds : List StagedKind) (into : Option Into) (ms : List GroupedRow) (row : GroupedRow)
     (v : Option Value) (g g' : Group) → option_map datum_of v ≡ option_map (λ _. row.into_value) into
     → Takes row.arguments (map datum_of (option_to_list v)) g g' → IsGroup kinds ms (taken_of into ms) g
     → IsGroup kinds (ms ++ row ∷ []) (taken_of into (ms ++ row ∷ [])) g'
 member_more kinds into ms row v g g' e t h = record {
   count = t.count ∙ h.count;
-  kept = λ n kind s. subst (KeptAt g'.accumulators.items n (aggregate_of kind))
+  kept = λ n kind s. subst (KeptAt g'.accumulators.items n (staged kind))
       (sym (map-append (λ (row : GroupedRow). argument row.arguments n) ms (row ∷ [])))
-      (t.kept n (aggregate_of kind) (arguments_of n ms) (h.kept n kind s));
+      (t.kept n (staged kind) (arguments_of n ms) (h.kept n kind s));
   taken_is = t.taken_is ∙ ap (λ ts. ts ++ map datum_of (option_to_list v)) h.taken_is ∙ taken_more into ms row v e;
 }
 
-pub grows_by : (kinds : List AggregateKind) (b : Bool) (gs gs' : List Group) → Grows kinds b gs gs'
+pub grows_by : (kinds : List StagedKind) (b : Bool) (gs gs' : List Group) → Grows kinds b gs gs'
     → length gs' ≤ length gs + 1
 grows_by kinds true gs gs' h = (let e = ap length h in omega (arith, e))
 grows_by kinds false gs gs' h =

@@ -13,7 +13,7 @@ use Rattle.aql_exec.specs.Steps.{Led, given}
 use Rattle.aql_exec.specs.Counting.{nothing}
 use Rattle.aql_exec.proofs.Handing.{same_rows, same_counts}
 use Rattle.aql_exec.proofs.Telling.{led_none}
-use Rattle.aql_aggregate.specs.declared.kinds.AggregateKind.{AggregateKind}
+use Rattle.aql_aggregate_parts.specs.declared.staged.StagedKind.{StagedKind}
 use Rattle.aql_exec_collect.specs.Told.{AreKinds}
 use Rattle.aql_exec_collect.specs.Kept.{seen, Holds, Result, finished_of, finished_in, result_of}
 use Rattle.aql_exec_collect.specs.Framed.{framed, IsFrame}
@@ -28,7 +28,7 @@ use Rattle.aql_exec_collect.proofs.Finishing.{all_collected}
 none_owed : (s : List Row) (i' i : Rest) → length s ≡ 0 → i' ≡ with_rows s i → i' ≡ i
 none_owed s i' i l e = e ∙ ap (λ z. with_rows z i) (nil_from_length s l)
 
-module _ (g : Grouping) (kinds : List AggregateKind) (frame : Frame) where
+module _ (g : Grouping) (kinds : List StagedKind) (frame : Frame) where
   -- an answer that tells of nothing
   pub still : (done : Bool) (groups : Groups) (finished : List Finished) (s : List Row) (i' i : Rest) (step : Step)
       → length s ≡ 0 → i' ≡ with_rows s i → step.skipped ≡ 0 → given step ≡ []
@@ -107,7 +107,7 @@ module _ (g : Grouping) (kinds : List AggregateKind) (frame : Frame) where
     )
 
     pub last_taken : (groups groups' later : Groups) (finished all : List Finished) → IsFrame g frame
-        → AreKinds g.aggregates kinds → i'.rows ≡ []
+        → AreKinds g.stage g.aggregates kinds → i'.rows ≡ []
         → ((rows : List GroupedRow) → Holds g kinds rows groups
         → Holds g kinds (rows ++ map (seen g) block) groups')
         → ((rows : List GroupedRow) → Holds g kinds rows groups'

@@ -1,9 +1,9 @@
 -- COLLECT: what it may still give, of the groups that it holds and of the rows that come.
 use Rattle.std.specs.Prelude.{◌≡◌, ℕ, zero, suc, ◌+◌, ◌≤◌, ◌++◌, List, length, map, reverse, Bool, true, false, cond}
-use Rattle.aql_value.specs.Datum.{Datum}
 use Rattle.aql_meaning.specs.Row.{Row}
 use Rattle.aql_meaning.specs.Groups.{GroupedRow, Collects}
-use Rattle.aql_meaning.specs.Visible.{aggregate_vars, into_var, aggregate_functions}
+use Rattle.aql_meaning.specs.Visible.{aggregate_vars, into_var}
+use Rattle.aql_meaning.specs.Stages.{stage_functions}
 use Rattle.aql_block.specs.declared.calls.Call.{Call}
 use Rattle.aql_block.specs.Rows.{row_of}
 use Rattle.aql_exec.specs.Rests.{Counter, Rest}
@@ -11,7 +11,7 @@ use Rattle.aql_exec_collect.specs.Told.{criteria_vars, aggregate_trees, into_of,
 use Rattle.aql_exec_collect.specs.Kept.{seen, Holds, finished_in}
 use Rattle.aql_exec_collect.specs.Framed.{framed, IsFrame}
 use Rattle.aql_exec_collect.specs.declared.grouping.Grouping.{Grouping}
-use Rattle.aql_aggregate.specs.declared.kinds.AggregateKind.{AggregateKind}
+use Rattle.aql_aggregate_parts.specs.declared.staged.StagedKind.{StagedKind}
 use Rattle.aql_exec_collect.specs.declared.group.Finished.{Finished}
 use Rattle.aql_exec_collect.specs.declared.groups.Groups.{Groups}
 use Rattle.aql_exec_collect.specs.declared.frame.Frame.{Frame}
@@ -20,19 +20,19 @@ use Rattle.aql_exec_collect.specs.declared.collect.Collect.{Collect}
 -- what a COLLECT makes of rows as it sees them, from a start row
 abbrev pub CollectsBy : Grouping → Row → List GroupedRow → List Row → Type 0
 CollectsBy g start rows out = Collects (criteria_vars g.criteria)
-    (aggregate_vars (aggregate_trees g.aggregates)) (aggregate_functions (aggregate_trees g.aggregates))
+    (aggregate_vars (aggregate_trees g.aggregates)) (stage_functions g.stage (aggregate_trees g.aggregates))
     (into_var (into_of g.into)) start rows out
 
 -- until all rows came, what a COLLECT makes of those that came and of those that come, whichever rows the
 -- groups keep; then the rows of the groups, from the last on
-abbrev pub Leaves : Bool → Grouping → List AggregateKind → Groups → Frame → List Finished → List Row → List Row
+abbrev pub Leaves : Bool → Grouping → List StagedKind → Groups → Frame → List Finished → List Row → List Row
     → Type 0
 Leaves false g kinds groups frame finished rows out = (before : List GroupedRow) → Holds g kinds before groups
     → CollectsBy g (row_of frame.start) (before ++ map (seen g) rows) out
 Leaves true g kinds groups frame finished rows out = out ≡ map (framed frame) (reverse (finished_in finished))
 
 -- it counts what its input counts
-abbrev pub GivesOver : Bool → Grouping → List AggregateKind → Groups → Frame → List Finished → Rest → Rest
+abbrev pub GivesOver : Bool → Grouping → List StagedKind → Groups → Frame → List Finished → Rest → Rest
     → Type 0
 GivesOver done g kinds groups frame finished input r =
     Leaves done g kinds groups frame finished input.rows r.rows
@@ -50,7 +50,7 @@ AsksCollect s (suc k) ask = ⊥
 
 -- what is true of it between two calls
 pub record CollectIs (s : Collect) : Type 0 where
-  pub kinds : AreKinds s.grouping.aggregates s.kinds.items
+  pub kinds : AreKinds s.grouping.stage s.grouping.aggregates s.kinds.items
   pub frame : IsFrame s.grouping s.frame
   pub held : s.done ≡ false
       → (before : List GroupedRow) × Holds s.grouping s.kinds.items before s.groups

@@ -1,3 +1,4 @@
 pub mod Later
+pub mod LaterInStages
 pub mod Members
 pub mod SomeGroups

@@ -8,7 +8,8 @@ ghost use Rattle.aql_plan.specs.Needs.{sets};
 ghost use Rattle.aql_block.specs.Tables.{rows_of};
 ghost use Rattle.aql_exec.specs.Steps.{IsCall, InCall, given, told};
 ghost use Rattle.aql_exec.specs.Operators.{OnRows};
-ghost use Rattle.aql_exec_collect.specs.Told.{node_of};
+ghost use Rattle.aql_meaning.specs.declared.grouping.Stage.TheVariants.{Whole};
+ghost use Rattle.aql_exec_collect.specs.Told.{node_of, node_at};
 ghost use Rattle.aql_exec_collect.specs.Framed.{FitsFrame, framed};
 ghost use Rattle.aql_exec_collect.specs.Kept.{finished_in};
 
@@ -16,15 +17,16 @@ use crate::frame::Frame;
 use crate::group::Finished;
 use crate::grouping::{Grouping, kinds_of};
 use crate::groups::Groups;
-use aql_aggregate::AggregateKind;
+use aql_aggregate_parts::StagedKind;
 use aql_block::{Block, Call, Progress, Row, Step, Tally};
 use aql_exec::{Executor, Place, Turn, Unlinked};
+use aql_meaning::Stage;
 use aql_tree::{Aggregates, Into, Lets};
 use aql_value::OutOfMemory;
 use std::alloc::Global;
 use std::mem;
 
-/// COLLECT as one step, as an executor. It takes all rows of its input before it gives the first,
+/// A stage of COLLECT as an executor. It takes all rows of its input before it gives the first,
 /// and keeps of them what the aggregates and INTO need: never the rows themselves. The expressions
 /// have no subquery, each aggregate is known and has its argument, and INTO has an expression: that
 /// is asked where rows are made, as `Fits` of its node.
@@ -32,7 +34,7 @@ use std::mem;
 pub struct Collect {
     grouping: Grouping,
     /// the aggregates, in order
-    kinds: Vec<AggregateKind>,
+    kinds: Vec<StagedKind>,
     /// what the rows of all groups have in common
     frame: Frame,
     /// the groups of the rows that came
@@ -46,15 +48,32 @@ pub struct Collect {
 }
 
 impl Collect {
-    /// By these criteria, aggregates and INTO, whose variables are numbers; it gives nothing before
-    /// it begins.
+    /// COLLECT as one step, by these criteria, aggregates and INTO, whose variables are numbers; it
+    /// gives nothing before it begins.
     pub fn new(alloc: Global, criteria: Lets, aggregates: Aggregates, into: Option<Into>) -> Collect
         requires { AllByRecursion IsNumber (sets (node_of criteria aggregates into)) }
-        ensures { (result.grouping.criteria ≡ criteria)
+        ensures { (result.grouping.stage ≡ Whole) × (result.grouping.criteria ≡ criteria)
+            × (result.grouping.aggregates ≡ aggregates) × (result.grouping.into ≡ into) }
+    {
+        Collect::at_stage(alloc, Stage::Whole, criteria, aggregates, into)
+    }
+
+    /// A stage of COLLECT. The final one of two finds the criteria and the states of the aggregates
+    /// under the variables that the first one set.
+    pub fn at_stage(
+        alloc: Global,
+        stage: Stage,
+        criteria: Lets,
+        aggregates: Aggregates,
+        into: Option<Into>,
+    ) -> Collect
+        requires { AllByRecursion IsNumber (sets (node_at stage criteria aggregates into)) }
+        ensures { (result.grouping.stage ≡ stage) × (result.grouping.criteria ≡ criteria)
             × (result.grouping.aggregates ≡ aggregates) × (result.grouping.into ≡ into) }
     {
         Collect {
             grouping: Grouping {
+                stage,
                 criteria,
                 aggregates,
                 into,
@@ -131,7 +150,8 @@ impl<W: Place> Executor<W> for Collect {
     ghost gives = { λ s _ _ _ ins r. gives_collect s ins r };
 
     ghost node = { λ s.
-        OnRows (node_of s.grouping.criteria s.grouping.aggregates s.grouping.into) };
+        OnRows (node_at s.grouping.stage s.grouping.criteria s.grouping.aggregates
+        s.grouping.into) };
 
     ghost owed = { λ _ _. 0 };
 
@@ -164,7 +184,8 @@ impl<W: Place> Executor<W> for Collect {
     ghost busy = { λ _. ⊥ };
 
     fn begin(&mut self, alloc: Global, start: &Row) -> Result<(), OutOfMemory> {
-        self.kinds = kinds_of(alloc, self.grouping.aggregates.as_slice())?;
+        let aggregates = self.grouping.aggregates.as_slice();
+        self.kinds = kinds_of(alloc, self.grouping.stage, aggregates)?;
         self.frame = Frame::new(alloc, &self.grouping, start)?;
         self.groups = Groups::new(alloc, &self.grouping, &self.kinds)?;
         self.finished.clear();

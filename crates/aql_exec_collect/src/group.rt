@@ -5,20 +5,20 @@ ghost use Rattle.std.specs.List.{All};
 ghost use Rattle.aql_value.specs.Datum.{Datum, null};
 ghost use Rattle.aql_value.specs.View.{datum_of, datums_in};
 ghost use Rattle.aql_func.specs.Arguments.{argument};
-ghost use Rattle.aql_func.specs.Aggregates.{Aggregate};
 ghost use Rattle.aql_meaning.specs.Groups.{GroupedRow};
-ghost use Rattle.aql_aggregate.specs.declared.kinds.AggregateKind.{AggregateKind};
+ghost use Rattle.aql_aggregate_parts.specs.Staged.{Staged};
+ghost use Rattle.aql_aggregate_parts.specs.declared.staged.StagedKind.{StagedKind};
 ghost use Rattle.aql_exec_collect.specs.Kept.{KeptAt, IsGroup, Takes, finished_of, result_of_members};
 ghost use Rattle.aql_exec_collect.specs.declared.group.Group.{Group};
 
-use aql_aggregate::{Accumulator, AggregateKind};
+use aql_aggregate_parts::{StagedAccumulator, StagedKind};
 use aql_value::{Items, OutOfMemory, Value};
 use std::alloc::Global;
 
 /// What is kept of the members of a group: what each aggregate keeps, and what INTO took.
 #[derive(Drop)]
 pub(crate) struct Group {
-    accumulators: Vec<Accumulator>,
+    accumulators: Vec<StagedAccumulator>,
     taken: Items,
 }
 
@@ -47,12 +47,12 @@ impl Finished {
 
 impl Group {
     /// Without members.
-    pub(crate) fn new(alloc: Global, kinds: &[AggregateKind]) -> Result<Group, OutOfMemory>
+    pub(crate) fn new(alloc: Global, kinds: &[StagedKind]) -> Result<Group, OutOfMemory>
         ensures { IfOk result (λ group. IsGroup kinds.now [] [] group) }
     {
         let mut accumulators = Vec::with_capacity(alloc, kinds.len())?;
         for kind in kinds {
-            accumulators.push(Accumulator::new(alloc, *kind))?;
+            accumulators.push(StagedAccumulator::new(alloc, *kind))?;
         }
         Ok(Group {
             accumulators,
@@ -80,7 +80,7 @@ impl Group {
 
     /// What comes of the members, under these criteria.
     pub(crate) fn finish(self, alloc: Global, criteria: Value) -> Result<Finished, OutOfMemory>
-        ensures { IfOk result (λ f. (kinds : List AggregateKind) (members : List GroupedRow)
+        ensures { IfOk result (λ f. (kinds : List StagedKind) (members : List GroupedRow)
             (taken : List Datum) → IsGroup kinds members taken self
             → finished_of f ≡ result_of_members kinds (datum_of criteria) members taken) }
     {
@@ -103,11 +103,11 @@ impl Group {
 // Gives each accumulator the argument at its place.
 fn add_all(
     alloc: Global,
-    accumulators: &mut [Accumulator],
+    accumulators: &mut [StagedAccumulator],
     arguments: &[Value],
 ) -> Result<(), OutOfMemory>
     requires { length arguments.now ≡ length accumulators.old }
-    ensures kept { OnOk result ((n : ℕ) (kind : Aggregate) (ts : List Datum)
+    ensures kept { OnOk result ((n : ℕ) (kind : Staged) (ts : List Datum)
         → KeptAt accumulators.old n kind ts
         → KeptAt accumulators.new n kind (ts ++ argument (datums_in arguments.now) n ∷ [])) }
     ensures count { length accumulators.new ≡ length accumulators.old }

@@ -11,14 +11,14 @@ ghost use Rattle.aql_meaning.specs.Groups.{GroupedRow};
 ghost use Rattle.aql_plan.specs.Fits.{AllKnown};
 ghost use Rattle.aql_block.specs.Rows.{row_of};
 ghost use Rattle.aql_block.specs.Tables.{rows_of};
-ghost use Rattle.aql_aggregate.specs.declared.kinds.AggregateKind.{AggregateKind};
+ghost use Rattle.aql_aggregate_parts.specs.declared.staged.StagedKind.{StagedKind};
 ghost use Rattle.aql_exec_collect.specs.Told.{criteria_trees, aggregate_trees, into_of, AreKinds};
 ghost use Rattle.aql_exec_collect.specs.declared.grouping.Grouping.{Grouping};
 ghost use Rattle.aql_exec_collect.specs.Kept.{Result, seen, Holds, Grows, finished_in, result_of};
 
 use crate::group::{Finished, Group, add_member};
 use crate::grouping::Grouping;
-use aql_aggregate::AggregateKind;
+use aql_aggregate_parts::StagedKind;
 use aql_block::{Block, RowRef};
 use aql_expr::RowView;
 use aql_value::{Items, OutOfMemory, Value, cmp};
@@ -56,7 +56,7 @@ impl Groups {
     pub(crate) fn new(
         alloc: Global,
         grouping: &Grouping,
-        kinds: &[AggregateKind],
+        kinds: &[StagedKind],
     ) -> Result<Groups, OutOfMemory>
         ensures held { IfOk result (λ groups. Holds grouping.now kinds.now [] groups) }
         ensures count { IfOk result (λ groups. length groups.kept.items ≤ 1) }
@@ -84,13 +84,13 @@ impl Groups {
         &mut self,
         alloc: Global,
         grouping: &Grouping,
-        kinds: &[AggregateKind],
+        kinds: &[StagedKind],
         block: Block,
     ) -> Result<(), OutOfMemory>
         requires plain { AllPlain (criteria_trees grouping.now.criteria) }
         requires known { AllKnown (aggregate_trees grouping.now.aggregates) }
         requires into { IntoPlain (into_of grouping.now.into) }
-        requires kinds { AreKinds grouping.now.aggregates kinds.now }
+        requires kinds { AreKinds grouping.now.stage grouping.now.aggregates kinds.now }
         requires holds { (rows : List GroupedRow) × Holds grouping.now kinds.now rows self.old }
         ensures held { OnOk result ((rows : List GroupedRow)
             → Holds grouping.now kinds.now rows self.old
@@ -112,13 +112,13 @@ impl Groups {
         &mut self,
         alloc: Global,
         grouping: &Grouping,
-        kinds: &[AggregateKind],
+        kinds: &[StagedKind],
         row: &BlockRow<'_>,
     ) -> Result<(), OutOfMemory>
         requires plain { AllPlain (criteria_trees grouping.now.criteria) }
         requires known { AllKnown (aggregate_trees grouping.now.aggregates) }
         requires into { IntoPlain (into_of grouping.now.into) }
-        requires kinds { AreKinds grouping.now.aggregates kinds.now }
+        requires kinds { AreKinds grouping.now.stage grouping.now.aggregates kinds.now }
         requires holds { (rows : List GroupedRow) × Holds grouping.now kinds.now rows self.old }
         ensures held { OnOk result ((rows : List GroupedRow)
             → Holds grouping.now kinds.now rows self.old
@@ -139,7 +139,7 @@ impl Groups {
         &mut self,
         alloc: Global,
         key: Value,
-        kinds: &[AggregateKind],
+        kinds: &[StagedKind],
     ) -> Result<usize, OutOfMemory>
         ensures keys { OnOk result (datums_in self.new.keys.keys
             ≡ add true (datums_in self.old.keys.keys) (datum_of key)) }
@@ -166,7 +166,7 @@ impl Groups {
     /// What comes of each group, in ascending order of the criteria.
     pub(crate) fn finish(self, alloc: Global) -> Result<Vec<Finished>, OutOfMemory>
         requires { length self.kept.items ≡ length self.keys.keys }
-        ensures results { IfOk result (λ all. (grouping : Grouping) (kinds : List AggregateKind)
+        ensures results { IfOk result (λ all. (grouping : Grouping) (kinds : List StagedKind)
             (rows : List GroupedRow) → Holds grouping kinds rows self
             → finished_in all.items ≡ map (result_of grouping.into kinds rows)
             (sort_values (datums_in self.keys.keys))) }

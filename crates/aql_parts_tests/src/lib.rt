@@ -17,6 +17,8 @@ mod parsing;
 #[cfg(test)]
 mod rewriting;
 #[cfg(test)]
+mod stages;
+#[cfg(test)]
 mod tokens;
 #[cfg(test)]
 mod values;

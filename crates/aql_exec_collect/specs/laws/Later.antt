@@ -36,10 +36,10 @@ number_in n = unwrap_or n (pos 0)
 some_not_none : {X : Type 0} (x : X) → Some x ≡ None → ⊥
 some_not_none x e = true≢false (ap is_some e)
 
-abbrev Alike : List Datum → List Datum → Type 0
+abbrev pub Alike : List Datum → List Datum → Type 0
 Alike ts ts' = (length ts ≡ length ts') ⊎ ((2 ^ 63 ≤ length ts) × (2 ^ 63 ≤ length ts'))
 
-alike : (n : Option ℤ) (ts ts' : List Datum) → Counts n ts → Counts n ts' → Alike ts ts'
+pub alike : (n : Option ℤ) (ts ts' : List Datum) → Counts n ts → Counts n ts' → Alike ts ts'
 alike n ts ts' h h' = by (nat_lt (length ts) (2 ^ 63)) refl (nat_lt (length ts') (2 ^ 63)) refl
   where
     by : (b : Bool) → nat_lt (length ts) (2 ^ 63) ≡ b → (d : Bool) → nat_lt (length ts') (2 ^ 63) ≡ d
@@ -55,7 +55,7 @@ alike n ts ts' h h' = by (nat_lt (length ts) (2 ^ 63)) refl (nat_lt (length ts')
 out_of_range : (n : ℕ) → 2 ^ 63 ≤ n → in_range (pos n) ≡ false
 out_of_range n h = grind (arith, ints, h)
 
-lost : (ts us : List Datum) → 2 ^ 63 ≤ length ts → count_of (ts ++ us) ≡ null
+pub lost : (ts us : List Datum) → 2 ^ 63 ≤ length ts → count_of (ts ++ us) ≡ null
 lost ts us h =
     let n = length-append ts us in
     ap (λ b. cond b (number (pos (length (ts ++ us)))) null)
@@ -64,7 +64,7 @@ lost ts us h =
 longer : (ts ts' us : List Datum) → length ts ≡ length ts' → length (ts ++ us) ≡ length (ts' ++ us)
 longer ts ts' us e = length-append ts us ∙ ap (λ n. n + length us) e ∙ sym (length-append ts' us)
 
-same_count : (n : Option ℤ) (ts ts' us : List Datum) → Counts n ts → Counts n ts'
+pub same_count : (n : Option ℤ) (ts ts' us : List Datum) → Counts n ts → Counts n ts'
     → count_of (ts ++ us) ≡ count_of (ts' ++ us)
 same_count n ts ts' us h h' = by (alike n ts ts' h h')
   where
@@ -128,15 +128,15 @@ same_sum s ts ts' us h h' = by (alike s.count ts ts' h.counted h'.counted)
 
 -- ---- the others
 
-same_firsts : (us ts ts' : List Datum) → firsts ts ≡ firsts ts' → firsts (ts ++ us) ≡ firsts (ts' ++ us)
+pub same_firsts : (us ts ts' : List Datum) → firsts ts ≡ firsts ts' → firsts (ts ++ us) ≡ firsts (ts' ++ us)
 same_firsts = same_grown firsts (add true) firsts_push
 
-same_least : (us ts ts' : List Datum) → best lesser ts ≡ best lesser ts'
+pub same_least : (us ts ts' : List Datum) → best lesser ts ≡ best lesser ts'
     → best lesser (ts ++ us) ≡ best lesser (ts' ++ us)
 same_least = same_grown (best lesser) (λ o t. better_if lesser (is_null t) o t)
     (λ ts t. sym (least_more (best lesser ts) ts t refl))
 
-same_greatest : (us ts ts' : List Datum) → best greater ts ≡ best greater ts'
+pub same_greatest : (us ts ts' : List Datum) → best greater ts ≡ best greater ts'
     → best greater (ts ++ us) ≡ best greater (ts' ++ us)
 same_greatest = same_grown (best greater) (λ o t. better_if greater (is_null t) o t)
     (λ ts t. sym (greatest_more (best greater ts) ts t refl))

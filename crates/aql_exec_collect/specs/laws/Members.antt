@@ -6,16 +6,18 @@ use Rattle.std.proofs.lemmas.Cmp.{tied_itself}
 use Rattle.aql_value.specs.Datum.{Datum, null}
 use Rattle.aql_value.specs.Parts.{list, same, is_in}
 use Rattle.aql_value.specs.laws.Strict.{compare_total}
-use Rattle.aql_func.specs.Aggregates.{Aggregate, aggregate, aggregate_named}
+use Rattle.aql_func.specs.Aggregates.{Aggregate, aggregate_named}
 use Rattle.aql_func.proofs.Firsts.{in_firsts}
 use Rattle.aql_tree.specs.declared.syntax.Let.{Let}
 use Rattle.aql_tree.specs.View.{AggregatePart, aggregates, aggregate_part}
-use Rattle.aql_meaning.specs.Groups as meaning
+use Rattle.aql_meaning.specs.declared.grouping.Stage.{Stage}
+use Rattle.aql_meaning.specs.declared.grouping.Stage.TheVariants as stage
 use Rattle.aql_meaning.specs.Groups.{GroupedRow}
-use Rattle.aql_meaning.specs.Visible.{functions_by, aggregate_functions}
-use Rattle.aql_aggregate.specs.declared.kinds.AggregateKind.{AggregateKind}
-use Rattle.aql_aggregate.specs.View.{aggregate_of}
-use Rattle.aql_exec_collect.specs.Told.{criteria_vars, aggregate_trees, AreKinds}
+use Rattle.aql_meaning.specs.Visible.{functions_by}
+use Rattle.aql_meaning.specs.Stages.{stage_functions}
+use Rattle.aql_aggregate_parts.specs.declared.staged.StagedKind.{StagedKind}
+use Rattle.aql_aggregate_parts.specs.Staged.{Staged, staged, made_in, made}
+use Rattle.aql_exec_collect.specs.Told.{criteria_vars, aggregate_trees, in_stage, AreKinds}
 use Rattle.aql_exec_collect.specs.Kept.{key_of, members_of, keys_seen, functions_of}
 use Rattle.aql_exec_collect.specs.declared.grouping.Grouping.{Grouping}
 
@@ -46,20 +48,41 @@ new_key (l ∷ ls) rows key e h = no_members key rows (sym (in_firsts (map key_o
 
 -- ---- the functions of the aggregates
 
-abbrev first_kind : List (Option Aggregate) → Option Aggregate
+abbrev first_kind : List (Option Staged) → Option Staged
 first_kind [] = None
 first_kind (o ∷ os) = o
 
-functions_by_kinds : (gs : List AggregatePart) (kinds : List AggregateKind)
-    → map (λ k. Some (aggregate_of k)) kinds ≡ map (λ g. aggregate_named g.1) gs
-    → functions_by meaning.aggregate_of (aggregates gs) ≡ functions_of kinds
-functions_by_kinds [] [] e = refl
-functions_by_kinds [] (k ∷ kinds) e = absurd (true≢false (ap (λ l. is_some (first_kind l)) e))
-functions_by_kinds (g ∷ gs) [] e = absurd (let n : 0 ≡ suc (length (map (λ (g : AggregatePart). aggregate_named g.1) gs)) = ap length e in omega (arith, n))
-functions_by_kinds (g ∷ gs) (k ∷ kinds) e = ap₂ (λ (f : List Datum → Datum) fs. f ∷ fs)
-    (ap (λ o values. unwrap_or (option_map (λ kind. aggregate kind values) o) null) (sym (ap first_kind e)))
-    (functions_by_kinds gs kinds (ap (drop 1) e))
+-- the aggregate of a name in a stage makes what the stage's function of the name makes
+abbrev made_of : Option Staged → List Datum → Datum
+made_of o values = unwrap_or (option_map (λ k. made k values) o) null
 
-pub functions_are : (g : Grouping) (kinds : List AggregateKind) → AreKinds g.aggregates kinds
-    → aggregate_functions (aggregate_trees g.aggregates) ≡ functions_of kinds
-functions_are g kinds e = functions_by_kinds (map aggregate_part g.aggregates) kinds e
+abbrev named_in : Stage → List ℕ → List Datum → Datum
+named_in s name values = unwrap_or (option_map (λ kind. made_in s kind values) (aggregate_named name)) null
+
+staged_is : (s : Stage) (o : Option Aggregate)
+    → (λ (values : List Datum). unwrap_or (option_map (λ kind. made_in s kind values) o) null)
+    ≡ made_of (in_stage s o)
+staged_is s None = refl
+staged_is s (Some kind) = refl
+
+functions_by_kinds : (s : Stage) (gs : List AggregatePart) (kinds : List StagedKind)
+    → map (λ k. Some (staged k)) kinds ≡ map (λ g. in_stage s (aggregate_named g.1)) gs
+    → functions_by (named_in s) (aggregates gs) ≡ functions_of kinds
+functions_by_kinds s [] [] e = refl
+functions_by_kinds s [] (k ∷ kinds) e = absurd (true≢false (ap (λ l. is_some (first_kind l)) e))
+functions_by_kinds s (g ∷ gs) [] e = absurd (let n : 0 ≡ suc (length
+    (map (λ (g : AggregatePart). in_stage s (aggregate_named g.1)) gs)) = ap length e in omega (arith, n))
+functions_by_kinds s (g ∷ gs) (k ∷ kinds) e = ap₂ (λ (f : List Datum → Datum) fs. f ∷ fs)
+    (staged_is s (aggregate_named g.1) ∙ ap made_of (sym (ap first_kind e)))
+    (functions_by_kinds s gs kinds (ap (drop 1) e))
+
+functions_in : (s : Stage) (gs : List AggregatePart)
+    → stage_functions s (aggregates gs) ≡ functions_by (named_in s) (aggregates gs)
+functions_in stage.Whole gs = refl
+functions_in stage.Partial gs = refl
+functions_in stage.Final gs = refl
+
+pub functions_are : (g : Grouping) (kinds : List StagedKind) → AreKinds g.stage g.aggregates kinds
+    → stage_functions g.stage (aggregate_trees g.aggregates) ≡ functions_of kinds
+functions_are g kinds e = functions_in g.stage (map aggregate_part g.aggregates)
+    ∙ functions_by_kinds g.stage (map aggregate_part g.aggregates) kinds e

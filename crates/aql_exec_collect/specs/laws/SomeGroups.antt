@@ -1,7 +1,7 @@
 -- COLLECT may always give something, and it counts more where its input counts more. Whichever rows the groups
 -- keep, a COLLECT makes the same of them and of the rows that come.
 use Rattle.std.proofs.Common.{◌≡◌, ◌∙◌, ℕ, zero, suc, ◌+◌, List, [], ◌∷◌, ◌++◌, map, reverse, Bool, true, false, ◌||◌, Option, Some, None, refl, sym, ap, ap₂, subst, true≢false, arith}
-use Rattle.std.specs.Prelude.{slice_get, MatchOption, IsPermutation, filter}
+use Rattle.std.specs.Prelude.{slice_get, MatchOption, IsPermutation}
 use Rattle.std.specs.List.{AllZip}
 use mathlib.Core.Bool.{false≢true}
 use Rattle.std.proofs.lemmas.List.{map-append}
@@ -10,52 +10,51 @@ use Rattle.aql_value.specs.Datum.{Datum}
 use Rattle.aql_value.specs.Parts.{list, elements, same, is_in}
 use Rattle.aql_value.specs.View.{datums_in}
 use Rattle.aql_func.specs.Arguments.{argument}
-use Rattle.aql_func.specs.Aggregates.{Aggregate, aggregate}
 use Rattle.aql_func.specs.Lists.{firsts, sort_values}
 use Rattle.aql_func.proofs.Firsts.{same_is}
-use Rattle.aql_tree.specs.declared.syntax.Ident.{Ident}
 use Rattle.aql_tree.specs.declared.syntax.Let.{Let}
 use Rattle.aql_tree.specs.declared.syntax.Into.{Into}
 use Rattle.aql_tree.specs.View.{into_part}
 use Rattle.aql_meaning.specs.Row.{Row, bind, bind_all}
 use Rattle.aql_meaning.specs.Groups.{GroupedRow, groups, rows_of_group, group_row, aggregate_values, WithInto, Collects}
-use Rattle.aql_meaning.specs.Visible.{aggregate_vars, into_var, aggregate_functions}
+use Rattle.aql_meaning.specs.Visible.{aggregate_vars, into_var}
+use Rattle.aql_meaning.specs.Stages.{stage_functions}
 use Rattle.aql_meaning.specs.laws.SomeAnswer.{some_collect as some_collects}
 use Rattle.aql_block.specs.Rows.{row_of}
-use Rattle.aql_exec.specs.Rests.{Counter, Counts, Rest, Ahead}
+use Rattle.aql_exec.specs.Rests.{Counts, Rest, Ahead}
 use Rattle.aql_exec.specs.Operators.{is_first}
-use Rattle.aql_aggregate.specs.declared.kinds.AggregateKind.{AggregateKind}
-use Rattle.aql_aggregate.specs.declared.accumulator.Accumulator.{Accumulator}
-use Rattle.aql_aggregate.specs.View.{aggregate_of}
-use Rattle.aql_aggregate.specs.States.{Keeps}
+use Rattle.aql_aggregate_parts.specs.declared.staged.StagedKind.{StagedKind}
+use Rattle.aql_aggregate_parts.specs.declared.staged.StagedAccumulator.{StagedAccumulator}
+use Rattle.aql_aggregate_parts.specs.Staged.{Staged, staged, made, KeepsIn}
 use Rattle.aql_exec_collect.specs.Told.{criteria_vars, aggregate_trees, into_of, AreKinds}
-use Rattle.aql_exec_collect.specs.Kept.{seen, KeptAt, arguments_of, taken_of, IsGroup, key_of, members_of, keys_seen, AreGroups, Holds, functions_of, finished_in}
+use Rattle.aql_exec_collect.specs.Kept.{seen, arguments_of, taken_of, IsGroup, key_of, members_of, keys_seen, AreGroups, Holds, functions_of, finished_in}
 use Rattle.aql_exec_collect.specs.Framed.{framed}
 use Rattle.aql_exec_collect.specs.Collecting.{CollectsBy, GivesOver, Leaves, gives_collect, CollectIs}
 use Rattle.aql_exec_collect.specs.declared.grouping.Grouping.{Grouping}
 use Rattle.aql_exec_collect.specs.declared.group.Group.{Group}
 use Rattle.aql_exec_collect.specs.declared.groups.Groups.{Groups}
 use Rattle.aql_exec_collect.specs.declared.collect.Collect.{Collect}
-use Rattle.aql_exec_collect.specs.laws.Later.{same_later, same_keys}
+use Rattle.aql_exec_collect.specs.laws.Later.{same_keys}
+use Rattle.aql_exec_collect.specs.laws.LaterInStages.{same_in_stage}
 use Rattle.aql_exec_collect.specs.laws.Members.{new_key, functions_are}
 
 -- ---- one group
 
-kept_alike : (o : Option Accumulator) (kind : Aggregate) (ts ts' us : List Datum)
-    → MatchOption o ⊥ (λ a. Keeps a kind ts) → MatchOption o ⊥ (λ a. Keeps a kind ts')
-    → aggregate kind (ts ++ us) ≡ aggregate kind (ts' ++ us)
+kept_alike : (o : Option StagedAccumulator) (kind : Staged) (ts ts' us : List Datum)
+    → MatchOption o ⊥ (λ a. KeepsIn a kind ts) → MatchOption o ⊥ (λ a. KeepsIn a kind ts')
+    → made kind (ts ++ us) ≡ made kind (ts' ++ us)
 kept_alike None kind ts ts' us h h' = absurd h
-kept_alike (Some a) kind ts ts' us h h' = same_later a kind ts ts' us h h'
+kept_alike (Some a) kind ts ts' us h h' = same_in_stage a kind ts ts' us h h'
 
-values_by : (kinds : List AggregateKind) (ms ms' : List GroupedRow) (n : ℕ)
-    → ((j at : ℕ) (kind : AggregateKind) → at ≡ n + j → slice_get kinds j ≡ Some kind
-    → aggregate (aggregate_of kind) (arguments_of at ms) ≡ aggregate (aggregate_of kind) (arguments_of at ms'))
+values_by : (kinds : List StagedKind) (ms ms' : List GroupedRow) (n : ℕ)
+    → ((j at : ℕ) (kind : StagedKind) → at ≡ n + j → slice_get kinds j ≡ Some kind
+    → made (staged kind) (arguments_of at ms) ≡ made (staged kind) (arguments_of at ms'))
     → aggregate_values (functions_of kinds) n ms ≡ aggregate_values (functions_of kinds) n ms'
 values_by [] ms ms' n f = refl
 values_by (kind ∷ kinds) ms ms' n f = ap₂ (λ (v : Datum) vs. v ∷ vs) (f 0 n kind (omega arith) refl)
     (values_by kinds ms ms' (n + 1) (λ j at kind e s. f (suc j) at kind (omega (arith, e)) s))
 
-module _ (kinds : List AggregateKind) (into : Option Into) where
+module _ (kinds : List StagedKind) (into : Option Into) where
   -- whatever members come later, the aggregates are the same; and so is what INTO took
   abbrev Alike : List GroupedRow → List GroupedRow → Type 0
   Alike ms ms' = ((us : List GroupedRow)
@@ -68,10 +67,10 @@ module _ (kinds : List AggregateKind) (into : Option Into) where
     λ us. values_by kinds (ms ++ us) (ms' ++ us) 0 (λ j at kind e s.
         let s' : slice_get kinds at ≡ Some kind = ap (slice_get kinds) (omega (arith, e)) ∙ s in
         let split = map-append (λ (row : GroupedRow). argument row.arguments at) in
-        ap (aggregate (aggregate_of kind)) (split ms us)
-        ∙ kept_alike (slice_get g.accumulators.items at) (aggregate_of kind) (arguments_of at ms)
+        ap (made (staged kind)) (split ms us)
+        ∙ kept_alike (slice_get g.accumulators.items at) (staged kind) (arguments_of at ms)
         (arguments_of at ms') (arguments_of at us) (h.kept at kind s') (h'.kept at kind s')
-        ∙ sym (ap (aggregate (aggregate_of kind)) (split ms' us))),
+        ∙ sym (ap (made (staged kind)) (split ms' us))),
     sym h.taken_is ∙ h'.taken_is,
   )
 
@@ -140,7 +139,7 @@ zip_alike P Q f [] (y ∷ ys) a = absurd a
 zip_alike P Q f (x ∷ xs) [] a = absurd a
 zip_alike P Q f (x ∷ xs) (y ∷ ys) a = (f x y a.0, zip_alike P Q f xs ys a.1)
 
-module _ (g : Grouping) (kinds : List AggregateKind) (known : AreKinds g.aggregates kinds) (s : Groups)
+module _ (g : Grouping) (kinds : List StagedKind) (known : AreKinds g.stage g.aggregates kinds) (s : Groups)
     (start : Row) (p p' q : List GroupedRow) (h : Holds g kinds p s) (h' : Holds g kinds p' s) where
   abbrev RowOf : List GroupedRow → List Datum → Row → Type 0
   RowOf rows criteria row = WithInto (into_var (into_of g.into)) (rows_of_group criteria rows)
@@ -210,7 +209,7 @@ some_collect s ins v = by s.done refl
         let held = v.held e in
         let coming = map (seen g) (ins 0).rows in
         let o = some_collects (criteria_vars g.criteria) (aggregate_vars (aggregate_trees g.aggregates))
-        (aggregate_functions (aggregate_trees g.aggregates)) (into_var (into_of g.into)) start
+        (stage_functions g.stage (aggregate_trees g.aggregates)) (into_var (into_of g.into)) start
         (held.0 ++ coming) in (
           record { rows = o.0; counts = (ins 0).counts },
           (

@@ -1,7 +1,7 @@
 use Rattle.std.proofs.Common.{◌≡◌, ◌<◌, ◌∙◌, ◌++◌, ◌∷◌, [], length, ap, sym, subst, arith}
 use Rattle.std.proofs.lemmas.List.{length-set}
 use Rattle.aql_value.specs.View.{datum_of, datums_in}
-use Rattle.aql_aggregate.specs.States.{Keeps}
+use Rattle.aql_aggregate_parts.specs.Staged.{KeepsIn}
 use Rattle.aql_exec_collect.proofs.Keeping.{one_taking, argument_at}
 use Rattle.aql_exec_collect.proofs.group.add_all.Goals as goal
 
@@ -19,7 +19,7 @@ loop-at-preserved c =
       count = length-set accs i c.add.new.self ∙ count;
       kept = one_taking (datums_in vs) c.args.accumulators.now accs i c.index-accumulators-at.result c.add.new.self
           c.index-accumulators-at.is within
-          (λ kind ts h. subst (λ t. Keeps c.add.new.self kind (ts ++ t ∷ [])) (sym v)
-          (c.in_ok-add.ensures kind ts (subst (λ a. Keeps a kind ts) c.index-accumulators-at.is h)))
+          (λ kind ts h. subst (λ t. KeepsIn c.add.new.self kind (ts ++ t ∷ [])) (sym v)
+          (c.in_ok-add.ensures kind ts (subst (λ a. KeepsIn a kind ts) c.index-accumulators-at.is h)))
           c.loop-at.invariant.kept;
     }

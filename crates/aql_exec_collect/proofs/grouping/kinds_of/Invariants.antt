@@ -1,6 +1,6 @@
 use Rattle.std.proofs.Common.{◌≡◌, ◌++◌, Some, map, drop}
 use Rattle.aql_plan.specs.Fits.{AllKnown}
-use Rattle.aql_aggregate.specs.View.{aggregate_of}
+use Rattle.aql_aggregate_parts.specs.Staged.{staged}
 use Rattle.aql_exec_collect.specs.Told.{aggregate_trees}
 use Rattle.aql_exec_collect.proofs.Parts.{named}
 use Rattle.aql_exec_collect.proofs.grouping.kinds_of.Given as goal
@@ -9,6 +9,6 @@ use Rattle.aql_exec_collect.proofs.grouping.kinds_of.Given as goal
 abbrev pub invariant-loop-item : goal.invariant-loop-item
 invariant-loop-item l = record {
   known : AllKnown (aggregate_trees (drop l.item-index l.aggregates));
-  kinds : map (λ k. Some (aggregate_of k)) l.kinds.items ++ named (drop l.item-index l.aggregates)
-      ≡ named l.aggregates;
+  kinds : map (λ k. Some (staged k)) l.kinds.items ++ named l.stage (drop l.item-index l.aggregates)
+      ≡ named l.stage l.aggregates;
 }

@@ -1,6 +1,8 @@
 use Rattle.std.proofs.Common.{◌≡◌, ◌<◌, ◌+◌, ◌∙◌, ◌++◌, ◌∷◌, [], take, get_or, length, ap, sym, subst, arith, length-append}
 use Rattle.std.proofs.lemmas.List.{take_more, length-take}
+use Rattle.aql_meaning.specs.declared.grouping.Stage.TheVariants.{Whole}
 use Rattle.aql_aggregate.specs.declared.kinds.AggregateKind.TheVariants.{Count}
+use Rattle.aql_aggregate_parts.specs.declared.staged.StagedKind.{StagedKind}
 use Rattle.aql_exec_collect.specs.Kept.{AreKept}
 use Rattle.aql_exec_collect.proofs.Keeping.{kept_push}
 use Rattle.aql_exec_collect.proofs.group.Group.new.Goals as goal
@@ -10,9 +12,10 @@ loop-kind-preserved c =
     let kinds = c.args.kinds.now in
     let i = c.loop-kind.kind-index in
     let accs = c.loop-kind.accumulators.items in
-    let kind = get_or kinds i Count in
+    let other : StagedKind = record { stage = Whole; kind = Count } in
+    let kind = get_or kinds i other in
     let inside = c.loop-kind-test.true in
-    let more = take_more kinds i Count inside in
+    let more = take_more kinds i other inside in
     let pushed = c.in_ok-push.ensures.items in
     let n = ap length pushed in
     let m = length-append accs (c.new.result ∷ []) in

@@ -41,7 +41,7 @@ add_member-requires-clause-count c =
     let arguments = c.in_ok-arguments.arguments.items in
     let many : length c.deref.result.now ≡ length c.args.kinds.now = ap length c.deref.ensures.value
     ∙ sym (length-map arguments datum_of) ∙ ap length c.in_ok-arguments.ensures
-    ∙ as_many_kinds g.aggregates c.args.kinds.now row c.requires.kinds in
+    ∙ as_many_kinds g.stage g.criteria g.aggregates g.into c.args.kinds.now row c.requires.kinds in
     subst (λ gs. All (λ (x : Group). length c.deref.result.now ≡ length x.accumulators.items) gs)
     (sym c.deref_mut.ensures.value)
     (λ i d l. many

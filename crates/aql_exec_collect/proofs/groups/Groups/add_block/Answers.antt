@@ -4,7 +4,7 @@ use Rattle.std.proofs.lemmas.List.{take_more, map-append}
 use Rattle.std.proofs.lemmas.Option.{slice_get_within, slice_get-get_or, get_or_from_slice_get}
 use Rattle.aql_meaning.specs.Row.{Row, empty_row}
 use Rattle.aql_meaning.specs.Groups.{GroupedRow}
-use Rattle.aql_aggregate.specs.declared.kinds.AggregateKind.{AggregateKind}
+use Rattle.aql_aggregate_parts.specs.declared.staged.StagedKind.{StagedKind}
 use Rattle.aql_block.specs.Rows.{row_of}
 use Rattle.aql_block.specs.Tables.{rows_of}
 use Rattle.aql_exec_collect.specs.Kept.{seen, Holds}

@@ -3,7 +3,7 @@ use Rattle.std.specs.Prelude.{Option}
 use Rattle.aql_value.specs.View.{datums_in}
 use Rattle.aql_tree.specs.declared.syntax.Into.{Into}
 use Rattle.aql_meaning.specs.Groups.{GroupedRow}
-use Rattle.aql_aggregate.specs.declared.kinds.AggregateKind.{AggregateKind}
+use Rattle.aql_aggregate_parts.specs.declared.staged.StagedKind.{StagedKind}
 use Rattle.aql_exec_collect.specs.Kept.{AreGroups, finished_in, result_of}
 use Rattle.aql_exec_collect.proofs.groups.Groups.finish.Given as goal
 
@@ -12,7 +12,7 @@ abbrev pub invariant-loop-key : goal.invariant-loop-key
 invariant-loop-key l = record {
   paired : length l.kept.items ≡ length l.key-iterator;
   count : length l.all.items + length l.kept.items ≡ length l.fn.self.kept.items;
-  results : (kinds : List AggregateKind) (into : Option Into) (rows : List GroupedRow)
+  results : (kinds : List StagedKind) (into : Option Into) (rows : List GroupedRow)
       → AreGroups kinds into rows (datums_in l.fn.self.keys.keys) l.fn.self.kept.items
       → AreGroups kinds into rows (datums_in l.key-iterator) (reverse l.kept.items)
       × (finished_in l.all.items ++ map (result_of into kinds rows) (datums_in l.key-iterator)

@@ -2,7 +2,7 @@ use Rattle.std.proofs.Common.{◌≡◌, ◌++◌, drop}
 use Rattle.aql_meaning.specs.Plain.{AllPlain}
 use Rattle.aql_meaning.specs.AtRows.{keys_of}
 use Rattle.aql_exec_collect.specs.Told.{criteria_trees}
-use Rattle.aql_exec_collect.proofs.grouping.Grouping.key.Given as goal
+use Rattle.aql_exec_collect.proofs.grouping.criteria_values.Given as goal
 
 -- with the values of the criteria that are left the values so far are all
 abbrev pub invariant-loop-item : goal.invariant-loop-item

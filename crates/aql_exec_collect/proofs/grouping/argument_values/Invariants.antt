@@ -3,7 +3,7 @@ use Rattle.aql_value.specs.View.{datums_in}
 use Rattle.aql_meaning.specs.Stages.{arguments_at}
 use Rattle.aql_plan.specs.Fits.{AllKnown}
 use Rattle.aql_exec_collect.specs.Told.{aggregate_trees}
-use Rattle.aql_exec_collect.proofs.grouping.Grouping.arguments.Given as goal
+use Rattle.aql_exec_collect.proofs.grouping.argument_values.Given as goal
 
 -- with the arguments that are left the arguments so far are all
 abbrev pub invariant-loop-item : goal.invariant-loop-item
