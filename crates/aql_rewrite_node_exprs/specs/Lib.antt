@@ -1,2 +1,3 @@
 pub mod AtExprs
+pub mod Ends
 pub mod laws

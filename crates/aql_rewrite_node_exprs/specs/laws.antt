@@ -6,5 +6,11 @@ pub mod StillFits
 pub mod StillFound
 pub mod SameRows
 pub mod SameShape
-pub mod Smaller
+pub mod ExprsBack
+pub mod PartsAgain
+pub mod ExprsAgain
 pub mod Rewritten
+pub mod StepByStep
+pub mod Ended
+pub mod PlansEnded
+pub mod PassEnded

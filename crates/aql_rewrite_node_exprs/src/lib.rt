@@ -1,6 +1,7 @@
-//! Rules on plans that are made of rules on expressions.
+//! Passes of rules on expressions over plans.
 #![tactic(auto)]
 
-mod at_exprs;
+mod exprs;
+mod pass;
 
-pub use at_exprs::AtExprs;
+pub use pass::run_expr_pass;

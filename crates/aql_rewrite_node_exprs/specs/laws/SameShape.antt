@@ -24,7 +24,7 @@ still_outer (Collect xs es gs j stage.Whole) ps i = i
 still_outer NoResults ps i = i
 still_outer n ps i = absurd i
 
-still_plain : (n : Node) (ps : List ExprTree) → IsNoFragment n → IsNoFragment (over_exprs n ps)
+pub still_plain : (n : Node) (ps : List ExprTree) → IsNoFragment n → IsNoFragment (over_exprs n ps)
 still_plain (Collect xs es gs i stage.Whole) ps h = h
 still_plain (Collect xs es gs i stage.Partial) ps h = h
 still_plain (Collect xs es gs i stage.Final) ps h = h

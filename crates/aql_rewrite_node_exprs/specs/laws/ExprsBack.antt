@@ -1,27 +1,14 @@
--- The expressions of a node over others are these, so their size falls where theirs does, and with it that of
--- the whole plan.
-use Rattle.std.proofs.Common.{◌≡◌, ◌∙◌, ◌<◌, List, [], ◌∷◌, ◌++◌, false, refl, ap, sym, arith, append_assoc}
+-- The expressions of a node over others are these, and where they run out its own.
+use Rattle.std.proofs.Common.{◌≡◌, ◌∙◌, List, ◌∷◌, ◌++◌, refl, ap, sym, append_assoc}
 use Rattle.std.specs.Prelude.{Option, Some, None}
 use Rattle.aql_tree.specs.Tree.{ExprTree, ExprTrees, no_exprs, expr_then, MaybeExpr, no_expr, one_expr}
 use Rattle.aql_tree.specs.Tree.{AggregateTrees, no_aggregates, aggregate_then, IntoTree, no_into, into}
 use Rattle.aql_meaning.specs.Documents.{End, Last, no_last, one_of, between}
-use Rattle.aql_plan.specs.declared.facts.Facts.{Facts}
-use Rattle.aql_plan.specs.Plan.{Plan, Singleton, Over, Node, EnumerateCollection, Index, EnumerateList, Traversal, Calculation, Subquery, Filter, Sort, Limit, Collect, Return, NoResults, Scatter, Distribute, Remote, Gather}
-use Rattle.aql_plan.specs.Needs.{result_uses}
-use Rattle.aql_rewrite_expr.specs.Keeps.{Keeps}
+use Rattle.aql_plan.specs.Plan.{Node, EnumerateCollection, Index, EnumerateList, Traversal, Calculation, Subquery, Filter, Sort, Limit, Collect, Return, NoResults, Scatter, Distribute, Remote, Gather}
 use Rattle.aql_rewrite_expr.specs.Parts.{list_parts, maybe_parts}
 use Rattle.aql_rewrite_expr.specs.OverParts.{first_or, after_first, over_list, over_maybe, after_maybe}
-use Rattle.aql_rewrite_expr.specs.Size.{size, size_all}
 use Rattle.aql_rewrite_expr.specs.View.{each_over}
-use Rattle.aql_rewrite_expr.specs.laws.FirstKept.{first_of_keeps, first_of_smaller}
-use Rattle.aql_rewrite_expr.specs.laws.PartsBack.{each_new}
-use Rattle.aql_rewrite_plan.specs.declared.swap.Rename.{Rename}
 use Rattle.aql_rewrite_plan.specs.NodeExprs.{end_exprs, last_exprs, aggregate_exprs, into_exprs, node_exprs, after_list, over_end, after_end, over_last, after_last, over_aggregates, after_aggregates, over_into, over_exprs}
-use Rattle.aql_rewrite_plan.specs.Places.{renamed_by, First}
-use Rattle.aql_rewrite_plan.specs.Placed.{IsWhole}
-use Rattle.aql_rewrite_plan.specs.laws.Carried.{Relation, first_carried}
-use Rattle.aql_rewrite_plan.specs.laws.PlacedBelow.{whole_placed}
-use Rattle.aql_rewrite_node_exprs.specs.AtExprs.{AtTop, RewritesAtTop, exprs_size, body_size}
 
 -- ---- the expressions of a part over others, with those that come later
 
@@ -79,7 +66,7 @@ into_alone (into x what keep) ps = maybe_alone what ps
 
 -- ---- nodes
 
-exprs_back : (n : Node) (ps : List ExprTree) → node_exprs (over_exprs n ps) ≡ each_over (node_exprs n) ps
+pub exprs_back : (n : Node) (ps : List ExprTree) → node_exprs (over_exprs n ps) ≡ each_over (node_exprs n) ps
 exprs_back (EnumerateCollection x) ps = maybe_alone x.filter ps
 exprs_back (Index x index equal last ordered) ps =
     let qs = after_list equal ps in
@@ -110,43 +97,3 @@ exprs_back (Scatter coll only) ps = refl
 exprs_back (Distribute coll es) ps = list_alone es ps
 exprs_back Remote ps = refl
 exprs_back (Gather directions es) ps = list_alone es ps
-
-same_body : (n : Node) (ps : List ExprTree) → body_size (over_exprs n ps) ≡ body_size n
-same_body (Subquery x s) ps = refl
-same_body n ps = refl
-
--- ---- plans
-
-module _ (R : ExprTree → ExprTree → Type 0) (keeps : (p q : ExprTree) → R p q → Keeps p q)
-    (falls : (p q : ExprTree) → R p q → size q < size p) where
-  at_top_smaller : (p q : Plan) → AtTop R p q → exprs_size q < exprs_size p
-  at_top_smaller Singleton q h = absurd h
-  at_top_smaller (Over b n) q h =
-      let e = ap size_all (exprs_back n h.0
-      ∙ each_new Keeps (node_exprs n) h.0 (first_of_keeps R keeps h.1)) in
-      let l = first_of_smaller R falls h.1 in
-      rw h.2 (omega (arith, e, l, same_body n h.0))
-
-  -- nothing is renamed, and the size falls
-  abbrev Falls : Relation
-  Falls inside outer us p q r = (r ≡ None) × (exprs_size q < exprs_size p)
-
-  falls_over : (b c : Plan) (n : Node) (r : Option Rename) → (r ≡ None) × (exprs_size c < exprs_size b)
-      → (r ≡ None) × (exprs_size (Over c (renamed_by r n)) < exprs_size (Over b n))
-  falls_over b c n None h = (refl, (let l = h.1 in omega (arith, l)))
-  falls_over b c n (Some r) h = cc
-
-  at_top_falls : (p q : Plan) (r : Option Rename) → RewritesAtTop R p q r
-      → (r ≡ None) × (exprs_size q < exprs_size p)
-  at_top_falls p q None h = (refl, at_top_smaller p q h)
-  at_top_falls p q (Some r) h = absurd h
-
-  pub first_smaller : (facts : Facts) (p q : Plan) (r : Option Rename) → IsWhole false facts p
-      → First (λ us p q r. RewritesAtTop R p q r) false result_uses p q r → exprs_size q < exprs_size p
-  first_smaller facts p q r whole h = (first_carried false facts (λ us p q r. RewritesAtTop R p q r) Falls
-      (record {
-        over = λ inside outer away us n b c r placed k. falls_over b c n r k;
-        with = λ outer away us x b s t r placed k. (refl, (let l = k.1 in omega (arith, l)));
-      })
-      (λ outer away us p q r placed k. at_top_falls p q r k) h [] []
-      (whole_placed false facts p whole)).1
