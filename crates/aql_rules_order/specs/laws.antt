@@ -1,0 +1,9 @@
+pub mod Spine
+pub mod Permuted
+pub mod Members
+pub mod RowsPermuted
+pub mod SortsRemoved
+pub mod UsedAlone
+pub mod VariablesDropped
+pub mod SortsLimited
+pub mod SubqueriesInlined

@@ -1,0 +1,13 @@
+//! Rules on sorts, subqueries and what COLLECT sets: each stands in the file of the name that plans print.
+#![tactic(auto)]
+
+mod inline_subqueries;
+mod readers;
+mod remove_collect_variables;
+mod remove_redundant_sorts;
+mod sort_limit;
+
+pub use inline_subqueries::InlineSubqueries;
+pub use remove_collect_variables::RemoveCollectVariables;
+pub use remove_redundant_sorts::RemoveRedundantSorts;
+pub use sort_limit::SortLimit;

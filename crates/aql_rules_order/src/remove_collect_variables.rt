@@ -1,0 +1,165 @@
+//! A variable of INTO or of an aggregate goes where it isn't used.
+
+ghost use Rattle.std.specs.Prelude.{◌≡◌, ◌&&◌, IfOk, map, filter, option_map, option_to_list};
+ghost use Rattle.std.specs.List.{AllByRecursion};
+ghost use Rattle.aql_tree.specs.View.{AggregatePart, aggregate_part, into_part, aggregates as aggregate_trees, into_tree};
+ghost use Rattle.aql_meaning.specs.Numbered.{IsNumber};
+ghost use Rattle.aql_meaning.specs.Visible.{aggregate_vars, into_var};
+ghost use Rattle.aql_rewrite_plan.specs.Swaps.{is_used as spec_is_used};
+ghost use Rattle.aql_rewrite_plan.specs.View.{above_uses};
+ghost use Rattle.aql_rules_order.specs.RemoveCollectVariables.{all_used, used_into};
+
+use aql_copy::{copy_ident, copy_into, copy_lets, copy_maybe};
+use aql_plan::{Facts, Plan, Uses};
+use aql_rewrite_plan::{Rule, Swap, is_used};
+use aql_tree::{AggregateItem, Aggregates, Ident, Into};
+use aql_value::{OutOfMemory, Seq};
+use std::alloc::Global;
+
+// Whether the nodes above use a variable.
+fn is_kept(var: &Ident, above: &[Uses]) -> bool
+    requires { IsNumber var.now }
+    ensures { result ≡ spec_is_used var.now (above_uses above.now) }
+{
+    match var {
+        Ident::Num(n) => is_used(*n, above),
+        Ident::Name(_) => true,
+    }
+}
+
+fn all_kept(all: &[AggregateItem], above: &[Uses]) -> bool
+    requires { AllByRecursion IsNumber
+        (aggregate_vars (aggregate_trees (map aggregate_part all.now))) }
+    ensures { result ≡ all_used (above_uses above.now)
+        (aggregate_vars (aggregate_trees (map aggregate_part all.now))) }
+{
+    for item in all {
+        if !is_kept(&item.var, above) {
+            return false;
+        }
+    }
+    true
+}
+
+fn into_kept(into: &Option<Into>, above: &[Uses]) -> bool
+    requires { AllByRecursion IsNumber
+        (option_to_list (into_var (into_tree (option_map into_part into.now)))) }
+    ensures { result ≡ all_used (above_uses above.now)
+        (option_to_list (into_var (into_tree (option_map into_part into.now)))) }
+{
+    match into {
+        Some(into) => is_kept(&into.var, above),
+        None => true,
+    }
+}
+
+// Whether the nodes above use all of these variables.
+fn are_kept(aggregates: &[AggregateItem], into: &Option<Into>, above: &[Uses]) -> bool
+    requires aggregates { AllByRecursion IsNumber
+        (aggregate_vars (aggregate_trees (map aggregate_part aggregates.now))) }
+    requires into { AllByRecursion IsNumber
+        (option_to_list (into_var (into_tree (option_map into_part into.now)))) }
+    ensures { result ≡ (all_used (above_uses above.now)
+        (aggregate_vars (aggregate_trees (map aggregate_part aggregates.now)))
+        && all_used (above_uses above.now)
+        (option_to_list (into_var (into_tree (option_map into_part into.now))))) }
+{
+    all_kept(aggregates, above) && into_kept(into, above)
+}
+
+// The aggregates whose variables are used.
+fn kept_aggregates(
+    alloc: Global,
+    all: &[AggregateItem],
+    above: &[Uses],
+) -> Result<Aggregates, OutOfMemory>
+    requires { AllByRecursion IsNumber
+        (aggregate_vars (aggregate_trees (map aggregate_part all.now))) }
+    ensures { IfOk result (λ out. map aggregate_part out
+        ≡ filter (λ (a : AggregatePart). spec_is_used a.0 (above_uses above.now))
+        (map aggregate_part all.now)) }
+{
+    let mut out = Seq::new(alloc);
+    for item in all {
+        if is_kept(&item.var, above) {
+            let var = copy_ident(alloc, &item.var)?;
+            let name = item.name.copy(alloc)?;
+            out.push(AggregateItem::new(var, name, copy_maybe(alloc, &item.arg)?))?;
+        }
+    }
+    Ok(out)
+}
+
+// INTO, if its variable is used.
+fn kept_into(
+    alloc: Global,
+    into: &Option<Into>,
+    above: &[Uses],
+) -> Result<Option<Into>, OutOfMemory>
+    requires { AllByRecursion IsNumber
+        (option_to_list (into_var (into_tree (option_map into_part into.now)))) }
+    ensures { IfOk result (λ out. into_tree (option_map into_part out)
+        ≡ used_into (above_uses above.now) (into_tree (option_map into_part into.now))) }
+{
+    if into_kept(into, above) {
+        return copy_into(alloc, into);
+    }
+    Ok(None)
+}
+
+/// The rule remove-collect-variables.
+#[derive(Clone, Copy, Drop)]
+pub struct RemoveCollectVariables;
+
+impl Rule for RemoveCollectVariables {
+    ghost use Rattle.std.specs.Prelude.{false};
+    ghost use Rattle.aql_rules_filter.specs.Measures.{total};
+    ghost use Rattle.aql_rules_order.specs.RemoveCollectVariables.{Drops, vars_to_go};
+    ghost use Rattle.aql_rules_order.specs.laws.VariablesDropped.{drops_refine, drops_keep, drops_fall};
+
+    ghost rewrites = { λ _ _. Drops };
+
+    ghost fragments = { λ _. false };
+
+    ghost measure = { λ _. total vars_to_go };
+
+    fn at(
+        &self,
+        alloc: Global,
+        part: &Plan,
+        above: &[Uses],
+        _facts: &Facts,
+    ) -> Result<Option<Swap>, OutOfMemory> {
+        match part {
+            Plan::Collect {
+                below,
+                groups,
+                aggregates,
+                into,
+                stage,
+            } => {
+                if are_kept(aggregates.as_slice(), into, above) {
+                    return Ok(None);
+                }
+                let below = below.copy(alloc)?;
+                let part = Plan::Collect {
+                    below: Box::new(alloc, below)?,
+                    groups: copy_lets(alloc, groups.as_slice())?,
+                    aggregates: kept_aggregates(alloc, aggregates.as_slice(), above)?,
+                    into: kept_into(alloc, into, above)?,
+                    stage: *stage,
+                };
+                Ok(Some(Swap { part, rename: None }))
+            }
+            _ => Ok(None),
+        }
+    }
+
+    ghost refines = { λ _ facts outer away us p q r placed h.
+        drops_refine facts outer away us p q r placed h };
+
+    ghost keeps = { λ _ facts outer away us p q r placed h.
+        drops_keep facts outer away us p q r placed h };
+
+    ghost falls = { λ _ facts p q r whole h. drops_fall facts p q r whole h };
+}
