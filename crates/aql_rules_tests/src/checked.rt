@@ -6,7 +6,7 @@ ghost use Rattle.aql_rewrite_plan.specs.Placed.{IsWhole};
 
 use crate::lines::{Line, one_collection, plan_of};
 use crate::texts::write_plan;
-use aql_plan::{Facts, Plan};
+use aql_plan::{Facts, Plan, Stage};
 use aql_plan_check::well_formed;
 use aql_rewrite_plan::{Rule, first_place};
 use aql_test_support::Page;
@@ -37,6 +37,11 @@ fn has_no_fragment(plan: &Plan) -> bool
         Plan::Filter { below, .. } => has_no_fragment(below),
         Plan::Sort { below, .. } => has_no_fragment(below),
         Plan::Limit { below, .. } => has_no_fragment(below),
+        Plan::Collect {
+            below,
+            stage: Stage::Whole,
+            ..
+        } => has_no_fragment(below),
         Plan::Return { below, .. } => has_no_fragment(below),
         _ => false,
     }

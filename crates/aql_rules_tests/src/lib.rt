@@ -2,6 +2,8 @@
 #![tactic(auto)]
 
 #[cfg(test)]
+mod calculations;
+#[cfg(test)]
 mod checked;
 #[cfg(test)]
 mod chosen;
@@ -11,6 +13,8 @@ mod conditions;
 mod filters;
 #[cfg(test)]
 mod lines;
+#[cfg(test)]
+mod order;
 #[cfg(test)]
 mod texts;
 #[cfg(test)]

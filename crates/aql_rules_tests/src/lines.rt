@@ -1,8 +1,10 @@
 // Small plans, a line for each node, the lowest first, over one collection of edges.
 use aql_func::BinOp;
-use aql_meaning::{Last, TraversalOptions};
+use aql_meaning::{Last, Stage, TraversalOptions};
 use aql_plan::{CollFact, Facts, IndexFact, IndexKind, Plan};
-use aql_tree::{Direction, Expr, Ident, Key, Link, Step, UniqueEdges, UniqueVertices};
+use aql_tree::{
+    AggregateItem, Direction, Expr, Ident, Into, Key, Let, Link, Step, UniqueEdges, UniqueVertices,
+};
 use aql_value::{CollNo, OutOfMemory, Seq, Text, Value};
 use std::alloc::Global;
 
@@ -11,6 +13,9 @@ pub type Part = (u32, &'static str);
 
 /// A condition: attributes with `&&` between them. No attribute stands for no condition.
 pub type Cond = &'static [Part];
+
+/// A variable with the aggregate of this name over an attribute.
+pub type Aggregated = (u32, &'static str, Part);
 
 /// A node of a plan.
 #[derive(Clone, Copy)]
@@ -25,10 +30,14 @@ pub enum Line {
     Found(u32),
     /// FOR over an array.
     Each(u32, Part),
+    /// FOR over the array that a variable is.
+    EachOf(u32, u32),
     /// FOR over paths: the variables of vertices, edges and paths, PRUNE, and a filter of its own.
     Paths(u32, Option<u32>, Option<u32>, Cond, Cond),
     /// LET of a number.
     Let(u32, i64),
+    /// LET of an attribute.
+    Copy(u32, Part),
     /// LET of a subquery, which filters by a number, sets a variable to 3 and returns it.
     Rows(u32, u32, i64),
     /// FILTER.
@@ -37,10 +46,18 @@ pub enum Line {
     FilterBy(i64),
     /// SORT.
     Sort(Part, Option<u64>),
+    /// SORT by a number.
+    SortBy(i64, Option<u64>),
     /// LIMIT of the first rows.
     Limit(u64),
+    /// LIMIT of rows after some.
+    LimitAfter(u64, u64),
+    /// COLLECT: the variable of the groups, their attribute, aggregates, and INTO of an attribute.
+    Collect(u32, Part, &'static [Aggregated], Option<(u32, Part)>),
     /// RETURN of a variable.
     Return(u32),
+    /// RETURN of an attribute.
+    ReturnPart(Part),
 }
 
 fn names(alloc: Global, name: &str) -> Result<Seq<Text>, OutOfMemory> {
@@ -86,7 +103,7 @@ pub fn one_collection(alloc: Global) -> Result<Facts, OutOfMemory> {
 fn attribute(alloc: Global, part: Part) -> Result<Expr, OutOfMemory> {
     let mut steps = Seq::new(alloc);
     steps.push(Step::Name(Text::new(alloc, part.1)?))?;
-    Expr::access(alloc, Expr::Var(Ident::Num(part.0)), steps)
+    Expr::access(alloc, variable(part.0), steps)
 }
 
 fn chain(alloc: Global, first: Part, rest: &[Part]) -> Result<Expr, OutOfMemory> {
@@ -187,6 +204,11 @@ fn source(alloc: Global, below: Box<Plan>, line: Line) -> Result<Plan, OutOfMemo
             let list = attribute(alloc, list)?;
             Ok(Plan::EnumerateList { below, var, list })
         }
+        Line::EachOf(var, list) => Ok(Plan::EnumerateList {
+            below,
+            var,
+            list: Expr::Var(Ident::Num(list)),
+        }),
         Line::Paths(vertex, edge, path, prune, filter) => {
             let prune = maybe_cond(alloc, prune)?;
             let filter = maybe_cond(alloc, filter)?;
@@ -199,57 +221,106 @@ fn source(alloc: Global, below: Box<Plan>, line: Line) -> Result<Plan, OutOfMemo
 fn sorted(
     alloc: Global,
     below: Box<Plan>,
-    key: Part,
+    key: Expr,
     limit: Option<u64>,
 ) -> Result<Plan, OutOfMemory> {
     let mut keys = Seq::new(alloc);
-    keys.push(Key::new(attribute(alloc, key)?, false))?;
+    keys.push(Key::new(key, false))?;
     Ok(Plan::Sort { below, keys, limit })
+}
+
+fn aggregates(alloc: Global, all: &[Aggregated]) -> Result<Seq<AggregateItem>, OutOfMemory> {
+    let mut items = Seq::new(alloc);
+    for (var, name, part) in all {
+        let name = Text::new(alloc, name)?;
+        let arg = Some(attribute(alloc, *part)?);
+        items.push(AggregateItem::new(Ident::Num(*var), name, arg))?;
+    }
+    Ok(items)
+}
+
+fn maybe_into(alloc: Global, into: Option<(u32, Part)>) -> Result<Option<Into>, OutOfMemory> {
+    match into {
+        Some((var, part)) => {
+            let what = Some(attribute(alloc, part)?);
+            Ok(Some(Into::new(Ident::Num(var), what, Seq::new(alloc))))
+        }
+        None => Ok(None),
+    }
+}
+
+fn collected(
+    alloc: Global,
+    below: Box<Plan>,
+    group: (u32, Part),
+    all: &[Aggregated],
+    into: Option<(u32, Part)>,
+) -> Result<Plan, OutOfMemory> {
+    let mut groups = Seq::new(alloc);
+    groups.push(Let::new(Ident::Num(group.0), attribute(alloc, group.1)?))?;
+    let aggregates = aggregates(alloc, all)?;
+    let into = maybe_into(alloc, into)?;
+    Ok(Plan::Collect {
+        below,
+        groups,
+        aggregates,
+        into,
+        stage: Stage::Whole,
+    })
 }
 
 fn filter(below: Box<Plan>, cond: Expr) -> Plan {
     Plan::Filter { below, cond }
 }
 
-fn calculation(below: Box<Plan>, var: u32, n: i64) -> Plan {
-    Plan::Calculation {
+fn calculation(below: Box<Plan>, var: u32, expr: Expr) -> Plan {
+    Plan::Calculation { below, var, expr }
+}
+
+fn result(below: Box<Plan>, expr: Expr) -> Plan {
+    Plan::Return {
         below,
-        var,
-        expr: number(n),
+        expr,
+        distinct: false,
     }
 }
 
-fn result(below: Box<Plan>, var: u32) -> Plan {
-    Plan::Return {
-        below,
-        expr: Expr::Var(Ident::Num(var)),
-        distinct: false,
-    }
+fn variable(var: u32) -> Expr {
+    Expr::Var(Ident::Num(var))
 }
 
 fn body(alloc: Global, var: u32, n: i64) -> Result<Plan, OutOfMemory> {
     let start = Box::new(alloc, Plan::Singleton)?;
     let filtered = Box::new(alloc, filter(start, number(n)))?;
-    let set = Box::new(alloc, calculation(filtered, var, 3))?;
-    Ok(result(set, var))
+    let set = Box::new(alloc, calculation(filtered, var, number(3)))?;
+    Ok(result(set, variable(var)))
 }
 
 fn node(alloc: Global, below: Box<Plan>, line: Line) -> Result<Plan, OutOfMemory> {
     match line {
-        Line::Let(var, n) => Ok(calculation(below, var, n)),
+        Line::Let(var, n) => Ok(calculation(below, var, number(n))),
+        Line::Copy(var, part) => Ok(calculation(below, var, attribute(alloc, part)?)),
         Line::Rows(var, inner, n) => {
             let body = Box::new(alloc, body(alloc, inner, n)?)?;
             Ok(Plan::Subquery { below, var, body })
         }
         Line::Filter(parts) => Ok(filter(below, cond(alloc, parts)?)),
         Line::FilterBy(n) => Ok(filter(below, number(n))),
-        Line::Sort(key, limit) => sorted(alloc, below, key, limit),
+        Line::Sort(key, limit) => sorted(alloc, below, attribute(alloc, key)?, limit),
+        Line::SortBy(n, limit) => sorted(alloc, below, number(n), limit),
         Line::Limit(count) => Ok(Plan::Limit {
             below,
             offset: 0,
             count,
         }),
-        Line::Return(var) => Ok(result(below, var)),
+        Line::LimitAfter(offset, count) => Ok(Plan::Limit {
+            below,
+            offset,
+            count,
+        }),
+        Line::Collect(var, part, all, into) => collected(alloc, below, (var, part), all, into),
+        Line::Return(var) => Ok(result(below, variable(var))),
+        Line::ReturnPart(part) => Ok(result(below, attribute(alloc, part)?)),
         _ => source(alloc, below, line),
     }
 }

@@ -1,7 +1,8 @@
 // Plans as texts: a word or two for each node, the lowest first, between slashes.
 use aql_plan::Plan;
 use aql_test_support::{Notation, Page, write_expr};
-use aql_tree::{Expr, Key};
+use aql_tree::{AggregateItem, Expr, Ident, Into, Key, Let};
+use aql_value::Names;
 
 fn write(before: &str, expr: &Expr, page: &mut Page) {
     write_expr(before, expr, Notation::Spelled, page);
@@ -38,6 +39,52 @@ fn write_limit(limit: &Option<u64>, page: &mut Page) {
     }
 }
 
+fn write_attrs(attrs: &Option<Names>, page: &mut Page) {
+    if let Some(attrs) = attrs {
+        page.put(" cut");
+        for name in attrs.as_slice() {
+            page.put_pair(" ", name.as_str());
+        }
+    }
+}
+
+fn write_skipped(offset: u64, page: &mut Page) {
+    if offset > 0 {
+        page.put_shown(&offset);
+        page.put(", ");
+    }
+}
+
+fn write_ident(before: &str, ident: &Ident, page: &mut Page) {
+    match ident {
+        Ident::Num(var) => write_var(before, *var, page),
+        Ident::Name(_) => page.put("?"),
+    }
+}
+
+fn write_groups(groups: &[Let], page: &mut Page) {
+    page.put(" / collect");
+    for group in groups {
+        write_ident(" ", &group.var, page);
+        write(" = ", &group.expr, page);
+    }
+}
+
+fn write_aggregates(all: &[AggregateItem], page: &mut Page) {
+    for item in all {
+        write_ident(" ", &item.var, page);
+        page.put_pair(" = ", item.name.as_str());
+        write_maybe(" ", &item.arg, page);
+    }
+}
+
+fn write_into(into: &Option<Into>, page: &mut Page) {
+    if let Some(into) = into {
+        write_ident(" into ", &into.var, page);
+        write_maybe(" = ", &into.what, page);
+    }
+}
+
 fn write_walked(vertex: u32, edge: Option<u32>, path: Option<u32>, page: &mut Page) {
     write_var(" / paths ", vertex, page);
     write_maybe_var(" edge ", edge, page);
@@ -58,17 +105,19 @@ fn write_source(plan: &Plan, page: &mut Page) {
             write_plan(below, page);
             write_var(" / docs ", *var, page);
             write_maybe(" if ", filter, page);
-            page.put(if attrs.is_some() { " cut" } else { "" });
+            write_attrs(attrs, page);
         }
         Plan::Index {
             below,
             var,
             filter,
+            attrs,
             ..
         } => {
             write_plan(below, page);
             write_var(" / found ", *var, page);
             write_maybe(" if ", filter, page);
+            write_attrs(attrs, page);
         }
         Plan::EnumerateList { below, var, list } => {
             write_plan(below, page);
@@ -127,10 +176,27 @@ pub fn write_plan(plan: &Plan, page: &mut Page) {
             write_keys(keys.as_slice(), page);
             write_limit(limit, page);
         }
-        Plan::Limit { below, count, .. } => {
+        Plan::Limit {
+            below,
+            offset,
+            count,
+        } => {
             write_plan(below, page);
             page.put(" / limit ");
+            write_skipped(*offset, page);
             page.put_shown(count);
+        }
+        Plan::Collect {
+            below,
+            groups,
+            aggregates,
+            into,
+            ..
+        } => {
+            write_plan(below, page);
+            write_groups(groups.as_slice(), page);
+            write_aggregates(aggregates.as_slice(), page);
+            write_into(into, page);
         }
         Plan::Return { below, expr, .. } => {
             write_plan(below, page);
