@@ -1,7 +1,7 @@
 -- The operator of a node that has an executor; and what is asked of the variables of a COLLECT.
 use Rattle.std.specs.List.{AllByRecursion}
 use Rattle.aql_meaning.specs.Numbered.{IsNumber}
-use Rattle.aql_plan.specs.Plan.{Plan, Singleton, Over, Node, Subquery, Collect, NoResults}
+use Rattle.aql_plan.specs.Plan.{Plan, Singleton, Over, Node, Traversal, Subquery, Collect, NoResults}
 use Rattle.aql_plan.specs.Needs.{sets}
 use Rattle.aql_exec.specs.Operators.{Operator, NoRows, OnRows, WithBody}
 
@@ -9,6 +9,10 @@ abbrev pub operator_of : Node → Operator
 operator_of NoResults = NoRows
 operator_of (Subquery x body) = WithBody x
 operator_of n = OnRows n
+
+abbrev pub IsTraversal : Node → Type 0
+IsTraversal (Traversal shape e colls prune keep) = Unit {0}
+IsTraversal n = ⊥
 
 abbrev mutual
   -- what each COLLECT of a plan sets are numbers, also in bodies

@@ -6,24 +6,26 @@ ghost use Rattle.aql_plan.specs.Plan as spec;
 ghost use Rattle.aql_plan.specs.Fits.{Fits};
 ghost use Rattle.aql_plan.specs.View.{plan_tree};
 ghost use Rattle.aql_exec.specs.Operators.{within};
+ghost use Rattle.aql_exec_graph.specs.Searches as graph;
 ghost use Rattle.aql_exec_plan.specs.EachFits.{EachFits};
 ghost use Rattle.aql_exec_plan.specs.OperatorsOf.{operators_of, on_top};
 ghost use Rattle.aql_exec_plan.specs.Runnable.{HasExecutors, HasExecutor};
-ghost use Rattle.aql_engine.specs.Building.{operator_of, SetsNumbers, NodeSetsNumbers};
+ghost use Rattle.aql_engine.specs.Building.{operator_of, IsTraversal, SetsNumbers, NodeSetsNumbers};
 
 use crate::nodes::{
     NodeExecutor, calculation, collect, distinct_results, enumerate_collection, enumerate_list,
-    filter, limit, no_results, results, sort, start_row, subquery,
+    filter, limit, no_results, results, sort, start_row, subquery, traversal,
 };
 use crate::world::World;
 use aql_copy::{
     copy_aggregates, copy_expr, copy_into, copy_keys, copy_lets, copy_maybe, copy_texts,
 };
 use aql_exec::{Executor, Feed};
+use aql_exec_graph::Search;
 use aql_exec_scan::Reading;
 use aql_exec_tree::Tree;
 use aql_plan::Plan;
-use aql_value::{Names, OutOfMemory};
+use aql_value::{CollNo, CollNos, Names, OutOfMemory, Seq};
 use std::alloc::Global;
 
 /// The executors of a plan as one tree.
@@ -44,6 +46,7 @@ pub fn tree_of(alloc: Global, plan: &Plan) -> Result<Tree<NodeExecutor>, OutOfMe
         }
         Plan::EnumerateCollection { below, .. } => over(alloc, plan, tree_of(alloc, below)?),
         Plan::EnumerateList { below, .. } => over(alloc, plan, tree_of(alloc, below)?),
+        Plan::Traversal { below, .. } => over(alloc, plan, tree_of(alloc, below)?),
         Plan::Calculation { below, .. } => over(alloc, plan, tree_of(alloc, below)?),
         Plan::Filter { below, .. } => over(alloc, plan, tree_of(alloc, below)?),
         Plan::Sort { below, .. } => over(alloc, plan, tree_of(alloc, below)?),
@@ -117,6 +120,7 @@ fn executor_of(alloc: Global, plan: &Plan) -> Result<NodeExecutor, OutOfMemory>
         Plan::EnumerateList { var, list, .. } => {
             Ok(enumerate_list(alloc, *var, copy_expr(alloc, list)?))
         }
+        Plan::Traversal { .. } => Ok(traversal(alloc, search_of(alloc, plan)?)),
         Plan::Calculation { var, expr, .. } => {
             Ok(calculation(alloc, *var, copy_expr(alloc, expr)?))
         }
@@ -145,6 +149,54 @@ fn executor_of(alloc: Global, plan: &Plan) -> Result<NodeExecutor, OutOfMemory>
         }
         _ => unreachable!(),
     }
+}
+
+// What the traversal at the top of a plan is told.
+fn search_of(alloc: Global, plan: &Plan) -> Result<Search, OutOfMemory>
+    requires traversal { IsTraversal (spec.top (plan_tree plan.now)) }
+    ensures { IfOk result (λ s. graph.node_of s ≡ spec.top (plan_tree plan.now)) }
+{
+    match plan {
+        Plan::Traversal {
+            vertex,
+            edge,
+            path,
+            min,
+            max,
+            direction,
+            start,
+            collections,
+            prune,
+            options,
+            filter,
+            ..
+        } => Ok(Search {
+            vertex: *vertex,
+            edge: *edge,
+            path: *path,
+            min: *min,
+            max: *max,
+            direction: *direction,
+            unique_edges: options.edges,
+            unique_vertices: options.vertices,
+            bfs: options.bfs,
+            start: copy_expr(alloc, start)?,
+            collections: copy_colls(alloc, collections.as_slice())?,
+            prune: copy_maybe(alloc, prune)?,
+            filter: copy_maybe(alloc, filter)?,
+        }),
+        _ => unreachable!(),
+    }
+}
+
+fn copy_colls(alloc: Global, colls: &[CollNo]) -> Result<CollNos, OutOfMemory>
+    ensures { IfOk result (λ out. out ≡ colls.now) }
+{
+    let mut out = Seq::new(alloc);
+    for coll in colls {
+        out.push(*coll)?;
+    }
+    Ok(out)
 }
 
 fn copy_attrs(alloc: Global, attrs: &Option<Names>) -> Result<Option<Names>, OutOfMemory>

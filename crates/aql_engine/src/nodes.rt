@@ -10,6 +10,7 @@ ghost use Rattle.aql_plan.specs.Plan as plan;
 ghost use Rattle.aql_plan.specs.View.{directions, key_trees};
 ghost use Rattle.aql_exec.specs.Operators.{StartRow, NoRows, OnRows, WithBody};
 ghost use Rattle.aql_exec_collect.specs.Told.{node_of};
+ghost use Rattle.aql_exec_graph.specs.Searches as graph;
 ghost use Rattle.aql_exec_scan.specs.Scans as scans;
 
 use crate::world::World;
@@ -18,6 +19,7 @@ use aql_exec::{
     Results, Return, ReturnDistinct, Singleton, Stream,
 };
 use aql_exec_collect::Collect;
+use aql_exec_graph::{Paths, Search, Traversal};
 use aql_exec_nodes::Choice;
 use aql_exec_rows::{Order, Sort, Subquery};
 use aql_exec_scan::{Documents, Elements, EnumerateCollection, EnumerateList, Reading};
@@ -31,7 +33,7 @@ type Leaf = Choice<Singleton, NoResults>;
 type RowWise = Choice<Choice<Calculation, Return>, Choice<Filter, Limit>>;
 
 /// Those that give several rows for one.
-type Enumeration = Choice<EnumerateList, EnumerateCollection>;
+type Enumeration = Choice<Choice<EnumerateList, EnumerateCollection>, Traversal>;
 
 /// Those that hold rows, or what they need of them.
 type Holder = Choice<Choice<Sort, Subquery>, Choice<Collect, ReturnDistinct>>;
@@ -58,6 +60,13 @@ fn holder(executor: Holder) -> NodeExecutor
         ≡ ⟦<Holder as Executor<World>>⟧.node executor }
 {
     AsWired::new(Choice::Second(Choice::Second(executor)))
+}
+
+fn enumeration(executor: Enumeration) -> NodeExecutor
+    ensures { ⟦<NodeExecutor as Executor<World>>⟧.node result
+        ≡ ⟦<Enumeration as Executor<World>>⟧.node executor }
+{
+    AsWired::new(Choice::Second(Choice::First(executor)))
 }
 
 fn row_wise(executor: RowWise) -> NodeExecutor
@@ -109,7 +118,7 @@ pub fn enumerate_list(alloc: Global, var: u32, list: Expr) -> NodeExecutor
         ≡ OnRows (plan.EnumerateList (Num var) (tree list)) }
 {
     let executor = Stream::new(Elements::new(alloc, var, list));
-    AsWired::new(Choice::Second(Choice::First(Choice::First(executor))))
+    enumeration(Choice::First(Choice::First(executor)))
 }
 
 /// FOR over a collection.
@@ -118,7 +127,14 @@ pub fn enumerate_collection(alloc: Global, reading: Reading) -> NodeExecutor
         ≡ OnRows (plan.EnumerateCollection (scans.reading reading)) }
 {
     let executor = Stream::new(Documents::new(alloc, reading));
-    AsWired::new(Choice::Second(Choice::First(Choice::Second(executor))))
+    enumeration(Choice::First(Choice::Second(executor)))
+}
+
+/// A traversal.
+pub fn traversal(alloc: Global, search: Search) -> NodeExecutor
+    ensures { ⟦<NodeExecutor as Executor<World>>⟧.node result ≡ OnRows (graph.node_of search) }
+{
+    enumeration(Choice::Second(Stream::new(Paths::new(alloc, search))))
 }
 
 /// SORT.

@@ -8,9 +8,12 @@ ghost use Rattle.aql_engine.specs.Worlds.{messages_on};
 
 use aql_block::Tally;
 use aql_exec::{Delivered, Mail, Message, Place};
+use aql_exec_graph::{EdgeList, Neighbours};
 use aql_exec_scan::Shelf;
+use aql_lookups::{document_of, edges_at};
 use aql_shard::Servers;
-use aql_value::{CollNo, Value};
+use aql_tree::Direction;
+use aql_value::{CollNo, CollNos, OutOfMemory, Text, Value};
 use std::alloc::Global;
 
 /// A message on its link.
@@ -117,5 +120,27 @@ impl Shelf for World {
 
     fn full(&mut self, coll: CollNo, shard: Option<u32>, place: u64, tally: &mut Tally) -> &Value {
         self.servers.full(coll, shard, place, tally)
+    }
+}
+
+impl Neighbours for World {
+    fn edges(
+        &mut self,
+        alloc: Global,
+        id: &Text,
+        direction: Direction,
+        collections: &CollNos,
+        tally: &mut Tally,
+    ) -> Result<EdgeList, OutOfMemory> {
+        edges_at(alloc, &mut self.servers, id, direction, collections, tally)
+    }
+
+    fn vertex(
+        &mut self,
+        alloc: Global,
+        id: &Text,
+        tally: &mut Tally,
+    ) -> Result<Value, OutOfMemory> {
+        document_of(alloc, &mut self.servers, id, tally)
     }
 }

@@ -1,5 +1,5 @@
--- Which plans have an executor for each node today, a line for each node: none is written yet for traversals,
--- indexes, fragments and links.
+-- Which plans have an executor for each node today, a line for each node: none is written yet for indexes,
+-- fragments and links.
 use Rattle.aql_meaning.specs.declared.grouping.Stage.TheVariants as stage
 use Rattle.aql_plan.specs.Plan.{Plan, Singleton, Over, Node, EnumerateCollection, Index, EnumerateList, Traversal, Calculation, Subquery, Filter, Sort, Limit, Collect, Return, NoResults, Scatter, Distribute, Remote, Gather}
 
@@ -12,7 +12,7 @@ abbrev mutual
   HasExecutor (EnumerateCollection x) = Unit {0}
   HasExecutor (Index x index equal last ordered) = ⊥
   HasExecutor (EnumerateList x e) = Unit {0}
-  HasExecutor (Traversal shape e colls prune keep) = ⊥
+  HasExecutor (Traversal shape e colls prune keep) = Unit {0}
   HasExecutor (Calculation x e) = Unit {0}
   HasExecutor (Subquery x body) = HasExecutors body
   HasExecutor (Filter e) = Unit {0}

@@ -15,6 +15,7 @@ pub fn has_executors(plan: &Plan) -> bool
         Plan::Singleton => true,
         Plan::EnumerateCollection { below, .. } => has_executors(below),
         Plan::EnumerateList { below, .. } => has_executors(below),
+        Plan::Traversal { below, .. } => has_executors(below),
         Plan::Calculation { below, .. } => has_executors(below),
         Plan::Subquery { below, body, .. } => has_executors(below) && has_executors(body),
         Plan::Filter { below, .. } => has_executors(below),
@@ -27,7 +28,6 @@ pub fn has_executors(plan: &Plan) -> bool
         Plan::Return { below, .. } => has_executors(below),
         Plan::NoResults { below } => has_executors(below),
         Plan::Index { .. }
-        | Plan::Traversal { .. }
         | Plan::Scatter { .. }
         | Plan::Distribute { .. }
         | Plan::Remote { .. }

@@ -8,7 +8,7 @@ ghost use Rattle.aql_rewrite_plan.specs.Swaps.{SetsNoMore};
 ghost use Rattle.aql_optimise.specs.Passes.{IsPassOf};
 
 use aql_plan::{Facts, Passed, Plan, RuleName};
-use aql_rewrite_node_exprs::AtExprs;
+use aql_rewrite_node_exprs::run_expr_pass;
 use aql_rewrite_plan::run_pass;
 use aql_rules_calc::{
     MoveCalculationsUp, ReduceExtractionToProjection, RemoveRedundantCalculations,
@@ -19,6 +19,7 @@ use aql_rules_filter::{
     FuseFilters, MoveFiltersIntoEnumerate, MoveFiltersUp, OptimizeTraversals,
     RemoveUnnecessaryFilters,
 };
+use aql_rules_order::{InlineSubqueries, RemoveCollectVariables, RemoveRedundantSorts, SortLimit};
 use aql_value::OutOfMemory;
 use std::alloc::Global;
 
@@ -37,12 +38,8 @@ pub(crate) fn pass_of(
     ensures sets { IfOk result (λ x. SetsNoMore (plan_tree plan) (plan_tree x.plan)) }
 {
     match rule {
-        RuleName::SimplifyConditions => {
-            let rule = AtExprs {
-                rule: SimplifyConditions,
-            };
-            run_pass(alloc, &rule, plan, facts)
-        }
+        RuleName::SimplifyConditions => run_expr_pass(alloc, &SimplifyConditions, plan, facts),
+        RuleName::InlineSubqueries => run_pass(alloc, &InlineSubqueries, plan, facts),
         RuleName::MoveCalculationsUp => run_pass(alloc, &MoveCalculationsUp, plan, facts),
         RuleName::MoveFiltersUp => run_pass(alloc, &MoveFiltersUp, plan, facts),
         RuleName::RemoveRedundantCalculations => {
@@ -54,14 +51,12 @@ pub(crate) fn pass_of(
         RuleName::RemoveUnnecessaryCalculations => {
             run_pass(alloc, &RemoveUnnecessaryCalculations, plan, facts)
         }
-        RuleName::ReplaceOrWithIn => {
-            let rule = AtExprs {
-                rule: ReplaceOrWithIn,
-            };
-            run_pass(alloc, &rule, plan, facts)
-        }
+        RuleName::RemoveRedundantSorts => run_pass(alloc, &RemoveRedundantSorts, plan, facts),
+        RuleName::RemoveCollectVariables => run_pass(alloc, &RemoveCollectVariables, plan, facts),
+        RuleName::ReplaceOrWithIn => run_expr_pass(alloc, &ReplaceOrWithIn, plan, facts),
         RuleName::FuseFilters => run_pass(alloc, &FuseFilters, plan, facts),
         RuleName::OptimizeTraversals => run_pass(alloc, &OptimizeTraversals, plan, facts),
+        RuleName::SortLimit => run_pass(alloc, &SortLimit, plan, facts),
         RuleName::MoveFiltersIntoEnumerate => {
             run_pass(alloc, &MoveFiltersIntoEnumerate, plan, facts)
         }

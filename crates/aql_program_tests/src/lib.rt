@@ -17,3 +17,5 @@ mod scripts;
 mod shell;
 #[cfg(test)]
 mod streams;
+#[cfg(test)]
+mod traversals;

@@ -84,7 +84,7 @@ fn gives(
     );
 }
 
-fn prints(rt: &impl Abort, alloc: Global, script: &str, text: &str) {
+pub(crate) fn prints(rt: &impl Abort, alloc: Global, script: &str, text: &str) {
     gives(rt, alloc, script.as_bytes(), &SOUND, 0, text.as_bytes(), "");
 }
 
@@ -107,7 +107,7 @@ fn script_of(alloc: Global, lines: &str, query: &str) -> Page {
 }
 
 // A text between two others.
-fn around(alloc: Global, before: &str, text: &str, after: &str) -> Page {
+pub(crate) fn around(alloc: Global, before: &str, text: &str, after: &str) -> Page {
     let mut page = Page::new(alloc);
     page.put_pair(before, text);
     page.put(after);
@@ -131,7 +131,7 @@ fn nested(alloc: Global, depth: usize, inner: &str) -> Page {
 }
 
 // A first line, and as many others, each with its number within it, and what follows them.
-fn numbered(alloc: Global, first: &str, other: &str, count: usize, ends: &str) -> Page {
+pub(crate) fn numbered(alloc: Global, first: &str, other: &str, count: usize, ends: &str) -> Page {
     let mut script = Page::new(alloc);
     script.put(first);
     for number in 1..=count {
@@ -512,21 +512,6 @@ fn refuses_beyond_limits(rt: HostRuntime) {
     is_refused(&rt, alloc, query.as_str(), 5, "limit: nesting");
     for (query, status, line) in &DEPTHS {
         is_refused(&rt, alloc, query, *status, line);
-    }
-}
-
-static OTHER_FORMS: [&str; 4] = [
-    "FOR v IN OUTBOUND 'c/a' e RETURN v",
-    "FOR v IN ANY 'c/a' e COLLECT y = v.a RETURN y",
-    "LET a = (FOR x IN c FOR v IN INBOUND x e RETURN DISTINCT v) RETURN a",
-    "FOR x IN c FILTER LENGTH((FOR v IN OUTBOUND x e RETURN v)) > 1 RETURN x",
-];
-
-#[test]
-fn runs_no_other_form(rt: HostRuntime) {
-    let alloc = rt.alloc();
-    for query in &OTHER_FORMS {
-        is_refused(&rt, alloc, query, 9, "not yet");
     }
 }
 

@@ -1,6 +1,5 @@
--- The query of a loaded script: its first plan, whether it is of the form that runs, and what the values of
--- the plan are.
-use Rattle.std.proofs.Common.{arith, ◌≡◌, ◌⊎◌, ◌<◌, ◌≤◌, ◌^◌, inl, inr, ℕ, List, [], ◌∷◌, ◌++◌, Bool, true, false, Option, Some, length, refl, sym, ap, ◌∙◌, subst}
+-- The query of a loaded script: its first plan, and what the values of the plan are.
+use Rattle.std.proofs.Common.{arith, ◌≡◌, ◌⊎◌, ◌<◌, ◌≤◌, ◌^◌, inl, inr, ℕ, List, [], ◌∷◌, ◌++◌, Option, Some, length, refl, sym, ap, ◌∙◌, subst}
 use Rattle.std.specs.Prelude.{slice_get}
 use Rattle.aql_value.specs.Datum as value
 use Rattle.aql_value.specs.Database.{Database}
@@ -39,37 +38,28 @@ use Rattle.aql_engine.specs.Engine.{CanRun, Adds}
 use Rattle.aql_front.specs.declared.faults.QueryFault.{QueryFault}
 use Rattle.aql_front.specs.declared.faults.QueryFault.TheVariants.{TooLong, Lexical, TooDeep, TooManyClauses, NotInGrammar, TraversalTooDeep, Scope, Memory}
 use Rattle.aql_front.specs.Reading.{IsWritten, IsScoped, Refuses}
-use Rattle.aql_top.specs.Forms.{runs, ReadsAs, Answers, answer_text}
+use Rattle.aql_top.specs.Forms.{HasQuery, Answers, answer_text}
 use Rattle.aql_top.specs.Entries.{IsChosenPlan, AddsChosen}
 use Rattle.aql_top.specs.Faults.{of_query, HasNoLines}
-use Rattle.aql_top.proofs.Executors.{query_runs, has_executors}
+use Rattle.aql_top.proofs.Executors.{first_has}
 
 pub is_lifted : (held : List Held) (text : List ℕ) (tree : QueryTree) (names : List (List ℕ))
     → IsScoped held text tree names → IsLifted tree
 is_lifted held text tree names s = subst IsLifted (sym s.lifted) (scoped_is_lifted [] 1 s.spelled)
 
-is_false : (b : Bool) → (b ≡ true → ⊥) → b ≡ false
-is_false true n = absurd (n refl)
-is_false false n = refl
-
 -- the scoped query of a loaded script, with its first plan by facts that are true of the collections
 module _ (loaded : Loaded) (tree : QueryTree) (names : List (List ℕ))
     (s : IsScoped loaded.catalog loaded.query tree names) (facts : Facts) (plan : spec.Plan)
     (first : plan ≡ first_plan facts tree) where
-  form : (b : Bool) → runs tree ≡ b → ReadsAs loaded b
-  form b e = record {
+  pub has_query : HasQuery loaded
+  has_query = record {
     query = s.spelled;
     is_written = s.is_written;
     no_fault = s.no_fault;
-    form_is = ap runs (sym s.lifted) ∙ e;
   }
 
-  pub reads_as : HasExecutors plan → ReadsAs loaded true
-  reads_as h = form true (query_runs facts tree (subst HasExecutors first h))
-
-  pub other_form : (HasExecutors plan → ⊥) → ReadsAs loaded false
-  other_form n = form false
-      (is_false (runs tree) (λ r. n (subst HasExecutors (sym first) (has_executors facts tree r))))
+  pub executors : HasExecutors plan
+  executors = subst HasExecutors (sym first) (first_has facts tree)
 
   pub plan_answers : Meets facts (database loaded.catalog) → facts ≡ facts_of 0 loaded.catalog
       → ((q : QueryTree) → IsWritten loaded.query q → (db : Database) (out : List value.Datum)

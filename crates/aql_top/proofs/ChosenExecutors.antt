@@ -14,6 +14,7 @@ use Rattle.aql_exec_plan.specs.Runnable.{HasExecutors, HasExecutor}
 use Rattle.aql_rewrite_plan.specs.declared.swap.Rename.{Rename}
 use Rattle.aql_rewrite_plan.specs.NodeExprs.{over_exprs}
 use Rattle.aql_rewrite_plan.specs.Places.{Rewriting, First, below, here, body, Reaches, at_once, next, IsPass, renamed_by}
+use Rattle.aql_rewrite_node_exprs.specs.AtExprs.{AtExprs}
 use Rattle.aql_rules_calc.specs.MoveCalculationsUp.{Moves, swapped as calculation_moved}
 use Rattle.aql_rules_calc.specs.ReduceExtractionToProjection.{Reduces, enumeration, by_index}
 use Rattle.aql_rules_calc.specs.RemoveRedundantCalculations.{Redundant, calculated_twice}
@@ -22,11 +23,15 @@ use Rattle.aql_rules_filter.specs.MoveFiltersUp.{MovesUp, swapped}
 use Rattle.aql_rules_filter.specs.RemoveUnnecessaryFilters.{Removes, passing, failing}
 use Rattle.aql_rules_filter.specs.FuseFilters.{Fuses, fused}
 use Rattle.aql_rules_filter.specs.OptimizeTraversals.{Optimizes, edge_goes, path_goes, filter_goes_in}
+use Rattle.aql_rules_order.specs.InlineSubqueries.{started_from, Inlines, inlined}
+use Rattle.aql_rules_order.specs.RemoveCollectVariables.{Drops, unused_go}
+use Rattle.aql_rules_order.specs.RemoveRedundantSorts.{WithoutSort, Unsorts, constant_keys, order_lost}
+use Rattle.aql_rules_order.specs.SortLimit.{Limited, Limits, limited}
 use Rattle.aql_rules_filter.specs.MoveFiltersIntoEnumerate.{MovesIn, into_enumerate, into_index}
 use Rattle.aql_opt.specs.declared.rule_sets.Rules.{Rules}
 use Rattle.aql_rules_conditions.specs.SimplifyConditions.{Simplifies}
 use Rattle.aql_rules_conditions.specs.ReplaceOrWithIn.{Replaces}
-use Rattle.aql_optimise.specs.Passes.{AtExprs, IsPassOf}
+use Rattle.aql_optimise.specs.Passes.{IsPassOf}
 use Rattle.aql_optimise.specs.Chosen.{RunsRule, switched_off, unchanged, changed, AfterRules, at_first, and_then, Chosen, all_rules}
 
 -- ---- other expressions, and other names
@@ -47,7 +52,7 @@ node_over : (n : Node) (es : List ExprTree) → HasExecutor n → HasExecutor (o
 node_over (EnumerateCollection x) es h = tt
 node_over (Index x index equal last ordered) es h = absurd h
 node_over (EnumerateList x e) es h = tt
-node_over (Traversal shape e colls prune keep) es h = absurd h
+node_over (Traversal shape e colls prune keep) es h = tt
 node_over (Calculation x e) es h = tt
 node_over (Filter e) es h = tt
 node_over (Sort directions keys n) es h = tt
@@ -88,6 +93,13 @@ exprs_kept R us (Over b n) q None a h =
     subst HasExecutors (sym a.2) (h.0, node_over n a.0 h.1)
 exprs_kept R us (Over b n) q (Some r) a h = absurd a
 
+started_has : (p b : Plan) → HasExecutors p → HasExecutors b → HasExecutors (started_from p b)
+started_has p Singleton h k = h
+started_has p (Over b n) h k = (started_has p b h k.0, k.1)
+
+inlined_kept : Keeping Inlines
+inlined_kept us p q r (inlined unused single without) h = (started_has _ _ h.0.0 h.0.1.0, tt)
+
 moved_kept : Keeping Moves
 moved_kept us p q r (calculation_moved may unused) h = ((h.0.0, h.1), h.0.1)
 
@@ -103,9 +115,9 @@ reduced_kept facts us p q r (enumeration may) h = (h.0, tt)
 reduced_kept facts us p q r (by_index may) h = absurd h.1
 
 optimized_kept : Keeping Optimizes
-optimized_kept us p q r (edge_goes w unused other) h = absurd h.1
-optimized_kept us p q r (path_goes w gone unused other) h = absurd h.1
-optimized_kept us p q r (filter_goes_in unused) h = absurd h.0.1
+optimized_kept us p q r (edge_goes w unused other) h = h
+optimized_kept us p q r (path_goes w gone unused other) h = h
+optimized_kept us p q r (filter_goes_in unused) h = h.0
 
 up_kept : Keeping MovesUp
 up_kept us p q r (swapped may unused) h = ((h.0.0, tt), h.0.1)
@@ -121,18 +133,42 @@ in_kept : Keeping MovesIn
 in_kept us p q r (into_enumerate whole) h = (h.0.0, tt)
 in_kept us p q r (into_index whole) h = absurd h.0.1
 
+without_sort_kept : (b c : Plan) → WithoutSort b c → HasExecutors b → HasExecutors c
+without_sort_kept _ _ (WithoutSort.here) h = h.0
+without_sort_kept _ _ (WithoutSort.below by_row w) h = (without_sort_kept _ _ w h.0, h.1)
+
+unsorted_kept : Keeping Unsorts
+unsorted_kept us p q r (constant_keys idle) h = h.0
+unsorted_kept us p q r (order_lost ignores sorted w) h = (without_sort_kept _ _ w h.0, h.1)
+
+dropped_kept : Keeping Drops
+dropped_kept us p q r (unused_go {s = stage.Whole} unused) h = (h.0, tt)
+dropped_kept us p q r (unused_go {s = stage.Partial} unused) h = absurd h.1
+dropped_kept us p q r (unused_go {s = stage.Final} unused) h = absurd h.1
+
+limits_kept : (most : ℕ) (b c : Plan) → Limited most b c → HasExecutors b → HasExecutors c
+limits_kept most _ _ Limited.here h = (h.0, tt)
+limits_kept most _ _ (Limited.below sets l) h = (limits_kept most _ _ l h.0, h.1)
+
+limited_kept : Keeping Limits
+limited_kept us p q r (limited l) h = (limits_kept _ _ _ l h.0, tt)
+
 pass_kept : (r : RuleName) (facts : Facts) (p q : Plan) (b : Bool) → IsPassOf r facts p q b
     → HasExecutors p → HasExecutors q
 pass_kept rule.SimplifyConditions facts p q b i h =
     reached_kept (AtExprs Simplifies) (exprs_kept Simplifies) p q b i.reached h
 pass_kept rule.ReplaceOrWithIn facts p q b i h =
     reached_kept (AtExprs Replaces) (exprs_kept Replaces) p q b i.reached h
+pass_kept rule.InlineSubqueries facts p q b i h = reached_kept Inlines inlined_kept p q b i.reached h
 pass_kept rule.MoveCalculationsUp facts p q b i h = reached_kept Moves moved_kept p q b i.reached h
 pass_kept rule.RemoveRedundantCalculations facts p q b i h =
     reached_kept Redundant redundant_kept p q b i.reached h
 pass_kept rule.RemoveUnnecessaryCalculations facts p q b i h =
     reached_kept RemovesCalculation unnecessary_kept p q b i.reached h
 pass_kept rule.MoveFiltersUp facts p q b i h = reached_kept MovesUp up_kept p q b i.reached h
+pass_kept rule.RemoveRedundantSorts facts p q b i h = reached_kept Unsorts unsorted_kept p q b i.reached h
+pass_kept rule.RemoveCollectVariables facts p q b i h = reached_kept Drops dropped_kept p q b i.reached h
+pass_kept rule.SortLimit facts p q b i h = reached_kept Limits limited_kept p q b i.reached h
 pass_kept rule.RemoveUnnecessaryFilters facts p q b i h = reached_kept Removes removed_kept p q b i.reached h
 pass_kept rule.FuseFilters facts p q b i h = reached_kept Fuses fused_kept p q b i.reached h
 pass_kept rule.MoveFiltersIntoEnumerate facts p q b i h = reached_kept MovesIn in_kept p q b i.reached h

@@ -1,5 +1,5 @@
 -- Which status comes, and what the engine's list gained.
-use Rattle.std.proofs.Common.{arith, ◌≡◌, ◌≢◌, ℕ, ◌⊎◌, inl, inr, List, [], Bool, true, false, Option, Some, None, Err, refl, sym, ap, ◌∙◌, subst}
+use Rattle.std.proofs.Common.{arith, ◌≡◌, ◌≢◌, ℕ, ◌⊎◌, inl, inr, List, [], Option, Some, None, Err, refl, sym, ap, ◌∙◌, subst}
 use Rattle.std.specs.Prelude.{IsSome, IsSomeAnd, IfSome, Result, codes}
 use Rattle.aql_io.specs.Bytes.{AppendsPrefix}
 use Rattle.aql_engine.specs.declared.engine.Ran.{Ran}
@@ -8,17 +8,16 @@ use Rattle.aql_script.specs.declared.loading.Loaded.{Loaded}
 use Rattle.aql_script.specs.declared.faults.LoadFault.{LoadFault}
 use Rattle.aql_script.specs.declared.faults.LoadFault.TheVariants as load
 use Rattle.aql_tree.specs.Tree.{QueryTree}
-use Rattle.aql_lift.specs.Lifting.{scope_query}
 use Rattle.aql_front.specs.declared.faults.QueryFault.{QueryFault}
 use Rattle.aql_front.specs.declared.faults.QueryFault.TheVariants as query
 use Rattle.aql_front.specs.Reading.{Refuses}
 use Rattle.aql_front.proofs.Once.{only_query, only_fault, written_once}
-use Rattle.aql_top.specs.Forms.{runs, TakesWords, ReadsAs, IsScriptWith, Accepts, HasOtherQuery, HasQueryFault}
+use Rattle.aql_top.specs.Forms.{TakesWords, HasQuery, IsScriptWith, Accepts, HasQueryFault}
 use Rattle.aql_top.specs.Entries.{PrintsEntry, AddsAtMostOne, IsEntered}
 use Rattle.aql_top.specs.Reasons.{fault_status, query_status, Deserves, IsTextOf, as_line}
 use Rattle.aql_top.specs.Faults.{Leads, status_of, line_of, IsMade}
 use Rattle.aql_top.specs.declared.faults.RunFault.{RunFault}
-use Rattle.aql_top.specs.declared.faults.RunFault.TheVariants.{Words, Read, Script, Query, NotYet, Write, Memory}
+use Rattle.aql_top.specs.declared.faults.RunFault.TheVariants.{Words, Read, Script, Query, Write, Memory}
 
 -- ---- bytes are one script, or have one fault
 
@@ -31,10 +30,10 @@ one_fault bytes e f p q = let same = sym p ∙ q in cc
 one_script : (bytes : List ℕ) (l m : Loaded) → IsScript bytes l → IsScript bytes m → l ≡ m
 one_script bytes l m p q = let same = sym p ∙ q in cc
 
--- ---- a query is refused for one cause, or is of one form
+-- ---- a query is refused for one cause, or for none
 
-no_refusal : (l : Loaded) (form : Bool) (f : QueryFault) → ReadsAs l form → Refuses l.catalog l.query f → ⊥
-no_refusal l form f r refused =
+no_refusal : (l : Loaded) (f : QueryFault) → HasQuery l → Refuses l.catalog l.query f → ⊥
+no_refusal l f r refused =
     let memory : f ≡ query.Memory =
     only_query {A = ℕ} l.catalog l.query (Err f) (inr refused) r.query r.is_written r.no_fault in
     subst (λ e. Refuses l.catalog l.query e) memory refused
@@ -54,29 +53,17 @@ one_refusal l e f p q =
     settled (inl same) = same
     settled (inr memory) = absurd (subst (λ x. Refuses l.catalog l.query x) memory p)
 
-one_form : (l : Loaded) (b c : Bool) → ReadsAs l b → ReadsAs l c → b ≡ c
-one_form l b c p q =
-    let e = ap (λ t. runs (scope_query [] 1 t).tree)
-    (written_once l.query p.query q.query p.is_written q.is_written) in
-    sym p.form_is ∙ e ∙ q.form_is
-
-no_query_fault : (bytes : List ℕ) (form : Bool) (f : QueryFault) → IsScriptWith (λ l. ReadsAs l form) bytes
-    → HasQueryFault bytes f → ⊥
-no_query_fault bytes form f a h =
+no_query_fault : (bytes : List ℕ) (f : QueryFault) → Accepts bytes → HasQueryFault bytes f → ⊥
+no_query_fault bytes f a h =
     let same = one_script bytes a.0 h.0 a.1.0 h.1.0 in
-    no_refusal h.0 form f (subst (λ l. ReadsAs l form) same a.1.1) h.1.1
+    no_refusal h.0 f (subst HasQuery same a.1.1) h.1.1
 
 one_query_fault : (bytes : List ℕ) (e f : QueryFault) → HasQueryFault bytes e → HasQueryFault bytes f → e ≡ f
 one_query_fault bytes e f g h =
     let same = one_script bytes g.0 h.0 g.1.0 h.1.0 in
     one_refusal h.0 e f (subst (λ l. Refuses l.catalog l.query e) same g.1.1) h.1.1
 
-not_other : (bytes : List ℕ) → Accepts bytes → HasOtherQuery bytes → ⊥
-not_other bytes a o =
-    let same = one_script bytes a.0 o.0 a.1.0 o.1.0 in
-    let forms = one_form o.0 true false (subst (λ l. ReadsAs l true) same a.1.1) o.1.1 in absurd (cc)
-
--- ---- what bytes deserve is one status, and nothing where a query runs
+-- ---- what bytes deserve is one status, and nothing where a query has no fault
 
 one_status : (bytes : List ℕ) (s s' : ℕ) (t t' : List ℕ) → Deserves (Some bytes) s t
     → Deserves (Some bytes) s' t' → s ≡ s'
@@ -84,24 +71,14 @@ one_status bytes s s' t t' (Deserves.bad_script e o p) (Deserves.bad_script f u 
     ap fault_status (one_fault bytes e f p q)
 one_status bytes s s' t t' (Deserves.bad_script e o p) (Deserves.bad_query f q) =
     absurd (no_fault bytes q.0 e q.1.0 p)
-one_status bytes s s' t t' (Deserves.bad_script e o p) (Deserves.other_form q) =
-    absurd (no_fault bytes q.0 e q.1.0 p)
 one_status bytes s s' t t' (Deserves.bad_query e p) (Deserves.bad_script f o q) =
     absurd (no_fault bytes p.0 f p.1.0 q)
 one_status bytes s s' t t' (Deserves.bad_query e p) (Deserves.bad_query f q) =
     ap query_status (one_query_fault bytes e f p q)
-one_status bytes s s' t t' (Deserves.bad_query e p) (Deserves.other_form q) =
-    absurd (no_query_fault bytes false e q p)
-one_status bytes s s' t t' (Deserves.other_form p) (Deserves.bad_script f o q) =
-    absurd (no_fault bytes p.0 f p.1.0 q)
-one_status bytes s s' t t' (Deserves.other_form p) (Deserves.bad_query f q) =
-    absurd (no_query_fault bytes false f p q)
-one_status bytes s s' t t' (Deserves.other_form p) (Deserves.other_form q) = refl
 
 none_deserved : (bytes : List ℕ) (s : ℕ) (t : List ℕ) → Accepts bytes → Deserves (Some bytes) s t → ⊥
 none_deserved bytes s t a (Deserves.bad_script e o p) = no_fault bytes a.0 e a.1.0 p
-none_deserved bytes s t a (Deserves.bad_query e p) = no_query_fault bytes true e a p
-none_deserved bytes s t a (Deserves.other_form p) = not_other bytes a p
+none_deserved bytes s t a (Deserves.bad_query e p) = no_query_fault bytes e a p
 
 -- ---- a fault is told as itself, or as want of memory where its line is made
 
@@ -123,7 +100,6 @@ module _ (words : List (List ℕ)) where
   deserved Read input h = (codes "read fault", (inr IsTextOf.read_fault, refl))
   deserved (Script fault) input h = (_, (inl (Deserves.bad_script fault h.1 h.2), refl))
   deserved (Query fault) input h = (_, (inl (Deserves.bad_query fault h.1), refl))
-  deserved NotYet input h = (codes "not yet", (inl (Deserves.other_form h.1), refl))
   deserved Write input h = (codes "write fault", (inr IsTextOf.write_fault, refl))
   deserved Memory input h = (codes "out of memory", (inr IsTextOf.no_memory, refl))
 
@@ -135,7 +111,6 @@ module _ (words : List (List ℕ)) where
     refuses s t (Script fault) bytes h d =
         inl (one_status bytes _ s _ t (Deserves.bad_script fault h.1 h.2) d)
     refuses s t (Query fault) bytes h d = inl (one_status bytes _ s _ t (Deserves.bad_query fault h.1) d)
-    refuses s t NotYet bytes h d = inl (one_status bytes _ s _ t (Deserves.other_form h.1) d)
     refuses s t Write bytes h d = absurd (none_deserved bytes s t h.1 d)
     refuses s t Memory bytes h d = inr (inr refl)
 
@@ -151,7 +126,6 @@ module _ (words : List (List ℕ)) where
     completes (Script fault) bytes h a =
         absurd (none_deserved bytes _ _ a (Deserves.bad_script fault h.1 h.2))
     completes (Query fault) bytes h a = absurd (none_deserved bytes _ _ a (Deserves.bad_query fault h.1))
-    completes NotYet bytes h a = absurd (none_deserved bytes _ _ a (Deserves.other_form h.1))
     completes Write bytes h a = inr (inr (inl refl))
     completes Memory bytes h a = inr (inr (inr refl))
 
@@ -189,7 +163,6 @@ not_0 Words h = omega (arith, h)
 not_0 Read h = omega (arith, h)
 not_0 (Script fault) h = load_not_0 fault h
 not_0 (Query fault) h = query_not_0 fault h
-not_0 NotYet h = omega (arith, h)
 not_0 Write h = omega (arith, h)
 not_0 Memory h = omega (arith, h)
 

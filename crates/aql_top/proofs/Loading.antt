@@ -10,7 +10,7 @@ use Rattle.aql_script.specs.declared.faults.LimitKind.TheVariants.{ScriptBytes}
 use Rattle.aql_front.specs.Reading.{Refuses}
 use Rattle.aql_front.specs.declared.faults.QueryFault.{QueryFault}
 use Rattle.aql_front.specs.declared.faults.QueryFault.TheVariants as query
-use Rattle.aql_top.specs.Forms.{TakesWords, ReadsAs, Answers, IsScriptWith, Accepts, Allows}
+use Rattle.aql_top.specs.Forms.{TakesWords, HasQuery, Answers, IsScriptWith, Accepts, Allows}
 use Rattle.aql_top.specs.Forms.{answer_text}
 use Rattle.aql_top.specs.Entries.{IsChosenPlan, AddsChosen, PrintsEntry, AddsAtMostOne}
 use Rattle.aql_engine.specs.declared.engine.Ran.{Ran}
@@ -101,8 +101,8 @@ module _ (before after : Option (List ℕ)) (loaded : Loaded) where
       → IfSome before (λ bytes. Allows bytes text)
   allowed text h a = script_with (λ l. Answers l text) before after loaded h a
 
-  pub accepted : Loads loaded before after → ReadsAs loaded true → IfSome before Accepts
-  accepted h r = script_with (λ l. ReadsAs l true) before after loaded h r
+  pub accepted : Loads loaded before after → HasQuery loaded → IfSome before Accepts
+  accepted h r = script_with HasQuery before after loaded h r
 
   pub entered : (entries entries' : List Ran) (ran : Ran) (Written : List ℕ → Type 0)
       → Loads loaded before after → AddsChosen loaded entries entries' ran → Written (answer_text ran.values)
@@ -127,7 +127,6 @@ module _ (before after : Option (List ℕ)) (loaded : Loaded) where
   no_lines_lead (run.Script fault) words t h n = absurd n
   no_lines_lead (run.Query fault) words t h n =
       (t, script_with (λ l. Refuses l.catalog l.query fault) before after loaded h n)
-  no_lines_lead run.NotYet words t h n = (t, script_with (λ l. ReadsAs l false) before after loaded h n)
   no_lines_lead run.Write words t h n = absurd n
   no_lines_lead run.Memory words t h n = tt
 
@@ -143,9 +142,6 @@ late_5 = (λ e. omega (arith, e), λ e. omega (arith, e), λ e. omega (arith, e)
 
 late_8 : IsLate 8
 late_8 = (λ e. omega (arith, e), λ e. omega (arith, e), λ e. omega (arith, e))
-
-late_9 : IsLate 9
-late_9 = (λ e. omega (arith, e), λ e. omega (arith, e), λ e. omega (arith, e))
 
 query_is_late : (fault : QueryFault) → IsLate (query_status fault)
 query_is_late query.TooLong = late_5
@@ -163,7 +159,6 @@ no_lines_status loaded run.Words n = absurd n
 no_lines_status loaded run.Read n = absurd n
 no_lines_status loaded (run.Script fault) n = absurd n
 no_lines_status loaded (run.Query fault) n = query_is_late fault
-no_lines_status loaded run.NotYet n = late_9
 no_lines_status loaded run.Write n = absurd n
 no_lines_status loaded run.Memory n = late_8
 

@@ -1,5 +1,5 @@
 -- The faults of a run: what leads to each, and its status and line.
-use Rattle.std.specs.Prelude.{ℕ, List, codes, false, Option, IfSome}
+use Rattle.std.specs.Prelude.{ℕ, List, codes, Option, IfSome}
 use Rattle.aql_script.specs.Script.{HasFault, IsOfBytes}
 use Rattle.aql_script.specs.Texts.{fault_text}
 use Rattle.aql_script.specs.declared.loading.Loaded.{Loaded}
@@ -9,10 +9,10 @@ use Rattle.aql_front.specs.declared.faults.QueryFault.{QueryFault}
 use Rattle.aql_front.specs.declared.faults.QueryFault.TheVariants as query
 use Rattle.aql_front.specs.Reading.{Refuses}
 use Rattle.aql_front.specs.Texts.{query_fault_text}
-use Rattle.aql_top.specs.Forms.{TakesWords, ReadsAs, Accepts, HasOtherQuery, HasQueryFault}
+use Rattle.aql_top.specs.Forms.{TakesWords, Accepts, HasQueryFault}
 use Rattle.aql_top.specs.Reasons.{fault_status, query_status, as_line}
 use Rattle.aql_top.specs.declared.faults.RunFault.{RunFault}
-use Rattle.aql_top.specs.declared.faults.RunFault.TheVariants.{Words, Read, Script, Query, NotYet, Write, Memory}
+use Rattle.aql_top.specs.declared.faults.RunFault.TheVariants.{Words, Read, Script, Query, Write, Memory}
 
 -- the fault that comes of loading, and of reading the query
 abbrev pub of_load : LoadFault → RunFault
@@ -32,14 +32,12 @@ Leads Read words input = TakesWords words
 Leads (Script fault) words input =
     TakesWords words × IsOfBytes fault × IfSome input (λ bytes. HasFault bytes fault)
 Leads (Query fault) words input = TakesWords words × IfSome input (λ bytes. HasQueryFault bytes fault)
-Leads NotYet words input = TakesWords words × IfSome input HasOtherQuery
 Leads Write words input = TakesWords words × IfSome input Accepts
 Leads Memory words input = Unit {0}
 
 -- what of a loaded script leads to a fault
 abbrev pub HasNoLines : Loaded → RunFault → Type 0
 HasNoLines loaded (Query fault) = Refuses loaded.catalog loaded.query fault
-HasNoLines loaded NotYet = ReadsAs loaded false
 HasNoLines loaded Memory = Unit {0}
 HasNoLines loaded other = ⊥
 
@@ -48,7 +46,6 @@ status_of Words = 2
 status_of Read = 6
 status_of (Script fault) = fault_status fault
 status_of (Query fault) = query_status fault
-status_of NotYet = 9
 status_of Write = 7
 status_of Memory = 8
 
@@ -57,7 +54,6 @@ line_of Words = as_line (codes "words")
 line_of Read = as_line (codes "read fault")
 line_of (Script fault) = as_line (fault_text fault)
 line_of (Query fault) = as_line (query_fault_text fault)
-line_of NotYet = as_line (codes "not yet")
 line_of Write = as_line (codes "write fault")
 line_of Memory = as_line (codes "out of memory")
 

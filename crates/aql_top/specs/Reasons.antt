@@ -10,7 +10,7 @@ use Rattle.aql_script.specs.declared.faults.LoadFault.TheVariants.{Read, Limit, 
 use Rattle.aql_front.specs.declared.faults.QueryFault.{QueryFault}
 use Rattle.aql_front.specs.declared.faults.QueryFault.TheVariants as query
 use Rattle.aql_front.specs.Texts.{query_fault_text}
-use Rattle.aql_top.specs.Forms.{Allows, HasOtherQuery, HasQueryFault}
+use Rattle.aql_top.specs.Forms.{Allows, HasQueryFault}
 
 -- the exit status of a fault of the script, and of its query
 abbrev pub fault_status : LoadFault → ℕ
@@ -30,13 +30,12 @@ query_status (query.Scope fault) = 4
 query_status query.Memory = 8
 
 -- The bytes of the source deserve this status and this text: for their first fault as a script, else for the
--- first fault of their query, else because this is not of the form that runs so far.
+-- first fault of their query.
 pub data Deserves (input : Option (List ℕ)) : ℕ → List ℕ → Type 0 where
   bad_script : (fault : LoadFault) → IsOfBytes fault → IfSome input (λ bytes. HasFault bytes fault)
       → Deserves input (fault_status fault) (fault_text fault)
   bad_query : (fault : QueryFault) → IfSome input (λ bytes. HasQueryFault bytes fault)
       → Deserves input (query_status fault) (query_fault_text fault)
-  other_form : IfSome input HasOtherQuery → Deserves input 9 (codes "not yet")
 
 -- the text of each status that the bytes of the source do not decide
 pub data IsTextOf : ℕ → List ℕ → Type 0 where

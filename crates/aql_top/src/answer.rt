@@ -1,6 +1,6 @@
 //! From a loaded script to the lines of one answer, by a plan that the engine runs.
 
-ghost use Rattle.std.specs.Prelude.{◌≡◌, ◌≢◌, ◌⊎◌, true, List, [], IfOk, OnOk, IfErr};
+ghost use Rattle.std.specs.Prelude.{◌≡◌, ◌≢◌, ◌⊎◌, List, [], IfOk, OnOk, IfErr};
 ghost use Rattle.aql_value.specs.Datum.{Datum};
 ghost use Rattle.aql_doc.specs.Held.{database};
 ghost use Rattle.aql_meaning.specs.Row.{empty_row};
@@ -10,7 +10,7 @@ ghost use Rattle.aql_plan.specs.WellFormed.{IsWellFormed};
 ghost use Rattle.aql_shard.specs.Known.{facts_of};
 ghost use Rattle.aql_exec_plan.specs.Runnable.{HasExecutors};
 ghost use Rattle.aql_engine.specs.declared.engine.Ran.{Ran};
-ghost use Rattle.aql_top.specs.Forms.{ReadsAs, Answers, answer_text};
+ghost use Rattle.aql_top.specs.Forms.{HasQuery, Answers, answer_text};
 ghost use Rattle.aql_top.specs.Entries.{IsChosenPlan, AddsChosen};
 ghost use Rattle.aql_top.specs.Faults.{HasNoLines};
 ghost use Rattle.aql_top.specs.declared.faults.RunFault.TheVariants.{Memory};
@@ -20,7 +20,6 @@ use aql_build::initial_plan;
 use aql_build::laws::scoping_gives_it;
 use aql_build_limits::laws::text_limits_end;
 use aql_engine::Engine;
-use aql_exec_plan::has_executors;
 use aql_front::read_query;
 use aql_opt::laws::facts_fit;
 use aql_opt::{Rules, facts};
@@ -42,7 +41,7 @@ pub(crate) fn answer<G: Engine>(
     script: Loaded,
     engine: &mut G,
 ) -> Result<Vec<u8>, RunFault>
-    ensures runs { OnOk result (ReadsAs script true) }
+    ensures runs { OnOk result (HasQuery script) }
     ensures lines { IfOk result (λ lines. Answers script lines.items) }
     ensures entry { IfOk result (λ lines. (ran : Ran)
         × AddsChosen script (G.entries engine.old) (G.entries engine.new) ran
@@ -63,11 +62,10 @@ pub(crate) fn answer<G: Engine>(
     }
 }
 
-// The plan that is chosen for the query of a script. Whether a query runs is seen of its first
-// plan: a plan that is chosen for one with executors has executors too.
+// The plan that is chosen for the query of a script.
 #[tactic(auto, using(crate::proofs::Answering::refused))]
 fn plan_of(alloc: Global, script: &Loaded) -> Result<Plan, RunFault>
-    ensures reads { OnOk result (ReadsAs script.now true) }
+    ensures reads { OnOk result (HasQuery script.now) }
     ensures chosen { IfOk result (λ plan. IsChosenPlan script.now plan) }
     ensures executors { IfOk result (λ plan. HasExecutors (plan_tree plan)) }
     ensures well_formed { IfOk result (λ plan.
@@ -85,9 +83,6 @@ fn plan_of(alloc: Global, script: &Loaded) -> Result<Plan, RunFault>
     scoping_gives_it();
     text_limits_end();
     let plan = initial_plan(alloc, &scoped.query, &facts)?;
-    if !has_executors(&plan) {
-        return Err(RunFault::NotYet);
-    }
     let chosen = optimise(alloc, plan, &Rules::all(), &facts)?;
     Ok(chosen.plan)
 }

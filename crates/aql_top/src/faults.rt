@@ -13,8 +13,6 @@ pub(crate) enum RunFault {
     Script(LoadFault),
     /// The script's query has a fault.
     Query(QueryFault),
-    /// The program does not take the query yet.
-    NotYet,
     /// A write to the output failed.
     Write,
     /// Memory ran out.
@@ -28,7 +26,6 @@ impl Drop for RunFault {
             | RunFault::Read
             | RunFault::Script(_)
             | RunFault::Query(_)
-            | RunFault::NotYet
             | RunFault::Write
             | RunFault::Memory => {}
         }

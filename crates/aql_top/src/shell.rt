@@ -33,7 +33,6 @@ use std::alloc::Global;
 /// | 6 | only where a read failed |
 /// | 7 | only where a write to `out` failed; the front of an answer's lines was written |
 /// | 8 | where memory ran out, and nothing was written to `out` |
-/// | 9 | exactly where there is no fault, and the query is not of the form that runs yet (*) |
 ///
 /// (*) unless a read fails or memory runs out. The faults of the script come before those of its
 /// query. With any status but 0 and 7 nothing is written to `out`. A failed write to `err` changes
@@ -60,7 +59,7 @@ pub fn run_shell<S: Source, K: Sink, E: Sink, G: Engine>(
     ensures bad_words { (result ≡ 8) ⊎ ((result ≡ 2) ↔ (TakesWords words.now → ⊥)) }
     ensures unread { (result ≡ 2) → source.new ≡ source.old }
 
-    // Each status but 0 has its text: 3, 4, 5 and 9 the one that the bytes of the source deserve.
+    // Each status but 0 has its text: 3, 4 and 5 the one that the bytes of the source deserve.
     ensures line { (result ≢ 0) → (text : List ℕ)
         × (Deserves (S.left source.old) result text ⊎ IsTextOf result text)
         × Tells (as_line text) (E.written err.old) (E.written err.new)
@@ -151,7 +150,6 @@ fn status(fault: &RunFault) -> u8
         RunFault::Read => 6,
         RunFault::Script(fault) => load_status(*fault),
         RunFault::Query(fault) => query_status(fault),
-        RunFault::NotYet => 9,
         RunFault::Write => 7,
         RunFault::Memory => 8,
     }
@@ -189,7 +187,6 @@ fn fixed_line(fault: &RunFault) -> Option<&'static [u8]>
         RunFault::Script(_) | RunFault::Query(_) => None,
         RunFault::Words => Some(b"aql: words\n"),
         RunFault::Read => Some(b"aql: read fault\n"),
-        RunFault::NotYet => Some(b"aql: not yet\n"),
         RunFault::Write => Some(b"aql: write fault\n"),
         RunFault::Memory => Some(b"aql: out of memory\n"),
     }

@@ -5,7 +5,7 @@ use Rattle.aql_front.specs.Reading.{IsWritten, IsScoped}
 use Rattle.aql_plan.specs.WellFormed.{IsWellFormed}
 use Rattle.aql_engine.proofs.CanRun.{no_fragment}
 use Rattle.aql_top.proofs.ChosenExecutors.{chosen_kept}
-use Rattle.aql_top.proofs.Answering.{resolved, other_form, reads_as, is_chosen_plan, chosen_answers}
+use Rattle.aql_top.proofs.Answering.{resolved, has_query, executors, is_chosen_plan, chosen_answers}
 use Rattle.aql_top.proofs.answer.plan_of.Goals as goal
 
 pub initial_plan-requires : goal.initial_plan-requires
@@ -18,19 +18,6 @@ initial_plan-requires c =
     resolved c.scoping_gives_it.ensures c.text_limits_end.ensures c.facts_fit.ensures script tree
     scoped.names is_scoped c.recall_limits.ensures c.in_ok-facts.facts c.in_ok-facts.ensures.known
 
-pub returns-then-not-has_executors-clause-none : goal.returns-then-not-has_executors-clause-none
-returns-then-not-has_executors-clause-none c =
-    let scoped = c.in_ok-scoped.scoped in
-    let tree = query_tree scoped.query in
-    let script = c.args.script.now in
-    let is_scoped = subst (λ text. IsScoped script.catalog text tree scoped.names) c.as_str.ensures
-    c.in_ok-scoped.ensures.query in
-    other_form script tree scoped.names is_scoped c.in_ok-facts.facts (plan_tree c.in_ok-plan.plan)
-    c.in_ok-plan.ensures.first
-    (λ has. (
-    let found = c.has_executors.ensures.1 has in
-    let lacking = c.if-not-has_executors.true in absurd (cc)))
-
 pub returns-clause-reads : goal.returns-clause-reads
 returns-clause-reads c =
     let scoped = c.in_ok-scoped.scoped in
@@ -38,14 +25,21 @@ returns-clause-reads c =
     let script = c.args.script.now in
     let is_scoped = subst (λ text. IsScoped script.catalog text tree scoped.names) c.as_str.ensures
     c.in_ok-scoped.ensures.query in
-    reads_as script tree scoped.names is_scoped c.in_ok-facts.facts (plan_tree c.in_ok-plan.plan)
-    c.in_ok-plan.ensures.first (c.has_executors.ensures.0 c.if-not-has_executors.false)
+    has_query script tree scoped.names is_scoped c.in_ok-facts.facts (plan_tree c.in_ok-plan.plan)
+    c.in_ok-plan.ensures.first
 
 pub optimise-requires : goal.optimise-requires
-optimise-requires c = (
-  c.in_ok-plan.ensures.well_formed,
-  no_fragment (plan_tree c.in_ok-plan.plan) (c.has_executors.ensures.0 c.if-not-has_executors.false),
-)
+optimise-requires c =
+    let scoped = c.in_ok-scoped.scoped in
+    let tree = query_tree scoped.query in
+    let script = c.args.script.now in
+    let is_scoped = subst (λ text. IsScoped script.catalog text tree scoped.names) c.as_str.ensures
+    c.in_ok-scoped.ensures.query in
+    let first = plan_tree c.in_ok-plan.plan in (
+      c.in_ok-plan.ensures.well_formed,
+      no_fragment first
+          (executors script tree scoped.names is_scoped c.in_ok-facts.facts first c.in_ok-plan.ensures.first),
+    )
 
 pub returns-clause-chosen : goal.returns-clause-chosen
 returns-clause-chosen c =
@@ -60,9 +54,15 @@ returns-clause-chosen c =
 
 pub returns-clause-executors : goal.returns-clause-executors
 returns-clause-executors c =
-    chosen_kept c.in_ok-facts.facts c.all.result (plan_tree c.in_ok-plan.plan)
-    (plan_tree c.in_ok-chosen.chosen.plan) c.in_ok-chosen.chosen.applied c.in_ok-chosen.ensures.chosen
-    (c.has_executors.ensures.0 c.if-not-has_executors.false)
+    let scoped = c.in_ok-scoped.scoped in
+    let tree = query_tree scoped.query in
+    let script = c.args.script.now in
+    let is_scoped = subst (λ text. IsScoped script.catalog text tree scoped.names) c.as_str.ensures
+    c.in_ok-scoped.ensures.query in
+    let first = plan_tree c.in_ok-plan.plan in
+    chosen_kept c.in_ok-facts.facts c.all.result first (plan_tree c.in_ok-chosen.chosen.plan)
+    c.in_ok-chosen.chosen.applied c.in_ok-chosen.ensures.chosen
+    (executors script tree scoped.names is_scoped c.in_ok-facts.facts first c.in_ok-plan.ensures.first)
 
 pub returns-clause-well_formed : goal.returns-clause-well_formed
 returns-clause-well_formed c =
