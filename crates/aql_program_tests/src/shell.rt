@@ -564,10 +564,10 @@ static ENDS: [(&str, u8, &str, &str); 6] = [
     ("%query\nRETURN 1.5", 4, "", "aql: q"),
     ("%document c shards=33\n%query\n", 5, "", "aql: l"),
     (
-        "%edge e\n%query\nFOR v IN ANY 'c/a' e RETURN v",
-        9,
+        "%edge e\n%query\nFOR v IN 33 ANY 'c/a' e RETURN v",
+        5,
         "",
-        "aql: n",
+        "aql: l",
     ),
 ];
 
