@@ -1,3 +1,1 @@
-pub mod Flying
-pub mod Returned
-pub mod CanRun
+pub mod Fragments

@@ -1,3 +1,1 @@
-pub mod Building
 pub mod Engine
-pub mod Worlds

@@ -3,7 +3,7 @@ ghost use Rattle.std.specs.Prelude.{◌≤◌};
 use crate::catalogs::names;
 use crate::pages::{Page, expect};
 use crate::rows::{CLAUSES, GROUPED, GROUPS, LONG_RUNS, NUMBERED};
-use aql_engine::Local;
+use aql_local::Local;
 use aql_io::{MemorySink, MemorySource};
 use aql_top::run_shell;
 use aql_value::Names;

@@ -1,7 +1,7 @@
 //! Reads a script on standard input and prints one answer of its query.
 #![tactic(auto)]
 
-use aql_engine::Local;
+use aql_local::Local;
 use aql_io::{StdSink, StdSource, write_all};
 use aql_top::run_shell;
 use aql_value::{Names, OutOfMemory, Text};

@@ -1,0 +1,98 @@
+-- The operators of a plan that can be run are a tree: each of its nodes fits, and it has no fragment. And what
+-- the tally of a run counts.
+use Rattle.std.specs.List.{AllByRecursion}
+use Rattle.std.proofs.Common.{ℕ, ◌≡◌, ◌≤◌, ap, arith}
+use Rattle.aql_block.specs.declared.tally.Tally.{Tally}
+use Rattle.aql_plan.specs.declared.facts.Facts.{Facts}
+use Rattle.aql_plan.specs.Plan.{Plan, Singleton, Over, Node, Subquery, Collect}
+use Rattle.aql_meaning.specs.Numbered.{IsNumber}
+use Rattle.aql_meaning.specs.declared.grouping.Stage.TheVariants as stage
+use Rattle.aql_plan.specs.Fits.{Fits}
+use Rattle.aql_plan.specs.Variables.{vars_set, set_once}
+use Rattle.aql_plan.specs.laws.Carried.{all_parts}
+use Rattle.aql_plan.specs.Shapes.{Shape, IsOuter, ReadsFragment, ReadsShard, KeepsRowOrder, Shaped, one_row, calculated, with_subquery, plain_rows, ordered_rows, scatter, distribute, remote, lowest, lowest_in_order, other_reading, passing, sorting, gather, gather_in_order, partial, joining, finishing, returning}
+use Rattle.aql_exec.specs.Rests.{Counter, scanned_full, scanned_index, filtered, Counts, counts_of, Rises}
+use Rattle.aql_exec.specs.Operators.{IsTree}
+use Rattle.aql_exec_plan.specs.EachFits.{EachFits, BodyFits}
+use Rattle.aql_exec_plan.specs.OperatorsOf.{operators_of}
+use Rattle.aql_exec_plan.specs.Runnable.{HasExecutors, HasExecutor}
+use Rattle.aql_exec_plan.specs.laws.Trees.{plain_tree}
+use Rattle.aql_engine.proofs.Fragments.{no_fragment}
+use Rattle.aql_local.specs.Building.{SetsNumbers, NodeSetsNumbers}
+
+-- ---- each node fits
+
+outer_body : (facts : Facts) (n : Node) → IsOuter n → BodyFits facts n
+outer_body facts (Subquery x body) i = absurd i
+outer_body facts n i = tt
+
+reading_body : (facts : Facts) (coll : ℕ) (n : Node) → ReadsFragment coll n → BodyFits facts n
+reading_body facts coll (Subquery x body) i = absurd i
+reading_body facts coll n i = tt
+
+shard_body : (facts : Facts) (n : Node) → ReadsShard n → BodyFits facts n
+shard_body facts (Subquery x body) i = absurd i
+shard_body facts n i = tt
+
+passing_body : (facts : Facts) (n : Node) → KeepsRowOrder n → BodyFits facts n
+passing_body facts (Subquery x body) i = absurd i
+passing_body facts n i = tt
+
+pub shaped_fits : (facts : Facts) (p : Plan) (s : Shape) → Shaped facts p s → EachFits facts p
+shaped_fits facts p s one_row = tt
+shaped_fits facts p s (calculated {b = b} f h) = (shaped_fits facts b _ h, f, tt)
+shaped_fits facts p s (with_subquery {b = b} {s = t} g h) =
+    (shaped_fits facts b _ h, tt, shaped_fits facts t _ g)
+shaped_fits facts p s (plain_rows {b = b} {n = n} i f h) = (shaped_fits facts b _ h, f, outer_body facts n i)
+shaped_fits facts p s (ordered_rows {b = b} e f h) = (shaped_fits facts b _ h, f, tt)
+shaped_fits facts p s (scatter {b = b} f h) = (shaped_fits facts b _ h, f, tt)
+shaped_fits facts p s (distribute {b = b} f h) = (shaped_fits facts b _ h, f, tt)
+shaped_fits facts p s (remote {b = b} i h) = (shaped_fits facts b _ h, tt, tt)
+shaped_fits facts p s (lowest {b = b} {n = n} {coll = coll} i f h) =
+    (shaped_fits facts b _ h, f, reading_body facts coll n i)
+shaped_fits facts p s (lowest_in_order {b = b} e f h) = (shaped_fits facts b _ h, f, tt)
+shaped_fits facts p s (other_reading {b = b} {n = n} i f h) =
+    (shaped_fits facts b _ h, f, shard_body facts n i)
+shaped_fits facts p s (passing {b = b} {n = n} i f h) = (shaped_fits facts b _ h, f, passing_body facts n i)
+shaped_fits facts p s (sorting {b = b} f h) = (shaped_fits facts b _ h, f, tt)
+shaped_fits facts p s (gather {b = b} h) = (shaped_fits facts b _ h, tt, tt)
+shaped_fits facts p s (gather_in_order {b = b} f h) = (shaped_fits facts b _ h, f, tt)
+shaped_fits facts p s (partial {b = b} f h) = (shaped_fits facts b _ h, f, tt)
+shaped_fits facts p s (joining {b = b} h) = (shaped_fits facts b _ h, tt, tt)
+shaped_fits facts p s (finishing {b = b} f h) = (shaped_fits facts b _ h, f, tt)
+shaped_fits facts p s (returning {b = b} f h) = (shaped_fits facts b _ h, f, tt)
+
+-- ---- the operators are a tree
+
+pub runs_tree : (facts : Facts) (p : Plan) (s : Shape) → Shaped facts p s → HasExecutors p
+    → IsTree facts (operators_of facts p)
+runs_tree facts p s h e = plain_tree facts p (no_fragment p e) (shaped_fits facts p s h)
+
+-- ---- what a COLLECT sets are numbers
+
+mutual
+  pub sets_numbers : (p : Plan) → HasExecutors p → AllByRecursion IsNumber (vars_set p) → SetsNumbers p
+  sets_numbers Singleton h a = tt
+  sets_numbers (Over b n) h a =
+      let both = all_parts IsNumber (set_once n) (vars_set b) a in
+      (sets_numbers b h.0 both.1, node_sets_numbers n h.1 both.0)
+
+  node_sets_numbers : (n : Node) → HasExecutor n → AllByRecursion IsNumber (set_once n) → NodeSetsNumbers n
+  node_sets_numbers (Subquery x body) h a = sets_numbers body h a.1
+  node_sets_numbers (Collect xs es gs i stage.Whole) h a = a
+  node_sets_numbers (Collect xs es gs i stage.Partial) h a = absurd h
+  node_sets_numbers (Collect xs es gs i stage.Final) h a = absurd h
+  node_sets_numbers n h a = tt
+
+-- ---- counts
+
+-- what a tally that began at nothing counts
+pub counted_from_none : (t t' : Tally) (d : Counts)
+    → t ≡ record { scanned_full = 0; scanned_index = 0; filtered = 0 } → Rises t t' d
+    → (c : Counter) → counts_of t' c ≤ d c
+counted_from_none t t' d e h scanned_full =
+    let n = (h scanned_full).0 in let i = ap (λ (z : Tally). z.scanned_full) e in omega (arith, n, i)
+counted_from_none t t' d e h scanned_index =
+    let n = (h scanned_index).0 in let i = ap (λ (z : Tally). z.scanned_index) e in omega (arith, n, i)
+counted_from_none t t' d e h filtered =
+    let n = (h filtered).0 in let i = ap (λ (z : Tally). z.filtered) e in omega (arith, n, i)

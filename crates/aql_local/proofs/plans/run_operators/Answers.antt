@@ -1,0 +1,38 @@
+use Rattle.std.proofs.Common.{map, refl, sym, ap, ◌∙◌, subst}
+use Rattle.aql_meaning.specs.Row.{Row, empty_row}
+use Rattle.aql_plan.specs.Runs.{result_of}
+use Rattle.aql_plan.specs.Shapes.{Result}
+use Rattle.aql_plan.specs.View.{plan_tree}
+use Rattle.aql_block.specs.Rows.{row_of}
+use Rattle.aql_exec.specs.Operators.{OperatorTree, IsTree, Produces}
+use Rattle.aql_exec_plan.specs.OperatorsOf.{operators_of}
+use Rattle.aql_exec_plan.specs.laws.Sound.{produces_runs}
+use Rattle.aql_shard.specs.Held.{stock}
+use Rattle.aql_local.proofs.CanRun.{runs_tree, counted_from_none}
+use Rattle.aql_local.proofs.plans.run_operators.Goals as goal
+
+pub run_feed-requires-clause-plan : goal.run_feed-requires-clause-plan
+run_feed-requires-clause-plan g c =
+    let facts = (stock c.args.world.now.servers).facts in
+    subst (λ (t : OperatorTree). IsTree facts t) (sym c.requires.feed)
+    (runs_tree facts (plan_tree c.args.plan) Result c.requires.plan.well_formed.1 c.requires.plan.executors)
+
+pub returns-clause-run : goal.returns-clause-run
+returns-clause-run g c =
+    let w = stock c.args.world.now.servers in
+    let run = c.in_ok-blocks.ensures.rows in
+    let produced : Produces (operators_of w.facts (plan_tree c.args.plan)) w empty_row run.0 =
+    subst (λ (row : Row). Produces (operators_of w.facts (plan_tree c.args.plan)) w row run.0) c.new-start.ensures
+    (subst (λ (t : OperatorTree). Produces t w (row_of c.new-start.result) run.0) c.requires.feed run.1) in
+    let values = c.in_ok-values.ensures ∙ ap (map result_of) run.2 in (
+      refl,
+      refl,
+      record {
+        answer = (run.0.rows, produces_runs w (plan_tree c.args.plan) empty_row run.0 produced, values);
+        rest = run.0;
+        produced = produced;
+        values = values;
+        counted = counted_from_none c.new-tally.result c.run_feed.new.tally run.0.counts c.new-tally.ensures
+            run.3;
+      },
+    )

@@ -1,0 +1,209 @@
+//! The tree of executors of a plan.
+
+ghost use Rattle.std.specs.Prelude.{◌≡◌, IfOk};
+ghost use Rattle.aql_plan.specs.declared.facts.Facts.{Facts};
+ghost use Rattle.aql_plan.specs.Plan as spec;
+ghost use Rattle.aql_plan.specs.Fits.{Fits};
+ghost use Rattle.aql_plan.specs.View.{plan_tree};
+ghost use Rattle.aql_exec.specs.Operators.{within};
+ghost use Rattle.aql_exec_graph.specs.Searches as graph;
+ghost use Rattle.aql_exec_plan.specs.EachFits.{EachFits};
+ghost use Rattle.aql_exec_plan.specs.OperatorsOf.{operators_of, on_top};
+ghost use Rattle.aql_exec_plan.specs.Runnable.{HasExecutors, HasExecutor};
+ghost use Rattle.aql_local.specs.Building.{operator_of, IsTraversal, SetsNumbers, NodeSetsNumbers};
+
+use crate::nodes::{
+    NodeExecutor, calculation, collect, distinct_results, enumerate_collection, enumerate_list,
+    filter, limit, no_results, results, sort, start_row, subquery, traversal,
+};
+use aql_copy::{
+    copy_aggregates, copy_expr, copy_into, copy_keys, copy_lets, copy_maybe, copy_texts,
+};
+use aql_exec::{Executor, Feed};
+use aql_exec_graph::Search;
+use aql_exec_scan::Reading;
+use aql_exec_tree::Tree;
+use aql_plan::Plan;
+use aql_value::{CollNo, CollNos, Names, OutOfMemory, Seq};
+use aql_world::World;
+use std::alloc::Global;
+
+/// The executors of a plan as one tree.
+pub fn tree_of(alloc: Global, plan: &Plan) -> Result<Tree<NodeExecutor>, OutOfMemory>
+    requires executors { HasExecutors (plan_tree plan.now) }
+    requires fits { (facts : Facts) × EachFits facts (plan_tree plan.now) }
+    requires numbers { SetsNumbers (plan_tree plan.now) }
+    ensures { IfOk result (λ t. (facts : Facts) → ⟦<Tree<NodeExecutor> as Feed<World>>⟧.plan t
+        ≡ operators_of facts (plan_tree plan.now)) }
+{
+    match plan {
+        Plan::Singleton => Ok(Tree::Leaf(start_row())),
+        Plan::NoResults { .. } => Ok(Tree::Leaf(no_results())),
+        Plan::Subquery { below, var, body } => {
+            let below = tree_of(alloc, below)?;
+            let body = tree_of(alloc, body)?;
+            with_body(alloc, subquery(alloc, *var), below, body)
+        }
+        Plan::EnumerateCollection { below, .. } => over(alloc, plan, tree_of(alloc, below)?),
+        Plan::EnumerateList { below, .. } => over(alloc, plan, tree_of(alloc, below)?),
+        Plan::Traversal { below, .. } => over(alloc, plan, tree_of(alloc, below)?),
+        Plan::Calculation { below, .. } => over(alloc, plan, tree_of(alloc, below)?),
+        Plan::Filter { below, .. } => over(alloc, plan, tree_of(alloc, below)?),
+        Plan::Sort { below, .. } => over(alloc, plan, tree_of(alloc, below)?),
+        Plan::Limit { below, .. } => over(alloc, plan, tree_of(alloc, below)?),
+        Plan::Collect { below, .. } => over(alloc, plan, tree_of(alloc, below)?),
+        Plan::Return { below, .. } => over(alloc, plan, tree_of(alloc, below)?),
+        _ => unreachable!(),
+    }
+}
+
+// The node at the top of a plan, over the tree of its input.
+fn over(
+    alloc: Global,
+    plan: &Plan,
+    below: Tree<NodeExecutor>,
+) -> Result<Tree<NodeExecutor>, OutOfMemory>
+    requires executor { HasExecutor (spec.top (plan_tree plan.now)) }
+    requires fits { (facts : Facts) × Fits facts (spec.top (plan_tree plan.now)) }
+    requires numbers { NodeSetsNumbers (spec.top (plan_tree plan.now)) }
+    ensures { IfOk result (λ t. ⟦<Tree<NodeExecutor> as Feed<World>>⟧.plan t
+        ≡ on_top (operator_of (spec.top (plan_tree plan.now)))
+        (⟦<Tree<NodeExecutor> as Feed<World>>⟧.plan below)) }
+{
+    let executor = executor_of(alloc, plan)?;
+    with_body(alloc, executor, below, Tree::Leaf(no_results()))
+}
+
+fn with_body(
+    alloc: Global,
+    executor: NodeExecutor,
+    below: Tree<NodeExecutor>,
+    body: Tree<NodeExecutor>,
+) -> Result<Tree<NodeExecutor>, OutOfMemory>
+    ensures { IfOk result (λ t. ⟦<Tree<NodeExecutor> as Feed<World>>⟧.plan t
+        ≡ within (⟦<NodeExecutor as Executor<World>>⟧.node executor)
+        (⟦<Tree<NodeExecutor> as Feed<World>>⟧.plan below)
+        (⟦<Tree<NodeExecutor> as Feed<World>>⟧.plan body)) }
+{
+    let below = Box::new(alloc, below)?;
+    let body = Box::new(alloc, body)?;
+    Ok(Tree::Sub(executor, below, body))
+}
+
+// The executor of the node at the top of a plan.
+fn executor_of(alloc: Global, plan: &Plan) -> Result<NodeExecutor, OutOfMemory>
+    requires executor { HasExecutor (spec.top (plan_tree plan.now)) }
+    requires fits { (facts : Facts) × Fits facts (spec.top (plan_tree plan.now)) }
+    requires numbers { NodeSetsNumbers (spec.top (plan_tree plan.now)) }
+    ensures { IfOk result (λ x. ⟦<NodeExecutor as Executor<World>>⟧.node x
+        ≡ operator_of (spec.top (plan_tree plan.now))) }
+{
+    match plan {
+        Plan::Singleton | Plan::NoResults { .. } => Ok(no_results()),
+        Plan::EnumerateCollection {
+            var,
+            coll,
+            filter,
+            attrs,
+            shard,
+            ..
+        } => {
+            let reading = Reading {
+                var: *var,
+                coll: *coll,
+                filter: copy_maybe(alloc, filter)?,
+                attrs: copy_attrs(alloc, attrs)?,
+                shard: *shard,
+            };
+            Ok(enumerate_collection(alloc, reading))
+        }
+        Plan::EnumerateList { var, list, .. } => {
+            Ok(enumerate_list(alloc, *var, copy_expr(alloc, list)?))
+        }
+        Plan::Traversal { .. } => Ok(traversal(alloc, search_of(alloc, plan)?)),
+        Plan::Calculation { var, expr, .. } => {
+            Ok(calculation(alloc, *var, copy_expr(alloc, expr)?))
+        }
+        Plan::Subquery { var, .. } => Ok(subquery(alloc, *var)),
+        Plan::Filter { cond, .. } => Ok(filter(alloc, copy_expr(alloc, cond)?)),
+        Plan::Sort { keys, limit, .. } => {
+            Ok(sort(alloc, copy_keys(alloc, keys.as_slice())?, *limit))
+        }
+        Plan::Limit { offset, count, .. } => Ok(limit(alloc, *offset, *count)),
+        Plan::Collect {
+            groups,
+            aggregates,
+            into,
+            ..
+        } => {
+            let criteria = copy_lets(alloc, groups.as_slice())?;
+            let aggregates = copy_aggregates(alloc, aggregates.as_slice())?;
+            Ok(collect(alloc, criteria, aggregates, copy_into(alloc, into)?))
+        }
+        Plan::Return { distinct, expr, .. } => {
+            let expr = copy_expr(alloc, expr)?;
+            if *distinct {
+                return Ok(distinct_results(alloc, expr));
+            }
+            Ok(results(alloc, expr))
+        }
+        _ => unreachable!(),
+    }
+}
+
+// What the traversal at the top of a plan is told.
+fn search_of(alloc: Global, plan: &Plan) -> Result<Search, OutOfMemory>
+    requires traversal { IsTraversal (spec.top (plan_tree plan.now)) }
+    ensures { IfOk result (λ s. graph.node_of s ≡ spec.top (plan_tree plan.now)) }
+{
+    match plan {
+        Plan::Traversal {
+            vertex,
+            edge,
+            path,
+            min,
+            max,
+            direction,
+            start,
+            collections,
+            prune,
+            options,
+            filter,
+            ..
+        } => Ok(Search {
+            vertex: *vertex,
+            edge: *edge,
+            path: *path,
+            min: *min,
+            max: *max,
+            direction: *direction,
+            unique_edges: options.edges,
+            unique_vertices: options.vertices,
+            bfs: options.bfs,
+            start: copy_expr(alloc, start)?,
+            collections: copy_colls(alloc, collections.as_slice())?,
+            prune: copy_maybe(alloc, prune)?,
+            filter: copy_maybe(alloc, filter)?,
+        }),
+        _ => unreachable!(),
+    }
+}
+
+fn copy_colls(alloc: Global, colls: &[CollNo]) -> Result<CollNos, OutOfMemory>
+    ensures { IfOk result (λ out. out ≡ colls.now) }
+{
+    let mut out = Seq::new(alloc);
+    for coll in colls {
+        out.push(*coll)?;
+    }
+    Ok(out)
+}
+
+fn copy_attrs(alloc: Global, attrs: &Option<Names>) -> Result<Option<Names>, OutOfMemory>
+    ensures { IfOk result (λ a. a ≡ attrs.now) }
+{
+    match attrs {
+        Some(names) => Ok(Some(copy_texts(alloc, names.as_slice())?)),
+        None => Ok(None),
+    }
+}

@@ -1,0 +1,179 @@
+//! The executors of the nodes of a tree.
+
+ghost use Rattle.std.specs.Prelude.{◌≡◌, ◌+◌, ◌<◌, ◌^◌, true, false};
+ghost use Rattle.std.specs.List.{AllByRecursion};
+ghost use Rattle.aql_tree.specs.declared.syntax.Ident.TheVariants.{Num};
+ghost use Rattle.aql_tree.specs.View.{tree};
+ghost use Rattle.aql_meaning.specs.Numbered.{IsNumber};
+ghost use Rattle.aql_plan.specs.Needs.{sets};
+ghost use Rattle.aql_plan.specs.Plan as plan;
+ghost use Rattle.aql_plan.specs.View.{directions, key_trees};
+ghost use Rattle.aql_exec.specs.Operators.{StartRow, NoRows, OnRows, WithBody};
+ghost use Rattle.aql_exec_collect.specs.Told.{node_of};
+ghost use Rattle.aql_exec_graph.specs.Searches as graph;
+ghost use Rattle.aql_exec_scan.specs.Scans as scans;
+
+use aql_exec::{
+    AsWired, Calculation, Executor, Filter, FirstResults, Keep, Let, Limit, Mapped, NoResults,
+    Results, Return, ReturnDistinct, Singleton, Stream,
+};
+use aql_exec_collect::Collect;
+use aql_exec_graph::{Paths, Search, Traversal};
+use aql_exec_nodes::Choice;
+use aql_exec_rows::{Order, Sort, Subquery};
+use aql_exec_scan::{Documents, Elements, EnumerateCollection, EnumerateList, Reading};
+use aql_tree::{Aggregates, Expr, Into, Keys, Lets};
+use aql_world::World;
+use std::alloc::Global;
+
+/// The executors without an input.
+type Leaf = Choice<Singleton, NoResults>;
+
+/// Those that look at one row at a time, and LIMIT.
+type RowWise = Choice<Choice<Calculation, Return>, Choice<Filter, Limit>>;
+
+/// Those that give several rows for one.
+type Enumeration = Choice<Choice<EnumerateList, EnumerateCollection>, Traversal>;
+
+/// Those that hold rows, or what they need of them.
+type Holder = Choice<Choice<Sort, Subquery>, Choice<Collect, ReturnDistinct>>;
+
+/// The executor of any node.
+pub type NodeExecutor = AsWired<Choice<Choice<Leaf, RowWise>, Choice<Enumeration, Holder>>>;
+
+/// The start row.
+pub fn start_row() -> NodeExecutor
+    ensures { ⟦<NodeExecutor as Executor<World>>⟧.node result ≡ StartRow }
+{
+    AsWired::new(Choice::First(Choice::First(Choice::First(Singleton::new()))))
+}
+
+/// No row.
+pub fn no_results() -> NodeExecutor
+    ensures { ⟦<NodeExecutor as Executor<World>>⟧.node result ≡ NoRows }
+{
+    AsWired::new(Choice::First(Choice::First(Choice::Second(NoResults))))
+}
+
+fn holder(executor: Holder) -> NodeExecutor
+    ensures { ⟦<NodeExecutor as Executor<World>>⟧.node result
+        ≡ ⟦<Holder as Executor<World>>⟧.node executor }
+{
+    AsWired::new(Choice::Second(Choice::Second(executor)))
+}
+
+fn enumeration(executor: Enumeration) -> NodeExecutor
+    ensures { ⟦<NodeExecutor as Executor<World>>⟧.node result
+        ≡ ⟦<Enumeration as Executor<World>>⟧.node executor }
+{
+    AsWired::new(Choice::Second(Choice::First(executor)))
+}
+
+fn row_wise(executor: RowWise) -> NodeExecutor
+    ensures { ⟦<NodeExecutor as Executor<World>>⟧.node result
+        ≡ ⟦<RowWise as Executor<World>>⟧.node executor }
+{
+    AsWired::new(Choice::First(Choice::Second(executor)))
+}
+
+/// LET.
+pub fn calculation(alloc: Global, var: u32, expr: Expr) -> NodeExecutor
+    ensures { ⟦<NodeExecutor as Executor<World>>⟧.node result
+        ≡ OnRows (plan.Calculation (Num var) (tree expr)) }
+{
+    let executor = Mapped::new(alloc, Let { var, expr });
+    row_wise(Choice::First(Choice::First(executor)))
+}
+
+/// RETURN without DISTINCT.
+pub fn results(alloc: Global, expr: Expr) -> NodeExecutor
+    ensures { ⟦<NodeExecutor as Executor<World>>⟧.node result
+        ≡ OnRows (plan.Return false (tree expr)) }
+{
+    let executor = Mapped::new(alloc, Results { expr });
+    row_wise(Choice::First(Choice::Second(executor)))
+}
+
+/// FILTER.
+pub fn filter(alloc: Global, cond: Expr) -> NodeExecutor
+    ensures { ⟦<NodeExecutor as Executor<World>>⟧.node result
+        ≡ OnRows (plan.Filter (tree cond)) }
+{
+    let executor = Stream::new(Keep::new(alloc, cond));
+    row_wise(Choice::Second(Choice::First(executor)))
+}
+
+/// LIMIT.
+pub fn limit(alloc: Global, offset: u64, count: u64) -> NodeExecutor
+    requires { offset + count < 2 ^ 64 }
+    ensures { ⟦<NodeExecutor as Executor<World>>⟧.node result
+        ≡ OnRows (plan.Limit offset count) }
+{
+    row_wise(Choice::Second(Choice::Second(Limit::new(alloc, offset, count))))
+}
+
+/// FOR over an array.
+pub fn enumerate_list(alloc: Global, var: u32, list: Expr) -> NodeExecutor
+    ensures { ⟦<NodeExecutor as Executor<World>>⟧.node result
+        ≡ OnRows (plan.EnumerateList (Num var) (tree list)) }
+{
+    let executor = Stream::new(Elements::new(alloc, var, list));
+    enumeration(Choice::First(Choice::First(executor)))
+}
+
+/// FOR over a collection.
+pub fn enumerate_collection(alloc: Global, reading: Reading) -> NodeExecutor
+    ensures { ⟦<NodeExecutor as Executor<World>>⟧.node result
+        ≡ OnRows (plan.EnumerateCollection (scans.reading reading)) }
+{
+    let executor = Stream::new(Documents::new(alloc, reading));
+    enumeration(Choice::First(Choice::Second(executor)))
+}
+
+/// A traversal.
+pub fn traversal(alloc: Global, search: Search) -> NodeExecutor
+    ensures { ⟦<NodeExecutor as Executor<World>>⟧.node result ≡ OnRows (graph.node_of search) }
+{
+    enumeration(Choice::Second(Stream::new(Paths::new(alloc, search))))
+}
+
+/// SORT.
+pub fn sort(alloc: Global, keys: Keys, limit: Option<u64>) -> NodeExecutor
+    ensures { ⟦<NodeExecutor as Executor<World>>⟧.node result
+        ≡ OnRows (plan.Sort (directions keys) (key_trees keys) limit) }
+{
+    let executor = Stream::new(Order::new(alloc, keys, limit));
+    holder(Choice::First(Choice::First(executor)))
+}
+
+/// A subquery.
+pub fn subquery(alloc: Global, var: u32) -> NodeExecutor
+    ensures { ⟦<NodeExecutor as Executor<World>>⟧.node result ≡ WithBody (Num var) }
+{
+    let executor = Subquery::new(alloc, var);
+    holder(Choice::First(Choice::Second(executor)))
+}
+
+/// COLLECT as one step.
+pub fn collect(
+    alloc: Global,
+    criteria: Lets,
+    aggregates: Aggregates,
+    into: Option<Into>,
+) -> NodeExecutor
+    requires { AllByRecursion IsNumber (sets (node_of criteria aggregates into)) }
+    ensures { ⟦<NodeExecutor as Executor<World>>⟧.node result
+        ≡ OnRows (node_of criteria aggregates into) }
+{
+    let executor = Collect::new(alloc, criteria, aggregates, into);
+    holder(Choice::Second(Choice::First(executor)))
+}
+
+/// RETURN DISTINCT.
+pub fn distinct_results(alloc: Global, expr: Expr) -> NodeExecutor
+    ensures { ⟦<NodeExecutor as Executor<World>>⟧.node result
+        ≡ OnRows (plan.Return true (tree expr)) }
+{
+    let executor = Stream::new(FirstResults::new(alloc, expr));
+    holder(Choice::Second(Choice::Second(executor)))
+}

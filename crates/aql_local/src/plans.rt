@@ -1,0 +1,72 @@
+//! A run of a plan.
+
+ghost use Rattle.std.specs.Prelude.{◌≡◌, ◌≤◌, IfOk};
+ghost use Rattle.aql_plan.specs.View.{plan_tree};
+ghost use Rattle.aql_exec_plan.specs.OperatorsOf.{operators_of};
+ghost use Rattle.aql_shard.specs.Held.{stock};
+ghost use Rattle.aql_engine.specs.Engine.{CanRun, IsRunOver};
+
+use crate::building::tree_of;
+use crate::results::results_of;
+use aql_block::{Row, Tally};
+use aql_doc::Catalog;
+use aql_engine::Ran;
+use aql_exec::{Delivers, Picker};
+use aql_exec_tree::run_feed;
+use aql_plan::Plan;
+use aql_shard::{Servers, split};
+use aql_value::OutOfMemory;
+use aql_world::World;
+use std::alloc::Global;
+use std::mem;
+
+/// Runs a plan from the empty row over the documents of the servers, in steps of at most `batch`
+/// rows, with messages delivered in the order that the picker picks.
+pub fn run_plan<P: Picker>(
+    alloc: Global,
+    plan: Plan,
+    servers: &mut Servers,
+    picker: &mut P,
+    batch: u32,
+) -> Result<Ran, OutOfMemory>
+    requires plan { CanRun (stock servers.old) plan }
+    requires batch { (1 ≤ batch) × (batch ≤ 10000) }
+    ensures stock { stock servers.new ≡ stock servers.old }
+    ensures run { IfOk result (λ ran. (ran.plan ≡ plan) × (ran.batch ≡ batch)
+        × IsRunOver (stock servers.old) ran) }
+{
+    let mut tree = tree_of(alloc, &plan)?;
+    let none = split(alloc, Catalog::new(alloc), 0)?;
+    let mut world = World::new(alloc, mem::replace(servers, none));
+    let ran = run_operators(alloc, plan, &mut tree, &mut world, picker, batch);
+    *servers = world.into_servers();
+    ran
+}
+
+// Runs a feed, which runs the operators of a plan, from the empty row.
+fn run_operators<F: Delivers<World>, P: Picker>(
+    alloc: Global,
+    plan: Plan,
+    feed: &mut F,
+    world: &mut World,
+    picker: &mut P,
+    batch: u32,
+) -> Result<Ran, OutOfMemory>
+    requires feed { F.plan feed.old ≡ operators_of (stock world.old.servers).facts (plan_tree plan) }
+    requires plan { CanRun (stock world.old.servers) plan }
+    requires batch { (1 ≤ batch) × (batch ≤ 10000) }
+    ensures stock { stock world.new.servers ≡ stock world.old.servers }
+    ensures run { IfOk result (λ ran. (ran.plan ≡ plan) × (ran.batch ≡ batch)
+        × IsRunOver (stock world.old.servers) ran) }
+{
+    let mut tally = Tally::new();
+    let start = Row::new(alloc);
+    let blocks = run_feed(alloc, feed, &start, world, picker, batch, &mut tally)?;
+    let values = results_of(alloc, blocks)?;
+    Ok(Ran {
+        plan,
+        batch,
+        values,
+        tally,
+    })
+}
