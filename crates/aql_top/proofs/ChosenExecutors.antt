@@ -1,5 +1,5 @@
 -- A plan that is chosen for one whose nodes have executors has executors for its own.
-use Rattle.std.proofs.Common.{◌≡◌, List, Bool, true, false, Option, None, Some, sym, subst}
+use Rattle.std.proofs.Common.{ℕ, ◌≡◌, List, Bool, true, false, Option, None, Some, sym, subst}
 use Rattle.aql_tree.specs.declared.syntax.Ident.TheVariants.{Num}
 use Rattle.aql_tree.specs.Tree.{ExprTree, variable}
 use Rattle.aql_meaning.specs.declared.grouping.Stage.TheVariants as stage
