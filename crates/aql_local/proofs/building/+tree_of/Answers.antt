@@ -27,6 +27,13 @@ returns-in_ok-tree_of-in-EnumerateList t c =
     rw is (if_map c.over-in-EnumerateList.result (rw is at c.over-in-EnumerateList.ensures) (λ x h facts. h ∙ ap (on_top _)
     (below facts ∙ ap (λ p. operators_of facts (plan_tree p)) c.deref-in-EnumerateList.ensures)))
 
+pub returns-in_ok-tree_of-in-Traversal : goal.returns-in_ok-tree_of-in-Traversal
+returns-in_ok-tree_of-in-Traversal t c =
+    let is = c.in-Traversal.is in
+    let below = c.in_ok-tree_of-in-Traversal.ensures in
+    rw is (if_map c.over-in-Traversal.result (rw is at c.over-in-Traversal.ensures) (λ x h facts. h ∙ ap (on_top _)
+    (below facts ∙ ap (λ p. operators_of facts (plan_tree p)) c.deref-in-Traversal.ensures)))
+
 pub returns-in_ok-tree_of-in-Calculation : goal.returns-in_ok-tree_of-in-Calculation
 returns-in_ok-tree_of-in-Calculation t c =
     let is = c.in-Calculation.is in
