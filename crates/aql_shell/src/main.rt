@@ -1,8 +1,8 @@
 //! Reads a script on standard input and prints one answer of its query.
 #![tactic(auto)]
 
-use aql_local::Local;
 use aql_io::{StdSink, StdSource, write_all};
+use aql_local::Local;
 use aql_top::run_shell;
 use aql_value::{Names, OutOfMemory, Text};
 use std::env;
