@@ -1,14 +1,28 @@
--- The operator of a node that has an executor; and what is asked of the variables of a COLLECT.
+-- The operator of a node that has an executor, and those of its body; and what is asked of the variables of a
+-- COLLECT.
+use Rattle.std.specs.Prelude.{Bool, true, false}
 use Rattle.std.specs.List.{AllByRecursion}
 use Rattle.aql_meaning.specs.Numbered.{IsNumber}
+use Rattle.aql_plan.specs.declared.facts.Facts.{Facts}
 use Rattle.aql_plan.specs.Plan.{Plan, Singleton, Over, Node, Traversal, Subquery, Collect, NoResults}
 use Rattle.aql_plan.specs.Needs.{sets}
-use Rattle.aql_exec.specs.Operators.{Operator, NoRows, OnRows, WithBody}
+use Rattle.aql_exec.specs.Operators.{Operator, NoRows, OnRows, WithBody, OperatorTree, leaf}
+use Rattle.aql_exec_plan.specs.OperatorsOf.{operators_of}
 
 abbrev pub operator_of : Node → Operator
 operator_of NoResults = NoRows
 operator_of (Subquery x body) = WithBody x
 operator_of n = OnRows n
+
+-- a node without a body has one that never begins
+abbrev pub body_operators : Facts → Node → OperatorTree
+body_operators facts (Subquery x body) = operators_of facts body
+body_operators facts n = leaf NoRows
+
+-- the node at the top gives no row, whatever its input gives
+abbrev pub gives_none : Plan → Bool
+gives_none (Over b NoResults) = true
+gives_none p = false
 
 abbrev pub IsTraversal : Node → Type 0
 IsTraversal (Traversal shape e colls prune keep) = Unit {0}

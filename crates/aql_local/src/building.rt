@@ -7,10 +7,11 @@ ghost use Rattle.aql_plan.specs.Fits.{Fits};
 ghost use Rattle.aql_plan.specs.View.{plan_tree};
 ghost use Rattle.aql_exec.specs.Operators.{within};
 ghost use Rattle.aql_exec_graph.specs.Searches as graph;
-ghost use Rattle.aql_exec_plan.specs.EachFits.{EachFits};
-ghost use Rattle.aql_exec_plan.specs.OperatorsOf.{operators_of, on_top};
+ghost use Rattle.aql_exec_plan.specs.EachFits.{EachFits, BodyFits};
+ghost use Rattle.aql_exec_plan.specs.OperatorsOf.{operators_of};
 ghost use Rattle.aql_exec_plan.specs.Runnable.{HasExecutors, HasExecutor};
-ghost use Rattle.aql_local.specs.Building.{operator_of, IsTraversal, SetsNumbers, NodeSetsNumbers};
+ghost use Rattle.aql_local.specs.Building.{operator_of, body_operators, gives_none, IsTraversal};
+ghost use Rattle.aql_local.specs.Building.{SetsNumbers, NodeSetsNumbers};
 
 use crate::nodes::{
     NodeExecutor, calculation, collect, distinct_results, enumerate_collection, enumerate_list,
@@ -29,6 +30,7 @@ use aql_world::World;
 use std::alloc::Global;
 
 /// The executors of a plan as one tree.
+#[cycle(tree)]
 pub fn tree_of(alloc: Global, plan: &Plan) -> Result<Tree<NodeExecutor>, OutOfMemory>
     requires executors { HasExecutors (plan_tree plan.now) }
     requires fits { (facts : Facts) × EachFits facts (plan_tree plan.now) }
@@ -36,42 +38,39 @@ pub fn tree_of(alloc: Global, plan: &Plan) -> Result<Tree<NodeExecutor>, OutOfMe
     ensures { IfOk result (λ t. (facts : Facts) → ⟦<Tree<NodeExecutor> as Feed<World>>⟧.plan t
         ≡ operators_of facts (plan_tree plan.now)) }
 {
-    match plan {
-        Plan::Singleton => Ok(Tree::Leaf(start_row())),
-        Plan::NoResults { .. } => Ok(Tree::Leaf(no_results())),
-        Plan::Subquery { below, var, body } => {
+    match plan.below() {
+        None => Ok(Tree::Leaf(start_row())),
+        Some(below) => {
+            if is_no_results(plan) {
+                return Ok(Tree::Leaf(no_results()));
+            }
+            let executor = executor_of(alloc, plan)?;
             let below = tree_of(alloc, below)?;
-            let body = tree_of(alloc, body)?;
-            with_body(alloc, subquery(alloc, *var), below, body)
+            let body = body_of(alloc, plan)?;
+            with_body(alloc, executor, below, body)
         }
-        Plan::EnumerateCollection { below, .. } => over(alloc, plan, tree_of(alloc, below)?),
-        Plan::EnumerateList { below, .. } => over(alloc, plan, tree_of(alloc, below)?),
-        Plan::Traversal { below, .. } => over(alloc, plan, tree_of(alloc, below)?),
-        Plan::Calculation { below, .. } => over(alloc, plan, tree_of(alloc, below)?),
-        Plan::Filter { below, .. } => over(alloc, plan, tree_of(alloc, below)?),
-        Plan::Sort { below, .. } => over(alloc, plan, tree_of(alloc, below)?),
-        Plan::Limit { below, .. } => over(alloc, plan, tree_of(alloc, below)?),
-        Plan::Collect { below, .. } => over(alloc, plan, tree_of(alloc, below)?),
-        Plan::Return { below, .. } => over(alloc, plan, tree_of(alloc, below)?),
-        _ => unreachable!(),
     }
 }
 
-// The node at the top of a plan, over the tree of its input.
-fn over(
-    alloc: Global,
-    plan: &Plan,
-    below: Tree<NodeExecutor>,
-) -> Result<Tree<NodeExecutor>, OutOfMemory>
-    requires executor { HasExecutor (spec.top (plan_tree plan.now)) }
-    requires fits { (facts : Facts) × Fits facts (spec.top (plan_tree plan.now)) }
+// The tree of the body of a plan's top node. Where it has none, this is a leaf that never begins.
+#[cycle(tree)]
+fn body_of(alloc: Global, plan: &Plan) -> Result<Tree<NodeExecutor>, OutOfMemory>
+    requires executors { HasExecutor (spec.top (plan_tree plan.now)) }
+    requires fits { (facts : Facts) × BodyFits facts (spec.top (plan_tree plan.now)) }
     requires numbers { NodeSetsNumbers (spec.top (plan_tree plan.now)) }
-    ensures { IfOk result (λ t. ⟦<Tree<NodeExecutor> as Feed<World>>⟧.plan t
-        ≡ on_top (operator_of (spec.top (plan_tree plan.now)))
-        (⟦<Tree<NodeExecutor> as Feed<World>>⟧.plan below)) }
+    ensures { IfOk result (λ t. (facts : Facts) → ⟦<Tree<NodeExecutor> as Feed<World>>⟧.plan t
+        ≡ body_operators facts (spec.top (plan_tree plan.now))) }
 {
-    let executor = executor_of(alloc, plan)?;
-    with_body(alloc, executor, below, Tree::Leaf(no_results()))
+    match plan.body() {
+        Some(body) => tree_of(alloc, body),
+        None => Ok(Tree::Leaf(no_results())),
+    }
+}
+
+fn is_no_results(plan: &Plan) -> bool
+    ensures { result ≡ gives_none (plan_tree plan.now) }
+{
+    matches!(plan, Plan::NoResults { .. })
 }
 
 fn with_body(
