@@ -1,2 +1,4 @@
 pub mod FirstPlan
 pub mod Turns
+pub mod Cheapest
+pub mod Tried

@@ -14,14 +14,14 @@ loop-rule-init c = record {
 
 pub loop-rule-preserved : goal.loop-rule-preserved
 loop-rule-preserved c = record {
-  runs = one_more c.args.facts.now c.args.rules.now (plan_tree c.args.plan) (plan_tree c.loop-rule.chosen.plan)
-      (plan_tree c.in_ok-chosen.chosen.plan) c.loop-rule.chosen.applied c.in_ok-chosen.chosen.applied
+  runs = one_more c.args.facts.now c.args.rules.now (plan_tree c.args.plan) (plan_tree c.loop-rule.rewritten.plan)
+      (plan_tree c.in_ok-rewritten.rewritten.plan) c.loop-rule.rewritten.applied c.in_ok-rewritten.rewritten.applied
       c.args.order.now c.loop-rule.rule-index _ c.loop-rule-test.true
       (search rules)
-      c.loop-rule.invariant.runs c.in_ok-chosen.ensures.runs;
-  refines = refines_through_answers c.args.facts.now _ _ _ c.in_ok-chosen.ensures.refines
+      c.loop-rule.invariant.runs c.in_ok-rewritten.ensures.runs;
+  refines = refines_through_answers c.args.facts.now _ _ _ c.in_ok-rewritten.ensures.refines
       c.loop-rule.invariant.refines;
-  whole = c.in_ok-chosen.ensures.whole;
-  sets = sets_through (plan_tree c.args.plan) (plan_tree c.loop-rule.chosen.plan)
-      (plan_tree c.in_ok-chosen.chosen.plan) c.loop-rule.invariant.sets c.in_ok-chosen.ensures.sets;
+  whole = c.in_ok-rewritten.ensures.whole;
+  sets = sets_through (plan_tree c.args.plan) (plan_tree c.loop-rule.rewritten.plan)
+      (plan_tree c.in_ok-rewritten.rewritten.plan) c.loop-rule.invariant.sets c.in_ok-rewritten.ensures.sets;
 }

@@ -9,8 +9,8 @@ use Rattle.aql_optimise.proofs.driver.run_rules.Given as goal
 abbrev pub invariant-loop-rule : goal.invariant-loop-rule
 invariant-loop-rule l = record {
   runs : AfterRules l.facts l.rules (plan_tree l.fn.plan) (take l.rule-index l.order)
-      (plan_tree l.chosen.plan) l.chosen.applied;
-  refines : Refines l.facts (plan_tree l.chosen.plan) (plan_tree l.fn.plan);
-  whole : IsWhole false l.facts (plan_tree l.chosen.plan);
-  sets : SetsNoMore (plan_tree l.fn.plan) (plan_tree l.chosen.plan);
+      (plan_tree l.rewritten.plan) l.rewritten.applied;
+  refines : Refines l.facts (plan_tree l.rewritten.plan) (plan_tree l.fn.plan);
+  whole : IsWhole false l.facts (plan_tree l.rewritten.plan);
+  sets : SetsNoMore (plan_tree l.fn.plan) (plan_tree l.rewritten.plan);
 }
