@@ -4,7 +4,7 @@ ghost use Rattle.aql_plan.specs.Shapes.{HasNoFragment};
 ghost use Rattle.aql_plan.specs.View.{plan_tree};
 ghost use Rattle.aql_rewrite_plan.specs.Placed.{IsWhole};
 
-use crate::lines::{Line, one_collection, plan_of};
+use crate::lines::{Line, plan_of, two_collections};
 use crate::texts::write_plan;
 use aql_plan::{Facts, Plan, Stage};
 use aql_plan_check::well_formed;
@@ -95,7 +95,7 @@ fn first_of<R: Rule>(alloc: Global, rule: &R, lines: &[Line], facts: &Facts) -> 
 pub fn check_rule<R: Rule>(rt: &impl Abort, alloc: Global, rule: &R, rows: &[(&[Line], &str)])
     requires { R.fragments rule.now ≡ false }
 {
-    match one_collection(alloc) {
+    match two_collections(alloc) {
         Ok(facts) => {
             for (lines, want) in rows {
                 expect_page(rt, &first_of(alloc, rule, lines, &facts), want, "a plan");

@@ -14,6 +14,8 @@ mod filters;
 #[cfg(test)]
 mod lines;
 #[cfg(test)]
+mod loops;
+#[cfg(test)]
 mod order;
 #[cfg(test)]
 mod texts;

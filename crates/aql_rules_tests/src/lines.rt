@@ -1,4 +1,5 @@
-// Small plans, a line for each node, the lowest first, over one collection of edges.
+// Small plans, a line for each node, the lowest first, over a collection of edges and one of a
+// single document.
 use aql_func::BinOp;
 use aql_meaning::{Last, Stage, TraversalOptions};
 use aql_plan::{CollFact, Facts, IndexFact, IndexKind, Plan};
@@ -20,8 +21,10 @@ pub type Aggregated = (u32, &'static str, Part);
 /// A node of a plan.
 #[derive(Clone, Copy)]
 pub enum Line {
-    /// FOR over the collection.
+    /// FOR over the collection of edges.
     Docs(u32),
+    /// FOR over the collection of a single document.
+    Lone(u32),
     /// The same with a filter of its own.
     DocsIf(u32, Cond),
     /// The same with one attribute of each document alone.
@@ -80,20 +83,30 @@ fn indexes(alloc: Global) -> Result<Seq<IndexFact>, OutOfMemory> {
     Ok(indexes)
 }
 
-/// What is known of the collection: ten edges in one place, and an index of one attribute.
-pub fn one_collection(alloc: Global) -> Result<Facts, OutOfMemory> {
-    let name = Text::new(alloc, "c")?;
-    let keys = names(alloc, "_key")?;
+fn collection(
+    alloc: Global,
+    name: &str,
+    edge: bool,
+    documents: u64,
+    indexes: Seq<IndexFact>,
+) -> Result<CollFact, OutOfMemory> {
+    Ok(CollFact {
+        name: Text::new(alloc, name)?,
+        edge,
+        documents,
+        shards: 1,
+        keys: names(alloc, "_key")?,
+        indexes,
+    })
+}
+
+/// What is known of the collections: ten edges in one place, with an index of one attribute, and a
+/// single document.
+pub fn two_collections(alloc: Global) -> Result<Facts, OutOfMemory> {
     let indexes = indexes(alloc)?;
     let mut collections = Seq::new(alloc);
-    collections.push(CollFact {
-        name,
-        edge: true,
-        documents: 10,
-        shards: 1,
-        keys,
-        indexes,
-    })?;
+    collections.push(collection(alloc, "c", true, 10, indexes)?)?;
+    collections.push(collection(alloc, "d", false, 1, Seq::new(alloc))?)?;
     Ok(Facts {
         servers: 0,
         collections,
@@ -137,6 +150,17 @@ fn docs(below: Box<Plan>, var: u32, filter: Option<Expr>, attrs: Option<Seq<Text
         coll: CollNo(0),
         filter,
         attrs,
+        shard: None,
+    }
+}
+
+fn lone(below: Box<Plan>, var: u32) -> Plan {
+    Plan::EnumerateCollection {
+        below,
+        var,
+        coll: CollNo(1),
+        filter: None,
+        attrs: None,
         shard: None,
     }
 }
@@ -197,6 +221,7 @@ fn paths(
 fn source(alloc: Global, below: Box<Plan>, line: Line) -> Result<Plan, OutOfMemory> {
     match line {
         Line::Docs(var) => Ok(docs(below, var, None, None)),
+        Line::Lone(var) => Ok(lone(below, var)),
         Line::DocsIf(var, filter) => Ok(docs(below, var, maybe_cond(alloc, filter)?, None)),
         Line::DocsCut(var) => Ok(docs(below, var, None, Some(names(alloc, "a")?))),
         Line::Found(var) => Ok(found(alloc, below, var)),

@@ -1,5 +1,6 @@
 -- A plan that is chosen for one whose nodes have executors has executors for its own.
-use Rattle.std.proofs.Common.{ℕ, ◌≡◌, List, Bool, true, false, Option, None, Some, sym, subst}
+use Rattle.std.proofs.Common.{ℕ, ◌≡◌, List, [], ◌∷◌, ◌++◌, Bool, true, false, Option, None, Some, sym, subst}
+use Rattle.std.specs.List.{AllZip, AllByRecursion}
 use Rattle.aql_tree.specs.declared.syntax.Ident.TheVariants.{Num}
 use Rattle.aql_tree.specs.Tree.{ExprTree, variable}
 use Rattle.aql_meaning.specs.declared.grouping.Stage.TheVariants as stage
@@ -32,7 +33,8 @@ use Rattle.aql_opt.specs.declared.rule_sets.Rules.{Rules}
 use Rattle.aql_rules_conditions.specs.SimplifyConditions.{Simplifies}
 use Rattle.aql_rules_conditions.specs.ReplaceOrWithIn.{Replaces}
 use Rattle.aql_optimise.specs.Passes.{IsPassOf}
-use Rattle.aql_optimise.specs.Chosen.{RunsRule, switched_off, unchanged, changed, AfterRules, at_first, and_then, Chosen, all_rules}
+use Rattle.aql_rules_join.specs.laws.Interchanged.{Interchanged, Reordered, candidates_reordered}
+use Rattle.aql_optimise.specs.Chosen.{RunsRule, switched_off, unchanged, changed, AfterRules, at_first, and_then, CandidatesBy, alone, interchanged, EndsAs, first_rules, later_rules, Chosen}
 
 -- ---- other expressions, and other names
 
@@ -192,6 +194,41 @@ turns_kept facts rules p _ _ _ at_first h = h
 turns_kept facts rules p _ _ _ (and_then after turn) h =
     turn_kept facts rules _ _ _ _ _ turn (turns_kept facts rules p _ _ _ after h)
 
+-- ---- the candidates
+
+interchanged_kept : (p q : Plan) → Interchanged p q → HasExecutors p → HasExecutors q
+interchanged_kept _ _ (Interchanged.here lower upper) h = ((h.0.0, tt), tt)
+interchanged_kept _ _ (Interchanged.below step) h = (interchanged_kept _ _ step h.0, h.1)
+
+reordered_kept : (p q : Plan) → Reordered p q → HasExecutors p → HasExecutors q
+reordered_kept _ _ Reordered.at_once h = h
+reordered_kept _ _ (Reordered.and_then before step) h =
+    interchanged_kept _ _ step (reordered_kept _ _ before h)
+
+each_kept : (p : Plan) (cs : List Plan) → AllByRecursion (Reordered p) cs → HasExecutors p
+    → AllByRecursion HasExecutors cs
+each_kept p [] r h = tt
+each_kept p (c ∷ cs) r h = (reordered_kept p c r.0 h, each_kept p cs r.1 h)
+
+candidates_kept : (rules : Rules) (p : Plan) (cs : List Plan) → CandidatesBy rules p cs → HasExecutors p
+    → AllByRecursion HasExecutors cs
+candidates_kept rules p _ (alone off) h = (h, tt)
+candidates_kept rules p cs (interchanged on are) h = each_kept p cs (candidates_reordered p cs are) h
+
+-- what is related to one of the later list comes of one of the first
+middle : {A B : Type 0} (R : A → B → Type 0) (P : A → Type 0) (xs : List A) (ys : List B) (y : B)
+    (zs : List B) → AllZip R xs (ys ++ y ∷ zs) → AllByRecursion P xs → (x : A) × P x × R x y
+middle R P [] [] y zs h k = absurd h
+middle R P [] (b ∷ ys) y zs h k = absurd h
+middle R P (x ∷ xs) [] y zs h k = (x, k.0, h.0)
+middle R P (x ∷ xs) (b ∷ ys) y zs h k = middle R P xs ys y zs h.1 k.1
+
 pub chosen_kept : (facts : Facts) (rules : Rules) (p q : Plan) (told : List RuleName)
     → Chosen facts rules p q told → HasExecutors p → HasExecutors q
-chosen_kept facts rules p q told c h = turns_kept facts rules p q all_rules told c h
+chosen_kept facts rules p q told c h =
+    let first = turns_kept facts rules p c.first.plan first_rules c.first.told c.ran_first h in
+    let tried = candidates_kept rules c.first.plan c.candidates c.are first in
+    let from = middle (EndsAs facts rules) HasExecutors c.candidates c.before c.chosen c.after
+    c.cheapest.ended tried in
+    subst HasExecutors (sym c.plan)
+    (turns_kept facts rules from.0 c.chosen.plan later_rules c.chosen.told from.2 from.1)
