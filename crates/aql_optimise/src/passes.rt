@@ -8,6 +8,7 @@ ghost use Rattle.aql_rewrite_plan.specs.Swaps.{SetsNoMore};
 ghost use Rattle.aql_optimise.specs.Passes.{IsPassOf};
 
 use aql_plan::{Facts, Passed, Plan, RuleName};
+use aql_rewrite_exchange::run_exchange_pass;
 use aql_rewrite_node_exprs::run_expr_pass;
 use aql_rewrite_plan::run_pass;
 use aql_rules_calc::{
@@ -40,8 +41,8 @@ pub(crate) fn pass_of(
     match rule {
         RuleName::SimplifyConditions => run_expr_pass(alloc, &SimplifyConditions, plan, facts),
         RuleName::InlineSubqueries => run_pass(alloc, &InlineSubqueries, plan, facts),
-        RuleName::MoveCalculationsUp => run_pass(alloc, &MoveCalculationsUp, plan, facts),
-        RuleName::MoveFiltersUp => run_pass(alloc, &MoveFiltersUp, plan, facts),
+        RuleName::MoveCalculationsUp => run_exchange_pass(alloc, &MoveCalculationsUp, plan, facts),
+        RuleName::MoveFiltersUp => run_exchange_pass(alloc, &MoveFiltersUp, plan, facts),
         RuleName::RemoveRedundantCalculations => {
             run_pass(alloc, &RemoveRedundantCalculations, plan, facts)
         }

@@ -4,6 +4,8 @@ pub mod Needed
 pub mod UnnecessaryCalculations
 pub mod BoundRows
 pub mod Moved
+pub mod SameUsed
+pub mod CalculationsExchanged
 pub mod RowsHold
 pub mod CalculatedTwice
 pub mod Attributes

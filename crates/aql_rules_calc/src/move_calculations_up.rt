@@ -11,6 +11,7 @@ ghost use Rattle.aql_rules_calc.specs.MoveCalculationsUp.{may_pass as spec_may_p
 
 use crate::needs::node_uses;
 use aql_plan::{Facts, Plan, Uses};
+use aql_rewrite_exchange::ExchangeRule;
 use aql_rewrite_plan::{Rule, Swap};
 use aql_value::OutOfMemory;
 use std::alloc::Global;
@@ -119,4 +120,32 @@ impl Rule for MoveCalculationsUp {
         moves_keep facts outer away us p q r placed h };
 
     ghost falls = { λ _ facts p q r whole h. moves_fall facts p q r whole h };
+}
+
+impl ExchangeRule for MoveCalculationsUp {
+    ghost use Rattle.std.specs.Prelude.{refl};
+    ghost use Rattle.aql_rules_calc.specs.laws.CalculationsExchanged.{calculation_swaps};
+    ghost use Rattle.aql_rules_calc.specs.laws.CalculationsExchanged.{calculations_exchanged};
+    ghost use Rattle.aql_rules_calc.specs.laws.CalculationsExchanged.{calculations_alone};
+    ghost use Rattle.aql_rules_calc.specs.laws.CalculationsExchanged.{calculations_apart};
+    ghost use Rattle.aql_rules_calc.specs.laws.CalculationsExchanged.{calculations_steady};
+
+    ghost swaps = { λ _. calculation_swaps };
+
+    fn may_exchange(&self, alloc: Global, upper: &Plan, lower: &Plan) -> Result<bool, OutOfMemory> {
+        if !may_pass(upper, lower) {
+            return Ok(false);
+        }
+        uses_none(alloc, upper, lower)
+    }
+
+    ghost lone = { λ _. refl };
+
+    ghost exchanged = { λ _ _ us b upper lower h. calculations_exchanged us b upper lower h };
+
+    ghost alone = { λ _ _ us p q r h. calculations_alone us p q r h };
+
+    ghost apart = { λ _ upper lower further h. calculations_apart upper lower further h };
+
+    ghost steady = { λ _ _ v s t lower h. calculations_steady v s t lower h };
 }

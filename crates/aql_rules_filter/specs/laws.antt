@@ -11,5 +11,6 @@ pub mod FiltersFused
 pub mod FiltersInside
 pub mod FiltersPass
 pub mod FiltersUp
+pub mod FiltersExchanged
 pub mod FewerVariables
 pub mod TraversalsOptimized

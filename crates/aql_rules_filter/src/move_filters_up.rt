@@ -4,6 +4,7 @@ use crate::readers::{filter_of, filter_over};
 use crate::swapping::{may_swap, uses_of};
 use aql_copy::copy_expr;
 use aql_plan::{Facts, Plan, Uses};
+use aql_rewrite_exchange::ExchangeRule;
 use aql_rewrite_plan::{Rule, Swap};
 use aql_value::OutOfMemory;
 use std::alloc::Global;
@@ -55,4 +56,33 @@ impl Rule for MoveFiltersUp {
         moves_up_keep facts outer away us p q r placed h };
 
     ghost falls = { λ _ facts p q r whole h. moves_up_fall facts p q r whole h };
+}
+
+impl ExchangeRule for MoveFiltersUp {
+    ghost use Rattle.std.specs.Prelude.{refl};
+    ghost use Rattle.aql_rules_filter.specs.laws.FiltersExchanged.{filter_swaps};
+    ghost use Rattle.aql_rules_filter.specs.laws.FiltersExchanged.{filters_exchanged, filters_alone};
+    ghost use Rattle.aql_rules_filter.specs.laws.FiltersExchanged.{filters_apart, filters_steady};
+
+    ghost swaps = { λ _. filter_swaps };
+
+    fn may_exchange(&self, alloc: Global, upper: &Plan, lower: &Plan) -> Result<bool, OutOfMemory> {
+        match filter_of(upper) {
+            None => Ok(false),
+            Some((_, cond)) => {
+                let used = uses_of(alloc, cond)?;
+                Ok(may_swap(lower, &used))
+            }
+        }
+    }
+
+    ghost lone = { λ _. refl };
+
+    ghost exchanged = { λ _ _ us b upper lower h. filters_exchanged us b upper lower h };
+
+    ghost alone = { λ _ _ us p q r h. filters_alone us p q r h };
+
+    ghost apart = { λ _ upper lower further h. filters_apart upper lower further h };
+
+    ghost steady = { λ _ _ v s t lower _. filters_steady v s t lower };
 }
