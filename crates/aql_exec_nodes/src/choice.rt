@@ -11,10 +11,18 @@ use aql_value::OutOfMemory;
 use std::alloc::Global;
 
 /// One executor or another.
-#[derive(Drop)]
 pub enum Choice<A, B> {
     First(A),
     Second(B),
+}
+
+// Written, and not derived, so that a drop on a way out is one call.
+impl<A: Drop, B: Drop> Drop for Choice<A, B> {
+    fn drop(self) {
+        match self {
+            Choice::First(_) | Choice::Second(_) => {}
+        }
+    }
 }
 
 impl<W: Place, A: Executor<W>, B: Executor<W>> Executor<W> for Choice<A, B> {

@@ -16,10 +16,18 @@ use std::alloc::Global;
 
 /// An executor without inputs, or one over its input and with a body. An executor with one input
 /// has any leaf as its body, which never begins.
-#[derive(Drop)]
 pub enum Tree<X> {
     Leaf(X),
     Sub(X, Box<Tree<X>>, Box<Tree<X>>),
+}
+
+// Written, and not derived, so that a drop on a way out is one call.
+impl<X: Drop> Drop for Tree<X> {
+    fn drop(self) {
+        match self {
+            Tree::Leaf(_) | Tree::Sub(_, _, _) => {}
+        }
+    }
 }
 
 impl<W: Place, X: Executor<W>> Feed<W> for Tree<X> {
