@@ -1,4 +1,4 @@
-//! Tests of the lower libraries: values, tokens, functions, aggregates, copies, parsing, rewriting
+//! Tests of the lower libraries: values, tokens, functions, aggregates, copies, parsing
 //! and evaluation.
 #![tactic(auto)]
 
@@ -14,8 +14,6 @@ mod functions;
 mod pages;
 #[cfg(test)]
 mod parsing;
-#[cfg(test)]
-mod rewriting;
 #[cfg(test)]
 mod stages;
 #[cfg(test)]

@@ -1,1 +1,2 @@
 pub mod NotFalse
+pub mod Sample

@@ -1,58 +1,13 @@
 // The first place of a rule in expressions of each form, worked out by hand.
-ghost use Rattle.std.specs.Prelude.{◌≡◌, refl};
-ghost use Rattle.aql_parts_tests.specs.NotFalse.{IsTurned, turned_falls, turned_keeps};
-
 use crate::pages::{Page, expect_page};
-use aql_func::UnaryOp;
+use crate::rules::{Never, NotFalse};
 use aql_lex::lex;
 use aql_parse::parse;
 use aql_rewrite_expr::{ExprRule, first_part};
 use aql_test_support::{Notation, write_expr};
-use aql_tree::{Expr, Query};
-use aql_value::{OutOfMemory, Value};
+use aql_tree::Query;
 use std::alloc::Global;
 use std::process::Abort;
-
-// `!false` becomes `true`.
-#[derive(Drop)]
-struct NotFalse {}
-
-impl ExprRule for NotFalse {
-    ghost rewrites = { λ x p q. IsTurned p q };
-
-    fn at(&self, alloc: Global, expr: &Expr) -> Result<Option<Expr>, OutOfMemory> {
-        match expr {
-            Expr::Unary {
-                op: UnaryOp::Not,
-                of,
-            } => match &**of {
-                Expr::Lit(Value::Bool(false)) => Ok(Some(Expr::Lit(Value::Bool(true)))),
-                _ => Ok(None),
-            },
-            _ => Ok(None),
-        }
-    }
-
-    ghost keeps = { λ x p q h. turned_keeps p q h };
-
-    ghost falls = { λ x p q h. turned_falls p q h };
-}
-
-// A rule that applies nowhere.
-#[derive(Drop)]
-struct Never {}
-
-impl ExprRule for Never {
-    ghost rewrites = { λ x p q. ⊥ };
-
-    fn at(&self, alloc: Global, expr: &Expr) -> Result<Option<Expr>, OutOfMemory> {
-        Ok(None)
-    }
-
-    ghost keeps = { λ x p q h. absurd h };
-
-    ghost falls = { λ x p q h. absurd h };
-}
 
 fn write_first<R: ExprRule>(alloc: Global, rule: &R, query: &Query, page: &mut Page) {
     match first_part(alloc, rule, &query.result) {
