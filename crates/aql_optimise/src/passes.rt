@@ -10,6 +10,7 @@ ghost use Rattle.aql_optimise.specs.Passes.{IsPassOf};
 use aql_plan::{Facts, Passed, Plan, RuleName};
 use aql_rewrite_exchange::run_exchange_pass;
 use aql_rewrite_node_exprs::run_expr_pass;
+use aql_rewrite_part::run_part_pass;
 use aql_rewrite_plan::run_pass;
 use aql_rules_calc::{
     MoveCalculationsUp, ReduceExtractionToProjection, RemoveRedundantCalculations,
@@ -47,22 +48,27 @@ pub(crate) fn pass_of(
             run_pass(alloc, &RemoveRedundantCalculations, plan, facts)
         }
         RuleName::RemoveUnnecessaryFilters => {
-            run_pass(alloc, &RemoveUnnecessaryFilters, plan, facts)
+            run_part_pass(alloc, &RemoveUnnecessaryFilters, plan, facts)
         }
         RuleName::RemoveUnnecessaryCalculations => {
-            run_pass(alloc, &RemoveUnnecessaryCalculations, plan, facts)
+            run_part_pass(alloc, &RemoveUnnecessaryCalculations, plan, facts)
         }
-        RuleName::RemoveRedundantSorts => run_pass(alloc, &RemoveRedundantSorts, plan, facts),
-        RuleName::RemoveCollectVariables => run_pass(alloc, &RemoveCollectVariables, plan, facts),
+        RuleName::RemoveRedundantSorts => run_part_pass(alloc, &RemoveRedundantSorts, plan, facts),
+        RuleName::RemoveCollectVariables => run_part_pass(
+            alloc,
+            &RemoveCollectVariables,
+            plan,
+            facts,
+        ),
         RuleName::ReplaceOrWithIn => run_expr_pass(alloc, &ReplaceOrWithIn, plan, facts),
-        RuleName::FuseFilters => run_pass(alloc, &FuseFilters, plan, facts),
-        RuleName::OptimizeTraversals => run_pass(alloc, &OptimizeTraversals, plan, facts),
-        RuleName::SortLimit => run_pass(alloc, &SortLimit, plan, facts),
+        RuleName::FuseFilters => run_part_pass(alloc, &FuseFilters, plan, facts),
+        RuleName::OptimizeTraversals => run_part_pass(alloc, &OptimizeTraversals, plan, facts),
+        RuleName::SortLimit => run_part_pass(alloc, &SortLimit, plan, facts),
         RuleName::MoveFiltersIntoEnumerate => {
-            run_pass(alloc, &MoveFiltersIntoEnumerate, plan, facts)
+            run_part_pass(alloc, &MoveFiltersIntoEnumerate, plan, facts)
         }
         RuleName::ReduceExtractionToProjection => {
-            run_pass(alloc, &ReduceExtractionToProjection, plan, facts)
+            run_part_pass(alloc, &ReduceExtractionToProjection, plan, facts)
         }
         _ => Ok(Passed {
             plan,

@@ -8,6 +8,8 @@ mod pages;
 #[cfg(test)]
 mod rows;
 #[cfg(test)]
+mod rule_sets;
+#[cfg(test)]
 mod scoping;
 #[cfg(test)]
 mod scoping_rows;

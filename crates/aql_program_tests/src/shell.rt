@@ -5,6 +5,7 @@ use crate::pages::{Page, expect};
 use crate::rows::{CLAUSES, GROUPED, GROUPS, LONG_RUNS, NUMBERED};
 use aql_io::{MemorySink, MemorySource};
 use aql_local::Local;
+use aql_opt::Rules;
 use aql_top::run_shell;
 use aql_value::Names;
 use std::alloc::Global;
@@ -39,13 +40,21 @@ fn run_on(
         Ok(script) => {
             let mut source = MemorySource::new(script, 7, source_fails);
             let mut engine = Local::new(alloc);
-            run_shell(alloc, words, &mut source, out, err, &mut engine)
+            run_shell(
+                alloc,
+                words,
+                &Rules::all(),
+                &mut source,
+                out,
+                err,
+                &mut engine,
+            )
         }
         Err(_) => 255,
     }
 }
 
-fn sink(alloc: Global, piece: usize, fail_at: Option<u64>, room: usize) -> MemorySink
+pub(crate) fn sink(alloc: Global, piece: usize, fail_at: Option<u64>, room: usize) -> MemorySink
     requires { 1 ≤ piece }
 {
     let mut sink = MemorySink::new(alloc, piece, fail_at);

@@ -16,7 +16,7 @@ use aql_value::{OutOfMemory, Seq};
 use std::alloc::Global;
 
 /// One list, alone.
-pub(crate) fn only(alloc: Global, own: Uses) -> Result<Vec<Uses>, OutOfMemory>
+pub fn only(alloc: Global, own: Uses) -> Result<Vec<Uses>, OutOfMemory>
     ensures { IfOk result (λ above. above_uses above.items ≡ uses_tree own) }
 {
     let mut above = Vec::new(alloc);
@@ -25,7 +25,7 @@ pub(crate) fn only(alloc: Global, own: Uses) -> Result<Vec<Uses>, OutOfMemory>
 }
 
 /// What is used of the rows of a plan with a Return at its top.
-pub(crate) fn result_uses(alloc: Global) -> Result<Vec<Uses>, OutOfMemory>
+pub fn result_uses(alloc: Global) -> Result<Vec<Uses>, OutOfMemory>
     ensures { IfOk result (λ above. above_uses above.items ≡ spec_result_uses) }
 {
     let mut uses = Seq::new(alloc);

@@ -27,7 +27,7 @@ pub(crate) fn input_inside(node: &Plan, inside: bool) -> bool
 }
 
 /// Whether a node makes new rows, in which nothing of its input's rows is left.
-pub(crate) fn gives_new_rows(node: &Plan) -> bool
+pub fn gives_new_rows(node: &Plan) -> bool
     ensures { result ≡ spec_gives_new_rows (top (plan_tree node.now)) }
 {
     matches!(node, Plan::Collect { .. } | Plan::Return { .. })
@@ -41,7 +41,7 @@ fn is_collect(node: &Plan) -> bool
 
 /// What a node uses of its input by itself: what its expressions use, or what its body needs.
 #[cycle(needs)]
-pub(crate) fn uses_of(node: &Plan, alloc: Global) -> Result<Uses, OutOfMemory>
+pub fn uses_of(node: &Plan, alloc: Global) -> Result<Uses, OutOfMemory>
     ensures { IfOk result (λ own. uses_tree own ≡ uses_alone (top (plan_tree node.now))) }
 {
     let mut own = Seq::new(alloc);

@@ -52,7 +52,7 @@ pub(crate) fn walk<R: Rule>(
                 if inside {
                     return Ok(None);
                 }
-                walk_node(alloc, rule, plan, above.as_slice(), facts)
+                swap_here(alloc, rule, plan, above.as_slice(), facts)
             }
         },
     }
@@ -92,10 +92,11 @@ fn walk_input<R: Rule>(
     Ok(found)
 }
 
-/// The same where there is no place in the input of the plan's top node, which stands in no
-/// fragment: at the node itself, or else in its body.
+/// The part after one application at its top node, or else at the first place in the body of this;
+/// `None` exactly where neither is a place. The part stands in no fragment, and `above` is what the
+/// nodes above use of its rows. Where the input has no place, this is the first place.
 #[cycle(walk)]
-fn walk_node<R: Rule>(
+pub fn swap_here<R: Rule>(
     alloc: Global,
     rule: &R,
     plan: &Plan,

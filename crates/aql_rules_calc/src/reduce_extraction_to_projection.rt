@@ -17,6 +17,7 @@ ghost use Rattle.aql_rules_calc.specs.Projections.{AreKept, order_of as spec_ord
 ghost use Rattle.aql_rules_calc.specs.ReduceExtractionToProjection.{with_name};
 
 use aql_plan::{Facts, IndexFact, Plan, Use, Uses};
+use aql_rewrite_part::PartRule;
 use aql_rewrite_plan::{Rule, Swap};
 use aql_tree::Ident;
 use aql_value::{CollNo, Names, OutOfMemory, Seq, Text};
@@ -300,4 +301,27 @@ impl Rule for ReduceExtractionToProjection {
         reduces_keep facts outer away us p q r placed h };
 
     ghost falls = { λ _ facts p q r whole h. reduces_fall facts p q r whole h };
+}
+
+impl PartRule for ReduceExtractionToProjection {
+    ghost use Rattle.std.specs.Prelude.{refl, true};
+    ghost use Rattle.std.proofs.Common.{true≢false};
+    ghost use Rattle.aql_rules_calc.specs.laws.Projected.{documents_whole};
+    ghost use Rattle.aql_rules_calc.specs.laws.Projected.{reduces_nameless, reduces_shrink};
+
+    ghost looks = { λ _. true };
+
+    fn looks_above(&self) -> bool {
+        true
+    }
+
+    ghost blind = { λ _ e facts us vs p q r h. absurd (true≢false e) };
+
+    ghost lone = { λ _. refl };
+
+    ghost nameless = { λ _ facts us p q r h. reduces_nameless facts us p q r h };
+
+    ghost size = { λ _. documents_whole };
+
+    ghost lowers = { λ _ facts us p q r h. reduces_shrink facts us p q r h };
 }

@@ -7,6 +7,7 @@ ghost use Rattle.aql_plan.specs.View.{plan_tree};
 ghost use Rattle.aql_rules_calc.specs.Readers.{value_var as spec_value_var};
 
 use aql_plan::{Facts, Plan, Uses};
+use aql_rewrite_part::PartRule;
 use aql_rewrite_plan::{Rule, Swap, is_used};
 use aql_value::OutOfMemory;
 use std::alloc::Global;
@@ -68,4 +69,27 @@ impl Rule for RemoveUnnecessaryCalculations {
         removes_keep facts outer away us p q r placed h };
 
     ghost falls = { λ _ facts p q r whole h. removes_fall facts p q r whole h };
+}
+
+impl PartRule for RemoveUnnecessaryCalculations {
+    ghost use Rattle.std.specs.Prelude.{refl, true};
+    ghost use Rattle.std.proofs.Common.{true≢false};
+    ghost use Rattle.aql_rules_calc.specs.laws.UnnecessaryCalculations.{nothing};
+    ghost use Rattle.aql_rules_calc.specs.laws.UnnecessaryCalculations.{removes_nameless, removes_shrink};
+
+    ghost looks = { λ _. true };
+
+    fn looks_above(&self) -> bool {
+        true
+    }
+
+    ghost blind = { λ _ e facts us vs p q r h. absurd (true≢false e) };
+
+    ghost lone = { λ _. refl };
+
+    ghost nameless = { λ _ _ us p q r h. removes_nameless us p q r h };
+
+    ghost size = { λ _. nothing };
+
+    ghost lowers = { λ _ _ us p q r h. removes_shrink us p q r h };
 }

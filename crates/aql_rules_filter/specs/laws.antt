@@ -1,4 +1,3 @@
-pub mod Falling
 pub mod Filtered
 pub mod Filters
 pub mod Flat

@@ -3,6 +3,7 @@
 use crate::conditions::joined;
 use crate::readers::{filter_of, filter_over};
 use aql_plan::{Facts, Plan, Uses};
+use aql_rewrite_part::PartRule;
 use aql_rewrite_plan::{Rule, Swap};
 use aql_value::OutOfMemory;
 use std::alloc::Global;
@@ -50,4 +51,26 @@ impl Rule for FuseFilters {
         fuses_keep facts outer away us p q r placed h };
 
     ghost falls = { λ _ facts p q r whole h. fuses_fall facts p q r whole h };
+}
+
+impl PartRule for FuseFilters {
+    ghost use Rattle.std.specs.Prelude.{refl, false};
+    ghost use Rattle.aql_rules_filter.specs.Measures.{is_filter};
+    ghost use Rattle.aql_rules_filter.specs.laws.FiltersFused.{fuses_blind, fuses_nameless, fuses_shrink};
+
+    ghost looks = { λ _. false };
+
+    fn looks_above(&self) -> bool {
+        false
+    }
+
+    ghost blind = { λ _ e facts us vs p q r h. fuses_blind us vs p q r h };
+
+    ghost lone = { λ _. refl };
+
+    ghost nameless = { λ _ _ us p q r h. fuses_nameless us p q r h };
+
+    ghost size = { λ _. is_filter };
+
+    ghost lowers = { λ _ _ us p q r h. fuses_shrink us p q r h };
 }

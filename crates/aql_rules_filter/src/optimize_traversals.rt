@@ -14,6 +14,7 @@ use crate::readers::{filter_of, open_path, traversal_of, with_filter, without_ed
 use crate::swapping::{is_gone, is_unused, test_uses, uses_of};
 use aql_copy::copy_expr;
 use aql_plan::{Facts, Plan, Uses};
+use aql_rewrite_part::PartRule;
 use aql_rewrite_plan::{Rule, Swap};
 use aql_tree::Expr;
 use aql_value::OutOfMemory;
@@ -75,7 +76,7 @@ pub struct OptimizeTraversals;
 
 impl Rule for OptimizeTraversals {
     ghost use Rattle.std.specs.Prelude.{false};
-    ghost use Rattle.aql_rules_filter.specs.Measures.{total};
+    ghost use Rattle.aql_rewrite_part.specs.Sums.{total};
     ghost use Rattle.aql_rules_filter.specs.OptimizeTraversals.{parts_to_go};
     ghost use Rattle.aql_rules_filter.specs.laws.TraversalsOptimized.{optimizes_refine, optimizes_keep, optimizes_fall};
 
@@ -104,4 +105,27 @@ impl Rule for OptimizeTraversals {
         optimizes_keep facts outer away us p q r placed h };
 
     ghost falls = { λ _ facts p q r whole h. optimizes_fall facts p q r whole h };
+}
+
+impl PartRule for OptimizeTraversals {
+    ghost use Rattle.std.specs.Prelude.{refl, true};
+    ghost use Rattle.std.proofs.Common.{true≢false};
+    ghost use Rattle.aql_rules_filter.specs.OptimizeTraversals.{parts_to_go};
+    ghost use Rattle.aql_rules_filter.specs.laws.TraversalsOptimized.{optimizes_nameless, optimizes_shrink};
+
+    ghost looks = { λ _. true };
+
+    fn looks_above(&self) -> bool {
+        true
+    }
+
+    ghost blind = { λ _ e facts us vs p q r h. absurd (true≢false e) };
+
+    ghost lone = { λ _. refl };
+
+    ghost nameless = { λ _ _ us p q r h. optimizes_nameless us p q r h };
+
+    ghost size = { λ _. parts_to_go };
+
+    ghost lowers = { λ _ _ us p q r h. optimizes_shrink us p q r h };
 }

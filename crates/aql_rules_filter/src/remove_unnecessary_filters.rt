@@ -2,6 +2,7 @@
 
 use crate::conditions::literal_in;
 use aql_plan::{Facts, Plan, Uses};
+use aql_rewrite_part::PartRule;
 use aql_rewrite_plan::{Rule, Swap};
 use aql_value::{OutOfMemory, truthy};
 use std::alloc::Global;
@@ -57,4 +58,26 @@ impl Rule for RemoveUnnecessaryFilters {
         removes_keep facts outer away us p q r placed h };
 
     ghost falls = { λ _ facts p q r whole h. removes_fall facts p q r whole h };
+}
+
+impl PartRule for RemoveUnnecessaryFilters {
+    ghost use Rattle.std.specs.Prelude.{refl, false};
+    ghost use Rattle.aql_rules_filter.specs.Measures.{is_filter};
+    ghost use Rattle.aql_rules_filter.specs.laws.FiltersRemoved.{removes_blind, removes_nameless, removes_shrink};
+
+    ghost looks = { λ _. false };
+
+    fn looks_above(&self) -> bool {
+        false
+    }
+
+    ghost blind = { λ _ e facts us vs p q r h. removes_blind us vs p q r h };
+
+    ghost lone = { λ _. refl };
+
+    ghost nameless = { λ _ _ us p q r h. removes_nameless us p q r h };
+
+    ghost size = { λ _. is_filter };
+
+    ghost lowers = { λ _ _ us p q r h. removes_shrink us p q r h };
 }

@@ -11,6 +11,7 @@ ghost use Rattle.aql_rules_order.specs.RemoveCollectVariables.{all_used, used_in
 
 use aql_copy::{copy_ident, copy_into, copy_lets, copy_maybe};
 use aql_plan::{Facts, Plan, Uses};
+use aql_rewrite_part::PartRule;
 use aql_rewrite_plan::{Rule, Swap, is_used};
 use aql_tree::{AggregateItem, Aggregates, Ident, Into};
 use aql_value::{OutOfMemory, Seq};
@@ -113,7 +114,7 @@ pub struct RemoveCollectVariables;
 
 impl Rule for RemoveCollectVariables {
     ghost use Rattle.std.specs.Prelude.{false};
-    ghost use Rattle.aql_rules_filter.specs.Measures.{total};
+    ghost use Rattle.aql_rewrite_part.specs.Sums.{total};
     ghost use Rattle.aql_rules_order.specs.RemoveCollectVariables.{Drops, vars_to_go};
     ghost use Rattle.aql_rules_order.specs.laws.VariablesDropped.{drops_refine, drops_keep, drops_fall};
 
@@ -162,4 +163,27 @@ impl Rule for RemoveCollectVariables {
         drops_keep facts outer away us p q r placed h };
 
     ghost falls = { λ _ facts p q r whole h. drops_fall facts p q r whole h };
+}
+
+impl PartRule for RemoveCollectVariables {
+    ghost use Rattle.std.specs.Prelude.{refl, true};
+    ghost use Rattle.std.proofs.Common.{true≢false};
+    ghost use Rattle.aql_rules_order.specs.RemoveCollectVariables.{vars_to_go};
+    ghost use Rattle.aql_rules_order.specs.laws.VariablesDropped.{drops_nameless, drops_shrink};
+
+    ghost looks = { λ _. true };
+
+    fn looks_above(&self) -> bool {
+        true
+    }
+
+    ghost blind = { λ _ e facts us vs p q r h. absurd (true≢false e) };
+
+    ghost lone = { λ _. refl };
+
+    ghost nameless = { λ _ _ us p q r h. drops_nameless us p q r h };
+
+    ghost size = { λ _. vars_to_go };
+
+    ghost lowers = { λ _ _ us p q r h. drops_shrink us p q r h };
 }

@@ -13,6 +13,7 @@ ghost use Rattle.aql_rules_order.specs.RemoveRedundantSorts.{ignores_order as sp
 use crate::readers::is_open_sort;
 use aql_plan::{Facts, Plan, Uses};
 use aql_rewrite_expr::is_constant;
+use aql_rewrite_part::PartRule;
 use aql_rewrite_plan::{Rule, Swap};
 use aql_tree::Key;
 use aql_value::OutOfMemory;
@@ -141,4 +142,26 @@ impl Rule for RemoveRedundantSorts {
         unsorts_keep facts outer away us p q r placed h };
 
     ghost falls = { λ _ facts p q r whole h. unsorts_fall facts p q r whole h };
+}
+
+impl PartRule for RemoveRedundantSorts {
+    ghost use Rattle.std.specs.Prelude.{refl, false};
+    ghost use Rattle.aql_rules_order.specs.laws.SortsRemoved.{nothing};
+    ghost use Rattle.aql_rules_order.specs.laws.SortsRemoved.{unsorts_blind, unsorts_nameless, unsorts_shrink};
+
+    ghost looks = { λ _. false };
+
+    fn looks_above(&self) -> bool {
+        false
+    }
+
+    ghost blind = { λ _ e facts us vs p q r h. unsorts_blind us vs p q r h };
+
+    ghost lone = { λ _. refl };
+
+    ghost nameless = { λ _ _ us p q r h. unsorts_nameless us p q r h };
+
+    ghost size = { λ _. nothing };
+
+    ghost lowers = { λ _ _ us p q r h. unsorts_shrink us p q r h };
 }

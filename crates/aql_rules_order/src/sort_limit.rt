@@ -8,6 +8,7 @@ ghost use Rattle.aql_rules_order.specs.SortLimit.{Limited, sets_value as spec_se
 
 use crate::readers::{is_open_sort, with_limit};
 use aql_plan::{Facts, Plan, Uses};
+use aql_rewrite_part::PartRule;
 use aql_rewrite_plan::{Rule, Swap};
 use aql_value::OutOfMemory;
 use std::alloc::Global;
@@ -49,7 +50,7 @@ pub struct SortLimit;
 
 impl Rule for SortLimit {
     ghost use Rattle.std.specs.Prelude.{false};
-    ghost use Rattle.aql_rules_filter.specs.Measures.{total};
+    ghost use Rattle.aql_rewrite_part.specs.Sums.{total};
     ghost use Rattle.aql_rules_order.specs.SortLimit.{Limits, is_unlimited};
     ghost use Rattle.aql_rules_order.specs.laws.SortsLimited.{limits_refine, limits_keep, limits_fall};
 
@@ -88,4 +89,26 @@ impl Rule for SortLimit {
         limits_keep facts outer away us p q r placed h };
 
     ghost falls = { λ _ facts p q r whole h. limits_fall facts p q r whole h };
+}
+
+impl PartRule for SortLimit {
+    ghost use Rattle.std.specs.Prelude.{refl, false};
+    ghost use Rattle.aql_rules_order.specs.SortLimit.{is_unlimited};
+    ghost use Rattle.aql_rules_order.specs.laws.SortsLimited.{limits_blind, limits_nameless, limits_shrink};
+
+    ghost looks = { λ _. false };
+
+    fn looks_above(&self) -> bool {
+        false
+    }
+
+    ghost blind = { λ _ e facts us vs p q r h. limits_blind us vs p q r h };
+
+    ghost lone = { λ _. refl };
+
+    ghost nameless = { λ _ _ us p q r h. limits_nameless us p q r h };
+
+    ghost size = { λ _. is_unlimited };
+
+    ghost lowers = { λ _ _ us p q r h. limits_shrink us p q r h };
 }

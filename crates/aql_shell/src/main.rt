@@ -3,6 +3,7 @@
 
 use aql_io::{StdSink, StdSource, write_all};
 use aql_local::Local;
+use aql_opt::Rules;
 use aql_top::run_shell;
 use aql_value::{Names, OutOfMemory, Text};
 use std::env;
@@ -58,5 +59,14 @@ fn main(rt: HostRuntime) -> ExitCode {
     let mut out = StdSink::new(rt.stdout());
     let alloc = rt.alloc();
     let mut engine = Local::new(alloc);
-    ExitCode::from(run_shell(alloc, &names, &mut source, &mut out, &mut err, &mut engine))
+    let rules = Rules::all();
+    ExitCode::from(run_shell(
+        alloc,
+        &names,
+        &rules,
+        &mut source,
+        &mut out,
+        &mut err,
+        &mut engine,
+    ))
 }

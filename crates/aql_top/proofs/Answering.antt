@@ -97,16 +97,14 @@ module _ (loaded : Loaded) (tree : QueryTree) (names : List (List ℕ))
 pub is_chosen_plan : (loaded : Loaded) (tree : QueryTree) (names : List (List ℕ))
     → IsScoped loaded.catalog loaded.query tree names → (facts : Facts)
     → Meets facts (database loaded.catalog) → (first : spec.Plan) → first ≡ first_plan facts tree
-    → (rules : Rules) → ((rule : RuleName) → Has rules rule) → (plan : Plan) (applied : List RuleName)
-    → Chosen facts rules first (plan_tree plan) applied → IsChosenPlan loaded plan
-is_chosen_plan loaded tree names s facts meets first is rules all plan applied chosen = record {
+    → (rules : Rules) (plan : Plan) (applied : List RuleName)
+    → Chosen facts rules first (plan_tree plan) applied → IsChosenPlan rules loaded plan
+is_chosen_plan loaded tree names s facts meets first is rules plan applied chosen = record {
   query = s.spelled;
   is_written = s.is_written;
   no_fault = s.no_fault;
   facts = facts;
   true_facts = meets;
-  rules = rules;
-  all = all;
   applied = applied;
   chosen = subst (λ p. Chosen facts rules p (plan_tree plan) applied) (is ∙ ap (first_plan facts) s.lifted)
       chosen;
@@ -153,9 +151,10 @@ module _ (w : World) (plan : Plan) (batch : ℕ) (before after : List Ran) (a : 
         ∙ ap (λ n. slice_get (before ++ a.ran ∷ []) n) (here ∙ ap length is)
         ∙ at_end before a.ran
 
-    pub adds_chosen : (loaded : Loaded) → IsChosenPlan loaded plan → AddsChosen loaded before after a.ran
-    adds_chosen loaded chosen =
-        record { added = a.added; chosen = subst (IsChosenPlan loaded) (sym a.same_plan) chosen }
+    pub adds_chosen : (rules : Rules) (loaded : Loaded) → IsChosenPlan rules loaded plan
+        → AddsChosen rules loaded before after a.ran
+    adds_chosen rules loaded chosen =
+        record { added = a.added; chosen = subst (IsChosenPlan rules loaded) (sym a.same_plan) chosen }
 
 pub answer_of_entry : (loaded : Loaded) (servers : Holding)
     → servers ≡ record { held = loaded.catalog; servers = 0; counts = nothing_counted }

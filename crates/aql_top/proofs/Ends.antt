@@ -13,6 +13,7 @@ use Rattle.aql_front.specs.declared.faults.QueryFault.TheVariants as query
 use Rattle.aql_front.specs.Reading.{Refuses}
 use Rattle.aql_front.proofs.Once.{only_query, only_fault, written_once}
 use Rattle.aql_top.specs.Forms.{TakesWords, HasQuery, IsScriptWith, Accepts, HasQueryFault}
+use Rattle.aql_opt.specs.declared.rule_sets.Rules.{Rules}
 use Rattle.aql_top.specs.Entries.{PrintsEntry, AddsAtMostOne, IsEntered}
 use Rattle.aql_top.specs.Reasons.{fault_status, query_status, Deserves, IsTextOf, as_line}
 use Rattle.aql_top.specs.Faults.{Leads, status_of, line_of, IsMade}
@@ -175,10 +176,11 @@ not_8_of_7 : (n : ℕ) → n ≡ 7 → n ≡ 8 → ⊥
 not_8_of_7 n h k = omega (arith, h, k)
 
 module _ (e t : RunFault) (told : IsToldAs e t) (status : ℕ) (is : status ≡ status_of t) where
-  pub entered : (input : Option (List ℕ)) (before after : List Ran) (written written' : Option (List ℕ))
-      → (status_of e ≡ 7 → PrintsEntry input before after (AppendsPrefix written written'))
-      → AddsAtMostOne input before after → IsEntered status input before after written written'
-  entered input before after written written' front most = record {
+  pub entered : (rules : Rules) (input : Option (List ℕ)) (before after : List Ran) (written written' : Option (List ℕ))
+      → (status_of e ≡ 7 → PrintsEntry rules input before after (AppendsPrefix written written'))
+      → AddsAtMostOne rules input before after
+      → IsEntered status rules input before after written written'
+  entered rules input before after written written' front most = record {
     printed = λ h. absurd (not_0 t (sym is ∙ h));
     front = λ h. front (told_status e t told (λ k. not_8_of_7 status h (is ∙ k)) ∙ (sym is ∙ h));
     no_memory = λ h. most;

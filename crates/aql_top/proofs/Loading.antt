@@ -12,6 +12,7 @@ use Rattle.aql_front.specs.declared.faults.QueryFault.{QueryFault}
 use Rattle.aql_front.specs.declared.faults.QueryFault.TheVariants as query
 use Rattle.aql_top.specs.Forms.{TakesWords, HasQuery, Answers, IsScriptWith, Accepts, Allows}
 use Rattle.aql_top.specs.Forms.{answer_text}
+use Rattle.aql_opt.specs.declared.rule_sets.Rules.{Rules}
 use Rattle.aql_top.specs.Entries.{IsChosenPlan, AddsChosen, PrintsEntry, AddsAtMostOne}
 use Rattle.aql_engine.specs.declared.engine.Ran.{Ran}
 use Rattle.aql_top.specs.Faults.{of_load, Leads, HasNoLines, status_of}
@@ -104,21 +105,21 @@ module _ (before after : Option (List ℕ)) (loaded : Loaded) where
   pub accepted : Loads loaded before after → HasQuery loaded → IfSome before Accepts
   accepted h r = script_with HasQuery before after loaded h r
 
-  pub entered : (entries entries' : List Ran) (ran : Ran) (Written : List ℕ → Type 0)
-      → Loads loaded before after → AddsChosen loaded entries entries' ran → Written (answer_text ran.values)
-      → PrintsEntry before entries entries' Written
-  entered entries entries' ran Written h a w = record {
+  pub entered : (rules : Rules) (entries entries' : List Ran) (ran : Ran) (Written : List ℕ → Type 0)
+      → Loads loaded before after → AddsChosen rules loaded entries entries' ran → Written (answer_text ran.values)
+      → PrintsEntry rules before entries entries' Written
+  entered rules entries entries' ran Written h a w = record {
     ran = ran;
     added = a.added;
-    chosen = script_with (λ l. IsChosenPlan l ran.plan) before after loaded h a.chosen;
+    chosen = script_with (λ l. IsChosenPlan rules l ran.plan) before after loaded h a.chosen;
     written = w;
   }
 
-  pub at_most_one : (entries entries' : List Ran) → Loads loaded before after
-      → (entries' ≡ entries) ⊎ ((ran : Ran) × AddsChosen loaded entries entries' ran)
-      → AddsAtMostOne before entries entries'
-  at_most_one entries entries' h (inl same) = inl same
-  at_most_one entries entries' h (inr a) = inr (entered entries entries' a.0 (λ text. Unit {0}) h a.1 tt)
+  pub at_most_one : (rules : Rules) (entries entries' : List Ran) → Loads loaded before after
+      → (entries' ≡ entries) ⊎ ((ran : Ran) × AddsChosen rules loaded entries entries' ran)
+      → AddsAtMostOne rules before entries entries'
+  at_most_one rules entries entries' h (inl same) = inl same
+  at_most_one rules entries entries' h (inr a) = inr (entered rules entries entries' a.0 (λ text. Unit {0}) h a.1 tt)
 
   pub no_lines_lead : (fault : RunFault) (words : List (List ℕ)) → TakesWords words
       → Loads loaded before after → HasNoLines loaded fault → Leads fault words before

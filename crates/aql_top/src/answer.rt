@@ -33,25 +33,27 @@ use std::alloc::Global;
 /// How many rows a step of a run gives at most.
 const BATCH: u32 = 1000;
 
-/// Has the engine run the plan that is chosen for the query of a script, and gives the lines of the values of
-/// its entry, which are those of one answer; or the fault where there are none.
+/// Has the engine run the plan that is chosen by the rules for the query of a script, and gives the
+/// lines of the values of its entry, which are those of one answer; or the fault where there are
+/// none.
 #[tactic(auto, using(crate::proofs::Answering::can_run))]
 pub(crate) fn answer<G: Engine>(
     alloc: Global,
     script: Loaded,
+    rules: &Rules,
     engine: &mut G,
 ) -> Result<Vec<u8>, RunFault>
     ensures runs { OnOk result (HasQuery script) }
     ensures lines { IfOk result (λ lines. Answers script lines.items) }
     ensures entry { IfOk result (λ lines. (ran : Ran)
-        × AddsChosen script (G.entries engine.old) (G.entries engine.new) ran
+        × AddsChosen rules.now script (G.entries engine.old) (G.entries engine.new) ran
         × (lines.items ≡ answer_text ran.values)) }
     ensures none { IfErr result (λ fault. HasNoLines script fault) }
     ensures idle { IfErr result (λ fault. fault ≢ Memory → engine.new ≡ engine.old) }
     ensures at_most { (G.entries engine.new ≡ G.entries engine.old)
-        ⊎ ((ran : Ran) × AddsChosen script (G.entries engine.old) (G.entries engine.new) ran) }
+        ⊎ ((ran : Ran) × AddsChosen rules.now script (G.entries engine.old) (G.entries engine.new) ran) }
 {
-    let plan = plan_of(alloc, &script)?;
+    let plan = plan_of(alloc, &script, rules)?;
     let Loaded { catalog, query: _ } = script;
     let mut servers = split(alloc, catalog, 0)?;
     let before = engine.held().len();
@@ -64,9 +66,9 @@ pub(crate) fn answer<G: Engine>(
 
 // The plan that is chosen for the query of a script.
 #[tactic(auto, using(crate::proofs::Answering::refused))]
-fn plan_of(alloc: Global, script: &Loaded) -> Result<Plan, RunFault>
+fn plan_of(alloc: Global, script: &Loaded, rules: &Rules) -> Result<Plan, RunFault>
     ensures reads { OnOk result (HasQuery script.now) }
-    ensures chosen { IfOk result (λ plan. IsChosenPlan script.now plan) }
+    ensures chosen { IfOk result (λ plan. IsChosenPlan rules.now script.now plan) }
     ensures executors { IfOk result (λ plan. HasExecutors (plan_tree plan)) }
     ensures well_formed { IfOk result (λ plan.
         IsWellFormed (facts_of 0 script.now.catalog) [] (plan_tree plan)) }
@@ -83,7 +85,7 @@ fn plan_of(alloc: Global, script: &Loaded) -> Result<Plan, RunFault>
     scoping_gives_it();
     text_limits_end();
     let plan = initial_plan(alloc, &scoped.query, &facts)?;
-    let chosen = optimise(alloc, plan, &Rules::all(), &facts)?;
+    let chosen = optimise(alloc, plan, rules, &facts)?;
     Ok(chosen.plan)
 }
 

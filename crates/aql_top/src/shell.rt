@@ -14,14 +14,15 @@ use crate::faults::RunFault;
 use aql_engine::Engine;
 use aql_front::{QueryFault, query_fault_text};
 use aql_io::{Sink, Source, write_all};
+use aql_opt::Rules;
 use aql_script::{LoadFault, fault_text, load};
 use aql_value::{Names, OutOfMemory, Text};
 use std::alloc::Global;
 
 /// All that the program does: it loads the script from the source, reads the script's query, has
-/// the engine run the query's plan, writes the lines of the values that came of it to `out`, which
-/// are one answer of the query, and answers the exit status. With status 0 nothing is written to
-/// `err`; with any other status one line is.
+/// the engine run the plan that the optimiser chooses by the rules, writes the lines of the values
+/// that came of it to `out`, which are one answer of the query, and answers the exit status. With
+/// status 0 nothing is written to `err`; with any other status one line is.
 ///
 /// | Status | It comes |
 /// |---|---|
@@ -40,6 +41,7 @@ use std::alloc::Global;
 pub fn run_shell<S: Source, K: Sink, E: Sink, G: Engine>(
     alloc: Global,
     words: &Names,
+    rules: &Rules,
     source: &mut S,
     out: &mut K,
     err: &mut E,
@@ -74,8 +76,9 @@ pub fn run_shell<S: Source, K: Sink, E: Sink, G: Engine>(
         → (result ≡ 0) ⊎ ((result ≡ 6) ⊎ ((result ≡ 7) ⊎ (result ≡ 8))) }
 
     // What was written is made of the one entry that the engine's list gained: with 0 and 7 there
-    // is one, of the plan chosen for the query, with 8 at most one, and else the engine was not called.
-    ensures entry { IsEntered result (S.left source.old) (G.entries engine.old)
+    // is one, of the plan chosen by the rules, with 8 at most one, and else the engine was not
+    // called.
+    ensures entry { IsEntered result rules.now (S.left source.old) (G.entries engine.old)
         (G.entries engine.new) (K.written out.old) (K.written out.new) }
     ensures idle { (result ≢ 0) → (result ≢ 7) → (result ≢ 8) → engine.new ≡ engine.old }
 
@@ -83,7 +86,7 @@ pub fn run_shell<S: Source, K: Sink, E: Sink, G: Engine>(
     ensures read_fault { RoseWhere (result ≡ 6) (S.faults source.old) (S.faults source.new) }
     ensures write_fault { RoseWhere (result ≡ 7) (K.faults out.old) (K.faults out.new) }
 {
-    match run(alloc, words, source, out, engine) {
+    match run(alloc, words, rules, source, out, engine) {
         Ok(()) => 0,
         Err(fault) => {
             let fault = tell(alloc, fault, err);
@@ -97,6 +100,7 @@ pub fn run_shell<S: Source, K: Sink, E: Sink, G: Engine>(
 fn run<S: Source, K: Sink, G: Engine>(
     alloc: Global,
     words: &Names,
+    rules: &Rules,
     source: &mut S,
     out: &mut K,
     engine: &mut G,
@@ -116,12 +120,12 @@ fn run<S: Source, K: Sink, G: Engine>(
         → Prints (S.left source.old) (AppendsPrefix (K.written out.old) (K.written out.new))) }
     ensures untouched { IfErr result (λ fault. status_of fault ≢ 7 → out.new ≡ out.old) }
     ensures unread { IfErr result (λ fault. status_of fault ≡ 2 → source.new ≡ source.old) }
-    ensures entry { OnOk result (PrintsEntry (S.left source.old) (G.entries engine.old)
+    ensures entry { OnOk result (PrintsEntry rules.now (S.left source.old) (G.entries engine.old)
         (G.entries engine.new) (Appends (K.written out.old) (K.written out.new))) }
     ensures front_entry { IfErr result (λ fault. status_of fault ≡ 7
-        → PrintsEntry (S.left source.old) (G.entries engine.old) (G.entries engine.new)
+        → PrintsEntry rules.now (S.left source.old) (G.entries engine.old) (G.entries engine.new)
         (AppendsPrefix (K.written out.old) (K.written out.new))) }
-    ensures at_most { AddsAtMostOne (S.left source.old) (G.entries engine.old)
+    ensures at_most { AddsAtMostOne rules.now (S.left source.old) (G.entries engine.old)
         (G.entries engine.new) }
     ensures idle { IfErr result (λ fault. status_of fault ≢ 7 → status_of fault ≢ 8
         → engine.new ≡ engine.old) }
@@ -130,7 +134,7 @@ fn run<S: Source, K: Sink, G: Engine>(
         return Err(RunFault::Words);
     }
     let script = load(alloc, source)?;
-    let text = answer(alloc, script, engine)?;
+    let text = answer(alloc, script, rules, engine)?;
     write_all(out, &text)?;
     Ok(())
 }

@@ -59,14 +59,20 @@ module _ (k : Bool) (facts : Facts) where
     Keeping = (outer away : List Ident) (us : Uses) (p q : Plan) (r : Option Rename)
         → Placed k false facts outer away us p → R us p q r → KeepsPlaced k false facts outer us p q r
 
-    first_sound : Refining → Keeping → (p q : Plan) (r : Option Rename) → IsWhole k facts p
-        → First R false result_uses p q r → Sound false [] result_uses p q r
-    first_sound refines keeps p q r whole h =
+    part_sound : Refining → Keeping → (outer away : List Ident) (us : Uses) (p q : Plan) (r : Option Rename)
+        → Placed k false facts outer away us p → First R false us p q r → Sound false outer us p q r
+    part_sound refines keeps outer away us p q r placed h =
         first_carried k facts R Sound (record { over = sound_over; with = sound_with })
         (λ outer away us p q r placed h. (
           stands_here us p q r (refines outer away us p q r placed h),
           keeps outer away us p q r placed h,
-        )) h [] [] (whole_placed k facts p whole)
+        )) h outer away placed
+
+    pub part_kept : Refining → Keeping → (outer away : List Ident) (us : Uses) (p q : Plan) (r : Option Rename)
+        → Placed k false facts outer away us p → First R false us p q r
+        → KeepsPlaced k false facts outer us p q r
+    part_kept refines keeps outer away us p q r placed h =
+        (part_sound refines keeps outer away us p q r placed h).1
 
     -- the plan after one application, or after none
     pub record IsStep (p q : Plan) (changed : Bool) : Type 0 where
@@ -79,7 +85,7 @@ module _ (k : Bool) (facts : Facts) where
         → IsWhole k facts p → First R false us p q r → IsStep p q true
     some_step refines keeps us p q r e whole h =
         let f = subst (λ (vs : Uses). First R false vs p q r) e h in
-        let s = first_sound refines keeps p q r whole f in record {
+        let s = part_sound refines keeps [] [] result_uses p q r (whole_placed k facts p whole) f in record {
           stepped = (r, f);
           refines = stands_result k facts p q r (whole_placed k facts p whole).numbers s.0;
           whole = whole_kept k facts p q r whole s.1;

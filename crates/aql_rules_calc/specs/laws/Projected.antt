@@ -46,6 +46,8 @@ use Rattle.aql_rules_calc.specs.Projections.{AreAdded, AreKept, order_of, where_
 use Rattle.aql_rules_calc.specs.ReduceExtractionToProjection.{is_whole, used_whole, with_name, with_use, names_used, order_uses, keeping, Reduces, enumeration, by_index, reads_whole, whole_readers, readers_in}
 use Rattle.aql_rules_calc.specs.laws.Unused.{neither}
 use Rattle.aql_rules_calc.specs.laws.Attributes.{named_first}
+use Rattle.aql_plan.specs.Nodes.{weight}
+use Rattle.aql_rewrite_part.specs.Sums.{total}
 
 -- ---- each name that is used is kept
 
@@ -398,6 +400,23 @@ reduces_fall facts p q r whole h =
     (first_lowers false facts (Reduces facts) whole_readers whole_readers readers_lift
     (λ outer away us p q r placed k. reduces_lower facts us p q r k) h [] []
     (whole_placed false facts p whole)).falls
+
+abbrev pub documents_whole : Node → ℕ
+documents_whole (EnumerateCollection x) = reads_whole x.attrs
+documents_whole (Index x index equal last ordered) = reads_whole x.attrs
+documents_whole n = 0
+
+pub reduces_nameless : (facts : Facts) (us : Uses) (p q : Plan) (r : Option Rename) → Reduces facts us p q r → r ≡ None
+reduces_nameless facts _ _ _ _ (enumeration {us = us} {b = b} {x = x} h) = refl
+reduces_nameless facts _ _ _ _ (by_index {us = us} {b = b} {x = x} {index = index} {ordered = ordered} h) = refl
+
+pub reduces_shrink : (facts : Facts) (us : Uses) (p q : Plan) (r : Option Rename) → Reduces facts us p q r
+    → weight q + total documents_whole q < weight p + total documents_whole p
+reduces_shrink facts _ _ _ _ (enumeration {us = us} {b = b} {x = x} h) =
+    omega (arith, (one_less x.attrs (names_used x.var us) h.0 (total documents_whole b)).0)
+reduces_shrink facts _ _ _ _ (by_index {us = us} {b = b} {x = x} {index = index} {ordered = ordered} h) =
+    let names = names_used x.var (us ++ order_uses facts x index ordered) in
+    omega (arith, (one_less x.attrs names h.0 (total documents_whole b)).0)
 
 -- ---- what the rule finds
 

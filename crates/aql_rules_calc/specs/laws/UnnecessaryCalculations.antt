@@ -1,5 +1,5 @@
 -- A Calculation or a Subquery whose variable is not used goes.
-use Rattle.std.proofs.Common.{◌≡◌, ◌∙◌, ℕ, suc, ◌<◌, ◌≤◌, List, [], ◌∷◌, ◌++◌, map, Bool, true, false, true≢false, cond, refl, ap, sym, subst₂, arith}
+use Rattle.std.proofs.Common.{◌≡◌, ◌∙◌, ℕ, suc, ◌<◌, ◌≤◌, List, [], ◌∷◌, ◌++◌, map, Bool, true, false, true≢false, cond, refl, ap, sym, subst₂, arith, ◌+◌}
 use Rattle.std.specs.Prelude.{Option, Some, None}
 use Rattle.std.specs.List.{AllZip}
 use Rattle.aql_value.specs.Parts.{list}
@@ -30,6 +30,7 @@ use Rattle.aql_rewrite_plan.specs.laws.Weights.{weight_lifts}
 use Rattle.aql_rules_calc.specs.Readers.{value_var}
 use Rattle.aql_rules_calc.specs.RemoveUnnecessaryCalculations.{Removes, calculation, with_subquery}
 use Rattle.aql_rules_calc.specs.laws.Unused.{agree_unused, one_gone}
+use Rattle.aql_rewrite_part.specs.Sums.{total}
 
 -- ---- the lists are the same in what is used
 
@@ -115,6 +116,18 @@ removes_fall facts p q r whole h =
     (first_lowers false facts Removes weight weight weight_lifts
     (λ outer away us p q r placed k. removes_lower us p q r k) h [] []
     (whole_placed false facts p whole)).falls
+
+abbrev pub nothing : Node → ℕ
+nothing n = 0
+
+pub removes_nameless : (us : Uses) (p q : Plan) (r : Option Rename) → Removes us p q r → r ≡ None
+removes_nameless _ _ _ _ (calculation h) = refl
+removes_nameless _ _ _ _ (with_subquery h) = refl
+
+pub removes_shrink : (us : Uses) (p q : Plan) (r : Option Rename) → Removes us p q r
+    → weight q + total nothing q < weight p + total nothing p
+removes_shrink _ _ _ _ (calculation h) = omega arith
+removes_shrink _ _ _ _ (with_subquery h) = omega arith
 
 -- ---- what the rule finds
 

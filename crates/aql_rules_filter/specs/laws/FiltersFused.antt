@@ -1,5 +1,5 @@
 -- One Filter for two gives the same rows.
-use Rattle.std.proofs.Common.{◌≡◌, ◌∙◌, ◌<◌, List, [], false, refl, ap, sym, subst, subst₂, arith}
+use Rattle.std.proofs.Common.{◌≡◌, ◌∙◌, ◌<◌, List, [], false, refl, ap, sym, subst, subst₂, arith, ◌+◌}
 use Rattle.std.specs.Prelude.{Option, None, filter, ◌&&◌}
 use Rattle.aql_tree.specs.declared.syntax.Ident.{Ident}
 use Rattle.aql_tree.specs.Tree.{ExprTree, one_expr}
@@ -20,10 +20,12 @@ use Rattle.aql_rules_filter.specs.Conditions.{joined}
 use Rattle.aql_rules_filter.specs.Measures.{filters, is_filter}
 use Rattle.aql_rules_filter.specs.FuseFilters.{Fuses, fused}
 use Rattle.aql_rules_filter.specs.Readers.{filter_in}
-use Rattle.aql_rules_filter.specs.laws.Falling.{total_falls}
+use Rattle.aql_rewrite_part.specs.laws.Falling.{total_falls}
 use Rattle.aql_rules_filter.specs.laws.Filtered.{holds, filtered, filter_twice, filter_same}
 use Rattle.aql_rules_filter.specs.laws.Filters.{filter_shaped, same_filters}
 use Rattle.aql_rules_filter.specs.laws.Joined.{joined_holds, joined_plain, joined_found}
+use Rattle.aql_plan.specs.Nodes.{weight}
+use Rattle.aql_rewrite_part.specs.Sums.{total}
 
 pub fuses_refine : (facts : Facts) (us : Uses) (p q : Plan) (r : Option Rename) → Fuses us p q r
     → Replaced false facts us p q r
@@ -70,6 +72,16 @@ fuses_lower _ _ _ _ fused = omega arith
 pub fuses_fall : (facts : Facts) (p q : Plan) (r : Option Rename) → IsWhole false facts p
     → First Fuses false result_uses p q r → filters q < filters p
 fuses_fall facts = total_falls is_filter same_filters facts Fuses fuses_lower
+
+pub fuses_blind : (us vs : Uses) (p q : Plan) (r : Option Rename) → Fuses us p q r → Fuses vs p q r
+fuses_blind _ vs _ _ _ fused = fused
+
+pub fuses_nameless : (us : Uses) (p q : Plan) (r : Option Rename) → Fuses us p q r → r ≡ None
+fuses_nameless _ _ _ _ fused = refl
+
+pub fuses_shrink : (us : Uses) (p q : Plan) (r : Option Rename) → Fuses us p q r
+    → weight q + total is_filter q < weight p + total is_filter p
+fuses_shrink _ _ _ _ fused = omega arith
 
 -- ---- what the rule finds
 

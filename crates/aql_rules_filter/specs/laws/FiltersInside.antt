@@ -1,5 +1,5 @@
 -- A condition in the filter of a node that reads documents gives the same rows as a Filter over the node.
-use Rattle.std.proofs.Common.{◌≡◌, ◌∙◌, ◌<◌, ℕ, List, [], ◌∷◌, ◌++◌, map, Bool, false, refl, ap, ap₂, sym, subst, subst₂, arith}
+use Rattle.std.proofs.Common.{◌≡◌, ◌∙◌, ◌<◌, ℕ, List, [], ◌∷◌, ◌++◌, map, Bool, false, refl, ap, ap₂, sym, subst, subst₂, arith, ◌+◌}
 use Rattle.std.specs.Prelude.{Option, Some, None, filter, flat_map, IsPermutation, ◌&&◌}
 use Rattle.std.specs.List.{AllZip}
 use Rattle.std.proofs.lemmas.List.{map-id}
@@ -31,12 +31,14 @@ use Rattle.aql_rules_filter.specs.Conditions.{joined}
 use Rattle.aql_rules_filter.specs.Measures.{filters, is_filter}
 use Rattle.aql_rules_filter.specs.MoveFiltersIntoEnumerate.{filtered_by, with_condition, MovesIn, into_enumerate, into_index}
 use Rattle.aql_rules_filter.specs.Readers.{filter_in, where_all_kept, own_filter, node_filtered, plan_filtered}
-use Rattle.aql_rules_filter.specs.laws.Falling.{total_falls}
+use Rattle.aql_rewrite_part.specs.laws.Falling.{total_falls}
 use Rattle.aql_rules_filter.specs.laws.Filtered.{holds, filtered, filter_same, filter_twice}
 use Rattle.aql_rules_filter.specs.laws.Filters.{filter_shaped, same_filters}
 use Rattle.aql_rules_filter.specs.laws.Flat.{each_flat, filter_map, filter_flat, flat_same}
 use Rattle.aql_rules_filter.specs.laws.Joined.{joined_holds, joined_plain, joined_found}
 use Rattle.aql_rules_filter.specs.laws.Permuted.{filter_of}
+use Rattle.aql_plan.specs.Nodes.{weight}
+use Rattle.aql_rewrite_part.specs.Sums.{total}
 
 -- ---- rows
 
@@ -223,6 +225,19 @@ moves_in_lower _ _ _ _ (into_index e) = omega arith
 pub moves_in_fall : (facts : Facts) (p q : Plan) (r : Option Rename) → IsWhole false facts p
     → First MovesIn false result_uses p q r → filters q < filters p
 moves_in_fall facts = total_falls is_filter same_filters facts MovesIn moves_in_lower
+
+pub moves_in_blind : (us vs : Uses) (p q : Plan) (r : Option Rename) → MovesIn us p q r → MovesIn vs p q r
+moves_in_blind _ vs _ _ _ (into_enumerate e) = (into_enumerate e)
+moves_in_blind _ vs _ _ _ (into_index e) = (into_index e)
+
+pub moves_in_nameless : (us : Uses) (p q : Plan) (r : Option Rename) → MovesIn us p q r → r ≡ None
+moves_in_nameless _ _ _ _ (into_enumerate e) = refl
+moves_in_nameless _ _ _ _ (into_index e) = refl
+
+pub moves_in_shrink : (us : Uses) (p q : Plan) (r : Option Rename) → MovesIn us p q r
+    → weight q + total is_filter q < weight p + total is_filter p
+moves_in_shrink _ _ _ _ (into_enumerate e) = omega arith
+moves_in_shrink _ _ _ _ (into_index e) = omega arith
 
 -- ---- what the rule finds
 

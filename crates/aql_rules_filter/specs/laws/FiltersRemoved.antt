@@ -1,5 +1,5 @@
 -- What a plan gives without an unnecessary filter, it gave with it.
-use Rattle.std.proofs.Common.{◌≡◌, ◌∙◌, ◌<◌, List, [], true, false, refl, ap, sym, subst, subst₂, arith}
+use Rattle.std.proofs.Common.{◌≡◌, ◌∙◌, ◌<◌, List, [], true, false, refl, ap, sym, subst, subst₂, arith, ◌+◌}
 use Rattle.std.specs.Prelude.{Option, Some, None, filter}
 use Rattle.aql_value.specs.Datum.{Datum}
 use Rattle.aql_value.specs.Truth.{truth}
@@ -21,9 +21,11 @@ use Rattle.aql_rewrite_plan.specs.Swaps.{Replaced, KeepsPlaced}
 use Rattle.aql_rules_filter.specs.Conditions.{literal_in}
 use Rattle.aql_rules_filter.specs.Measures.{filters, is_filter}
 use Rattle.aql_rules_filter.specs.RemoveUnnecessaryFilters.{Removes, passing, failing}
-use Rattle.aql_rules_filter.specs.laws.Falling.{total_falls}
+use Rattle.aql_rewrite_part.specs.laws.Falling.{total_falls}
 use Rattle.aql_rules_filter.specs.laws.Filtered.{holds, filtered, all_pass, none_pass}
 use Rattle.aql_rules_filter.specs.laws.Filters.{filter_shaped, same_filters}
+use Rattle.aql_plan.specs.Nodes.{weight}
+use Rattle.aql_rewrite_part.specs.Sums.{total}
 
 pub removes_refine : (facts : Facts) (us : Uses) (p q : Plan) (r : Option Rename) → Removes us p q r
     → Replaced false facts us p q r
@@ -64,6 +66,19 @@ removes_keep facts outer away _ _ _ _ placed (failing {us = us} {b = b} {v = v} 
 removes_lower : (us : Uses) (p q : Plan) (r : Option Rename) → Removes us p q r → filters q < filters p
 removes_lower _ _ _ _ (passing e) = omega arith
 removes_lower _ _ _ _ (failing e) = omega arith
+
+pub removes_blind : (us vs : Uses) (p q : Plan) (r : Option Rename) → Removes us p q r → Removes vs p q r
+removes_blind _ vs _ _ _ (passing e) = (passing e)
+removes_blind _ vs _ _ _ (failing e) = (failing e)
+
+pub removes_nameless : (us : Uses) (p q : Plan) (r : Option Rename) → Removes us p q r → r ≡ None
+removes_nameless _ _ _ _ (passing e) = refl
+removes_nameless _ _ _ _ (failing e) = refl
+
+pub removes_shrink : (us : Uses) (p q : Plan) (r : Option Rename) → Removes us p q r
+    → weight q + total is_filter q < weight p + total is_filter p
+removes_shrink _ _ _ _ (passing e) = omega arith
+removes_shrink _ _ _ _ (failing e) = omega arith
 
 pub removes_fall : (facts : Facts) (p q : Plan) (r : Option Rename) → IsWhole false facts p
     → First Removes false result_uses p q r → filters q < filters p

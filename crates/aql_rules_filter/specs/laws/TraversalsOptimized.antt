@@ -26,14 +26,15 @@ use Rattle.aql_rewrite_plan.specs.Places.{First}
 use Rattle.aql_rewrite_plan.specs.Placed.{Placed, IsWhole}
 use Rattle.aql_rewrite_plan.specs.Swaps.{Replaced, Kept, KeepsPlaced, is_used}
 use Rattle.aql_rewrite_plan.specs.laws.Among.{has, both, and_true, among_join, among_split}
-use Rattle.aql_rules_filter.specs.Measures.{total}
+use Rattle.aql_rewrite_part.specs.Sums.{total}
 use Rattle.aql_rules_filter.specs.MoveFiltersUp.{none_used}
 use Rattle.aql_rules_filter.specs.OptimizeTraversals.{with_vars, tests_use, is_gone, traversal_in, Optimizes, edge_goes, path_goes, filter_goes_in, parts_to_go}
 use Rattle.aql_rules_filter.specs.Readers.{open_path, node_filtered, plan_filtered, plan_without_edge, plan_without_path}
-use Rattle.aql_rules_filter.specs.laws.Falling.{total_falls}
+use Rattle.aql_rewrite_part.specs.laws.Falling.{total_falls}
 use Rattle.aql_rules_filter.specs.laws.FewerVariables.{traverses_alike, without_edge_agrees, without_path_agrees}
 use Rattle.aql_rules_filter.specs.laws.Filtered.{holds, filtered, all_pass}
 use Rattle.aql_rules_filter.specs.laws.Filters.{filter_shaped}
+use Rattle.aql_plan.specs.Nodes.{weight}
 
 -- ---- the same rows
 
@@ -213,6 +214,17 @@ optimizes_lower : (us : Uses) (p q : Plan) (r : Option Rename) → Optimizes us 
 optimizes_lower _ _ _ _ (edge_goes w h k) = omega arith
 optimizes_lower _ _ _ _ (path_goes w i h k) = omega arith
 optimizes_lower _ _ _ _ (filter_goes_in u) = omega arith
+
+pub optimizes_nameless : (us : Uses) (p q : Plan) (r : Option Rename) → Optimizes us p q r → r ≡ None
+optimizes_nameless _ _ _ _ (edge_goes w h k) = refl
+optimizes_nameless _ _ _ _ (path_goes w i h k) = refl
+optimizes_nameless _ _ _ _ (filter_goes_in u) = refl
+
+pub optimizes_shrink : (us : Uses) (p q : Plan) (r : Option Rename) → Optimizes us p q r
+    → weight q + total parts_to_go q < weight p + total parts_to_go p
+optimizes_shrink _ _ _ _ (edge_goes w h k) = omega arith
+optimizes_shrink _ _ _ _ (path_goes w i h k) = omega arith
+optimizes_shrink _ _ _ _ (filter_goes_in u) = omega arith
 
 pub optimizes_fall : (facts : Facts) (p q : Plan) (r : Option Rename) → IsWhole false facts p
     → First Optimizes false result_uses p q r → total parts_to_go q < total parts_to_go p

@@ -14,7 +14,7 @@ use Rattle.aql_meaning.specs.laws.SomeAnswer.{all_some}
 use Rattle.aql_plan.specs.declared.facts.Facts.{Facts}
 use Rattle.aql_plan.specs.Exprs.{map_node}
 use Rattle.aql_plan.specs.Needs.{result_uses}
-use Rattle.aql_plan.specs.Nodes.{over}
+use Rattle.aql_plan.specs.Nodes.{over, weight}
 use Rattle.aql_plan.specs.Plan.{Plan, Over, Node, NoResults, Scatter, Distribute, Gather, Calculation, Subquery, Sort, Limit, top}
 use Rattle.aql_plan.specs.Refines.{world}
 use Rattle.aql_plan.specs.Runs.{World, Outside, Runs, Gives, result_of}
@@ -26,8 +26,8 @@ use Rattle.aql_rewrite_plan.specs.declared.swap.Rename.{Rename}
 use Rattle.aql_rewrite_plan.specs.Places.{Stays, First}
 use Rattle.aql_rewrite_plan.specs.Placed.{IsWhole, Placed, IsPlaced}
 use Rattle.aql_rewrite_plan.specs.Swaps.{Replaced, KeepsPlaced}
-use Rattle.aql_rules_filter.specs.Measures.{total}
-use Rattle.aql_rules_filter.specs.laws.Falling.{total_falls}
+use Rattle.aql_rewrite_part.specs.Sums.{total}
+use Rattle.aql_rewrite_part.specs.laws.Falling.{total_falls}
 use Rattle.aql_rules_order.specs.Readers.{is_open_sort, with_limit}
 use Rattle.aql_rules_order.specs.SortLimit.{sets_value, Limited, here, below, Limits, limited, is_unlimited}
 use Rattle.aql_rules_order.specs.laws.Spine.{takes_rows, made, run_of, SameFrame, frame_over, frame_kept}
@@ -165,6 +165,20 @@ fewer (below l h) = omega (arith, fewer h)
 limits_lower : (us : Uses) (p q : Plan) (r : Option Rename) → Limits us p q r
     → total is_unlimited q < total is_unlimited p
 limits_lower _ _ _ _ (limited h) = omega (arith, fewer h)
+
+as_many : {limit : ℕ} {p c : Plan} → Limited limit p c → weight c ≡ weight p
+as_many here = refl
+as_many (below l h) = omega (arith, as_many h)
+
+pub limits_blind : (us vs : Uses) (p q : Plan) (r : Option Rename) → Limits us p q r → Limits vs p q r
+limits_blind _ vs _ _ _ (limited h) = (limited h)
+
+pub limits_nameless : (us : Uses) (p q : Plan) (r : Option Rename) → Limits us p q r → r ≡ None
+limits_nameless _ _ _ _ (limited h) = refl
+
+pub limits_shrink : (us : Uses) (p q : Plan) (r : Option Rename) → Limits us p q r
+    → weight q + total is_unlimited q < weight p + total is_unlimited p
+limits_shrink _ _ _ _ (limited h) = omega (arith, fewer h, as_many h)
 
 pub limits_fall : (facts : Facts) (p q : Plan) (r : Option Rename) → IsWhole false facts p
     → First Limits false result_uses p q r → total is_unlimited q < total is_unlimited p

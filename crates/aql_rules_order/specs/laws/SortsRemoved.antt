@@ -1,5 +1,5 @@
 -- What a plan gives without a redundant Sort, it gave with it.
-use Rattle.std.proofs.Common.{◌≡◌, ◌∙◌, ◌<◌, List, [], ◌∷◌, map, Bool, true, false, true≢false, refl, ap, ap₂, sym, subst, subst₂, arith}
+use Rattle.std.proofs.Common.{◌≡◌, ◌∙◌, ◌<◌, List, [], ◌∷◌, map, Bool, true, false, true≢false, refl, ap, ap₂, sym, subst, subst₂, arith, ℕ, ◌+◌, ◌≤◌}
 use Rattle.std.specs.Prelude.{zip, IsPermutation, Option, None}
 use Rattle.std.specs.Cmp.{IsStrictWeakOrder}
 use Rattle.std.proofs.lemmas.List.Sorted.{IsPermutation-refl, IsPermutation-map}
@@ -36,6 +36,7 @@ use Rattle.aql_rules_order.specs.RemoveRedundantSorts.{IsIdle, goes_by_row, igno
 use Rattle.aql_rules_order.specs.laws.Permuted.{unkeyed}
 use Rattle.aql_rules_order.specs.laws.RowsPermuted.{row_by_row, order_free}
 use Rattle.aql_rules_order.specs.laws.Spine.{takes_rows, made, run_of, SameFrame, frame_over, frame_kept}
+use Rattle.aql_rewrite_part.specs.Sums.{total}
 
 -- ---- constant keys leave the order open
 
@@ -191,6 +192,26 @@ unsorts_fall facts p q r whole h =
     (first_lowers false facts Unsorts weight weight weight_lifts
     (λ outer away us p q r placed k. unsorts_lower us p q r k) h [] []
     (whole_placed false facts p whole)).falls
+
+abbrev pub nothing : Node → ℕ
+nothing n = 0
+
+no_more : {p c : Plan} → WithoutSort p c → total nothing c ≤ total nothing p
+no_more here = omega arith
+no_more (below l h) = omega (arith, no_more h)
+
+pub unsorts_blind : (us vs : Uses) (p q : Plan) (r : Option Rename) → Unsorts us p q r → Unsorts vs p q r
+unsorts_blind _ vs _ _ _ (constant_keys h) = (constant_keys h)
+unsorts_blind _ vs _ _ _ (order_lost l other h) = (order_lost l other h)
+
+pub unsorts_nameless : (us : Uses) (p q : Plan) (r : Option Rename) → Unsorts us p q r → r ≡ None
+unsorts_nameless _ _ _ _ (constant_keys h) = refl
+unsorts_nameless _ _ _ _ (order_lost l other h) = refl
+
+pub unsorts_shrink : (us : Uses) (p q : Plan) (r : Option Rename) → Unsorts us p q r
+    → weight q + total nothing q < weight p + total nothing p
+unsorts_shrink _ _ _ _ (constant_keys h) = omega arith
+unsorts_shrink _ _ _ _ (order_lost l other h) = omega (arith, lighter h, no_more h)
 
 -- ---- what the rule finds
 

@@ -1,5 +1,5 @@
 -- A COLLECT without the variables that are not used.
-use Rattle.std.proofs.Common.{◌≡◌, ◌∙◌, ◌<◌, List, [], ◌∷◌, ◌++◌, map, length, Bool, true, false, true≢false, refl, ap, ap₂, sym, subst, subst₂, arith}
+use Rattle.std.proofs.Common.{◌≡◌, ◌∙◌, ◌<◌, List, [], ◌∷◌, ◌++◌, map, length, Bool, true, false, true≢false, refl, ap, ap₂, sym, subst, subst₂, arith, ◌+◌}
 use Rattle.std.specs.Prelude.{◌&&◌, cond, filter, Option, None, option_to_list}
 use Rattle.std.specs.List.{AllByRecursion}
 use Rattle.std.proofs.lemmas.List.Folds.{list_all-append}
@@ -27,11 +27,12 @@ use Rattle.aql_rewrite_plan.specs.Places.{Stays, First}
 use Rattle.aql_rewrite_plan.specs.Placed.{IsWhole, Placed, IsPlaced}
 use Rattle.aql_rewrite_plan.specs.Swaps.{is_used, Replaced, KeepsPlaced}
 use Rattle.aql_rewrite_plan.specs.laws.Among.{has_front, has_back, has_either, among_join, among_split}
-use Rattle.aql_rules_filter.specs.Measures.{total}
-use Rattle.aql_rules_filter.specs.laws.Falling.{total_falls}
+use Rattle.aql_rewrite_part.specs.Sums.{total}
+use Rattle.aql_rewrite_part.specs.laws.Falling.{total_falls}
 use Rattle.aql_rules_order.specs.RemoveCollectVariables.{used_aggregates, used_into, own_vars, all_used, Drops, unused_go, vars_to_go}
 use Rattle.aql_rules_order.specs.laws.Members.{by_rows, as_defined}
 use Rattle.aql_rules_order.specs.laws.UsedAlone.{groups_agree, aggregates_among, into_among, still_known, still_plain, own_there, own_fewer, fewer_own}
+use Rattle.aql_plan.specs.Nodes.{weight}
 
 -- ---- the lists are the same in what is used
 
@@ -117,6 +118,13 @@ same_vars f n = refl
 drops_lower : (us : Uses) (p q : Plan) (r : Option Rename) → Drops us p q r
     → total vars_to_go q < total vars_to_go p
 drops_lower _ _ _ _ (unused_go {us = us} {gs = gs} {i = i} h) = omega (arith, fewer_own us gs i h)
+
+pub drops_nameless : (us : Uses) (p q : Plan) (r : Option Rename) → Drops us p q r → r ≡ None
+drops_nameless _ _ _ _ (unused_go {us = us} {gs = gs} {i = i} h) = refl
+
+pub drops_shrink : (us : Uses) (p q : Plan) (r : Option Rename) → Drops us p q r
+    → weight q + total vars_to_go q < weight p + total vars_to_go p
+drops_shrink _ _ _ _ (unused_go {us = us} {gs = gs} {i = i} h) = omega (arith, fewer_own us gs i h)
 
 pub drops_fall : (facts : Facts) (p q : Plan) (r : Option Rename) → IsWhole false facts p
     → First Drops false result_uses p q r → total vars_to_go q < total vars_to_go p

@@ -7,7 +7,7 @@ use Rattle.aql_top.proofs.answer.answer.Goals as goal
 pub returns-in_err-lines-in-Some-clause-at_most : goal.returns-in_err-lines-in-Some-clause-at_most
 returns-in_err-lines-in-Some-clause-at_most g c =
     let added = c.in_ok-run.ensures.ok in
-    inr (added.ran, adds_chosen _ _ _ _ _ added c.args.script c.in_ok-plan.ensures.chosen)
+    inr (added.ran, adds_chosen _ _ _ _ _ added c.args.rules.now c.args.script c.in_ok-plan.ensures.chosen)
 
 pub unreachable-requires : goal.unreachable-requires
 unreachable-requires g c =
@@ -33,6 +33,6 @@ returns-clause-entry g c =
     c.len-before.result c.held.ensures c.len-before.ensures c.held-2.ensures _ c.in-Some.ensures in
     let same : c.in-Some.ran.now ≡ added.ran = cc in (
       added.ran,
-      adds_chosen _ _ _ _ _ added c.args.script c.in_ok-plan.ensures.chosen,
+      adds_chosen _ _ _ _ _ added c.args.rules.now c.args.script c.in_ok-plan.ensures.chosen,
       c.in_ok-lines-in-Some.ensures ∙ ap (λ (r : Ran). answer_text r.values) same,
     )

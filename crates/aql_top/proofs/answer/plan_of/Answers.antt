@@ -49,7 +49,7 @@ returns-clause-chosen c =
     c.as_str.ensures c.in_ok-scoped.ensures.query in
     is_chosen_plan script (query_tree scoped.query) scoped.names is_scoped c.in_ok-facts.facts
     c.in_ok-facts.ensures.meets (plan_tree c.in_ok-plan.plan) c.in_ok-plan.ensures.first
-    c.all.result c.all.ensures c.in_ok-chosen.chosen.plan c.in_ok-chosen.chosen.applied
+    c.args.rules.now c.in_ok-chosen.chosen.plan c.in_ok-chosen.chosen.applied
     c.in_ok-chosen.ensures.chosen
 
 pub returns-clause-executors : goal.returns-clause-executors
@@ -60,7 +60,7 @@ returns-clause-executors c =
     let is_scoped = subst (λ text. IsScoped script.catalog text tree scoped.names) c.as_str.ensures
     c.in_ok-scoped.ensures.query in
     let first = plan_tree c.in_ok-plan.plan in
-    chosen_kept c.in_ok-facts.facts c.all.result first (plan_tree c.in_ok-chosen.chosen.plan)
+    chosen_kept c.in_ok-facts.facts c.args.rules.now first (plan_tree c.in_ok-chosen.chosen.plan)
     c.in_ok-chosen.chosen.applied c.in_ok-chosen.ensures.chosen
     (executors script tree scoped.names is_scoped c.in_ok-facts.facts first c.in_ok-plan.ensures.first)
 

@@ -47,7 +47,7 @@ returns-in-Err-clause-complete g c = λ takes accepts.
 pub returns-in-Err-clause-entry : goal.returns-in-Err-clause-entry
 returns-in-Err-clause-entry g c =
     entered c.in-Err.fault c.tell-fault.result c.tell-fault.ensures.same _ c.status.ensures
-    (g.S.Source.left c.args.source.now) (g.G.Engine.entries c.args.engine.now)
+    c.args.rules.now (g.S.Source.left c.args.source.now) (g.G.Engine.entries c.args.engine.now)
     (g.G.Engine.entries c.run.new.engine) (g.K.Sink.written c.args.out.now) (g.K.Sink.written c.run.new.out)
     c.in-Err.ensures.front_entry c.run.ensures.at_most
 

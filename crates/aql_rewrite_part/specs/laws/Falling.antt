@@ -1,7 +1,6 @@
 -- A sum over nodes that a rule lowers at its place, it lowers in the whole plan.
-use Rattle.std.proofs.Common.{◌≡◌, ◌∙◌, ℕ, ◌+◌, ◌≤◌, ◌<◌, false, List, [], refl, ap, ap₂, arith}
+use Rattle.std.proofs.Common.{◌≡◌, ℕ, ◌+◌, ◌<◌, false, [], refl, ap₂, arith}
 use Rattle.std.specs.Prelude.{Option, Some, None}
-use Rattle.aql_tree.specs.declared.syntax.Ident.{Ident}
 use Rattle.aql_tree.specs.declared.syntax.Ident.TheVariants.{Num}
 use Rattle.aql_tree.specs.Tree.{ExprTree, variable}
 use Rattle.aql_meaning.specs.Places.{put}
@@ -13,9 +12,9 @@ use Rattle.aql_plan.specs.Exprs.{map_plan, map_node}
 use Rattle.aql_rewrite_plan.specs.declared.swap.Rename.{Rename}
 use Rattle.aql_rewrite_plan.specs.Places.{renamed_by, Rewriting, First}
 use Rattle.aql_rewrite_plan.specs.Placed.{IsWhole}
-use Rattle.aql_rewrite_plan.specs.laws.Carried.{Lowers, Lifts, first_lowers}
+use Rattle.aql_rewrite_plan.specs.laws.Carried.{Lifts, first_lowers}
 use Rattle.aql_rewrite_plan.specs.laws.PlacedBelow.{whole_placed}
-use Rattle.aql_rules_filter.specs.Measures.{total, node_total}
+use Rattle.aql_rewrite_part.specs.Sums.{total, node_total}
 
 -- for a number that no change of expressions changes
 module _ (size : Node → ℕ) (same : (f : ExprTree → ExprTree) (n : Node) → size (map_node f n) ≡ size n) where

@@ -1,0 +1,3 @@
+pub mod Sums
+pub mod Finished
+pub mod laws

@@ -1,0 +1,3 @@
+pub mod Falling
+pub mod Finishing
+pub mod StaysPlaced

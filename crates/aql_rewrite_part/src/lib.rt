@@ -1,0 +1,8 @@
+//! Passes that go on at the part of the plan that the rule rewrote.
+#![tactic(auto)]
+
+mod pass;
+mod rule;
+
+pub use pass::run_part_pass;
+pub use rule::PartRule;
