@@ -1,10 +1,10 @@
 -- The rule move-filters-into-enumerate: a Filter over an EnumerateCollection or an Index that keeps all
 -- attributes of its documents goes into it. The items of the condition come after those of the node's filter.
-use Rattle.std.specs.Prelude.{ℕ, ◌≡◌, Bool, Option, Some, None}
-use Rattle.aql_tree.specs.Tree.{ExprTree, ExprTrees, MaybeExpr, one_expr}
+use Rattle.std.specs.Prelude.{ℕ, ◌≡◌, Bool, Option, None}
+use Rattle.aql_tree.specs.Tree.{ExprTree, ExprTrees, one_expr}
 use Rattle.aql_meaning.specs.Documents.{Last}
 use Rattle.aql_meaning.specs.Uses.{Uses}
-use Rattle.aql_plan.specs.Plan.{Reading, Plan, Over, Node, EnumerateCollection, Index, Traversal, Filter}
+use Rattle.aql_plan.specs.Plan.{Reading, Plan, Over, EnumerateCollection, Index, Filter}
 use Rattle.aql_rewrite_plan.specs.declared.swap.Rename.{Rename}
 use Rattle.aql_rules_filter.specs.Conditions.{joined}
 

@@ -4,7 +4,7 @@ use Rattle.std.specs.Prelude.{Option, None, not, ◌&&◌, ◌||◌}
 use Rattle.aql_tree.specs.declared.syntax.Ident.{Ident}
 use Rattle.aql_meaning.specs.Uses.{Uses}
 use Rattle.aql_plan.specs.Needs.{under, needs, result_uses}
-use Rattle.aql_plan.specs.Plan.{Plan, Singleton, Over, Node, EnumerateCollection, EnumerateList, Traversal, Calculation, Subquery, Sort, Collect, Return}
+use Rattle.aql_plan.specs.Plan.{Plan, Singleton, Over, Node, Calculation, Subquery, Collect, Return}
 use Rattle.aql_rewrite_plan.specs.declared.swap.Rename.{Rename}
 use Rattle.aql_rewrite_plan.specs.Nodes.{uses_alone, gives_new_rows}
 use Rattle.aql_rewrite_plan.specs.Places.{renamed_by, First, below, here, body}

@@ -1,5 +1,5 @@
 -- A Filter outside fragments stands over rows, and the number of filters does not change with expressions.
-use Rattle.std.proofs.Common.{◌≡◌, ◌∙◌, false, true, true≢false, refl, sym}
+use Rattle.std.proofs.Common.{◌≡◌, false, true≢false, refl}
 use Rattle.aql_tree.specs.Tree.{ExprTree}
 use Rattle.aql_meaning.specs.Plain.{IsPlain}
 use Rattle.aql_plan.specs.declared.facts.Facts.{Facts}

@@ -1,5 +1,5 @@
 -- One Filter for two gives the same rows.
-use Rattle.std.proofs.Common.{◌≡◌, ◌∙◌, ◌<◌, List, [], false, refl, ap, sym, subst, subst₂, arith, ◌+◌}
+use Rattle.std.proofs.Common.{◌≡◌, ◌∙◌, ◌<◌, List, false, refl, ap, sym, subst, subst₂, arith, ◌+◌}
 use Rattle.std.specs.Prelude.{Option, None, filter, ◌&&◌}
 use Rattle.aql_tree.specs.declared.syntax.Ident.{Ident}
 use Rattle.aql_tree.specs.Tree.{ExprTree, one_expr}

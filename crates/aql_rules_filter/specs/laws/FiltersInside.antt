@@ -1,21 +1,20 @@
 -- A condition in the filter of a node that reads documents gives the same rows as a Filter over the node.
 use Rattle.std.proofs.Common.{◌≡◌, ◌∙◌, ◌<◌, ℕ, List, [], ◌∷◌, ◌++◌, map, Bool, false, refl, ap, ap₂, sym, subst, subst₂, arith, ◌+◌}
-use Rattle.std.specs.Prelude.{Option, Some, None, filter, flat_map, IsPermutation, ◌&&◌}
+use Rattle.std.specs.Prelude.{Option, Some, None, filter, IsPermutation, ◌&&◌}
 use Rattle.std.specs.List.{AllZip}
 use Rattle.std.proofs.lemmas.List.{map-id}
 use Rattle.std.proofs.lemmas.List.Elements.{filter-append}
 use Rattle.aql_value.specs.Datum.{Datum}
 use Rattle.aql_tree.specs.declared.syntax.Ident.{Ident}
 use Rattle.aql_tree.specs.Tree.{ExprTree, ExprTrees, MaybeExpr, one_expr}
-use Rattle.aql_meaning.specs.AtRows.{passes, values_of}
-use Rattle.aql_meaning.specs.Clauses.{with_each, filter_true}
+use Rattle.aql_meaning.specs.AtRows.{passes}
+use Rattle.aql_meaning.specs.Clauses.{with_each}
 use Rattle.aql_meaning.specs.Documents.{Last, InIndexOrder, documents_kept, Scanned, ScannedInOrder}
 use Rattle.aql_meaning.specs.Plain.{IsPlain}
 use Rattle.aql_meaning.specs.Row.{Row, bind}
 use Rattle.aql_meaning.specs.Uses.{Uses}
 use Rattle.aql_plan.specs.declared.facts.Facts.{Facts}
 use Rattle.aql_plan.specs.Facts.{attributes_in}
-use Rattle.aql_plan.specs.Fits.{Fits}
 use Rattle.aql_plan.specs.Needs.{result_uses}
 use Rattle.aql_plan.specs.Plan.{Reading, Plan, Singleton, Over, Node, EnumerateCollection, Index, Filter, top}
 use Rattle.aql_plan.specs.Runs.{World, Outside, read, read_in_bounds, Indexed}

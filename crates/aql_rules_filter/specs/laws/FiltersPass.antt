@@ -1,8 +1,7 @@
 -- What a node gives for the rows at which a condition holds is what it gives for all rows, where the condition
 -- holds: for nodes with which a Filter may swap places.
-use Rattle.std.proofs.Common.{◌≡◌, ◌∙◌, List, [], ◌∷◌, ◌++◌, map, Bool, true, false, true≢false, cond, refl, ap, ap₂, sym, subst}
-use Rattle.std.specs.Prelude.{Option, Some, None, filter, flat_map, zip, option_to_list, IsPermutation}
-use Rattle.std.specs.Ordering.{is_lt}
+use Rattle.std.proofs.Common.{◌≡◌, ◌∙◌, List, [], ◌∷◌, ◌++◌, map, Bool, true, false, true≢false, cond, refl, ap, sym, subst}
+use Rattle.std.specs.Prelude.{None, filter, zip, option_to_list, IsPermutation}
 use Rattle.std.specs.List.{AllZip}
 use Rattle.std.proofs.lemmas.List.Elements.{filter-append}
 use Rattle.aql_value.specs.Database.{Database}
@@ -13,18 +12,18 @@ use Rattle.aql_tree.specs.declared.syntax.Ident.{Ident}
 use Rattle.aql_tree.specs.Tree.{ExprTree, ExprTrees, no_expr, TraversalShape}
 use Rattle.aql_meaning.specs.AtRows.{value_of, values_of, keys_of, passes, stops}
 use Rattle.aql_meaning.specs.Clauses.{with_each, with_elements, with_values, KeyedRow, comes_before, Sorts}
-use Rattle.aql_meaning.specs.Documents.{documents_kept, projection}
-use Rattle.aql_meaning.specs.Paths.{Path, TraversesFrom, TraversesPaths, Traverses, path_row, long_paths, with_paths, vertex_of, end_of, last_edge, path_value}
+use Rattle.aql_meaning.specs.Documents.{documents_kept}
+use Rattle.aql_meaning.specs.Paths.{Path, TraversesFrom, Traverses, path_row, long_paths, with_paths, vertex_of, end_of, last_edge, path_value}
 use Rattle.aql_meaning.specs.Row.{Row, bind, bind_maybe}
 use Rattle.aql_meaning.specs.Uses.{uses}
 use Rattle.aql_meaning.specs.laws.SomeAnswer.{some_traversal}
 use Rattle.aql_meaning.specs.laws.SomeOrder.{keyed_order}
 use Rattle.aql_plan.proofs.SomeRun.{some_run}
 use Rattle.aql_plan.specs.Needs.{sets}
-use Rattle.aql_plan.specs.Plan.{Plan, Node, EnumerateCollection, EnumerateList, Traversal, Calculation, Subquery, Sort}
+use Rattle.aql_plan.specs.Plan.{Node, EnumerateCollection, EnumerateList, Traversal, Calculation, Subquery, Sort}
 use Rattle.aql_plan.specs.Runs.{World, Outside, read, edges_in, result_of, Runs, Gives}
 use Rattle.aql_rules_filter.specs.MoveFiltersUp.{may_swap, none_used}
-use Rattle.aql_rules_filter.specs.laws.Filtered.{holds, filter_twice, filter_swap}
+use Rattle.aql_rules_filter.specs.laws.Filtered.{holds, filter_swap}
 use Rattle.aql_rules_filter.specs.laws.Flat.{each_flat, flat_filter, all_alike, filter_map}
 use Rattle.aql_rules_filter.specs.laws.Inserted.{sorted_filter_of}
 use Rattle.aql_rules_filter.specs.laws.Permuted.{filter_of}

@@ -1,6 +1,6 @@
 -- What a plan gives without an unnecessary filter, it gave with it.
-use Rattle.std.proofs.Common.{◌≡◌, ◌∙◌, ◌<◌, List, [], true, false, refl, ap, sym, subst, subst₂, arith, ◌+◌}
-use Rattle.std.specs.Prelude.{Option, Some, None, filter}
+use Rattle.std.proofs.Common.{◌≡◌, ◌∙◌, ◌<◌, List, true, false, refl, ap, sym, subst, subst₂, arith, ◌+◌}
+use Rattle.std.specs.Prelude.{Option, Some, None}
 use Rattle.aql_value.specs.Datum.{Datum}
 use Rattle.aql_value.specs.Truth.{truth}
 use Rattle.aql_tree.specs.declared.syntax.Ident.{Ident}
@@ -11,7 +11,7 @@ use Rattle.aql_plan.specs.Plan.{Plan, Over, Filter, NoResults}
 use Rattle.aql_plan.specs.Needs.{result_uses}
 use Rattle.aql_plan.specs.Runs.{Outside}
 use Rattle.aql_plan.specs.Refines.{world}
-use Rattle.aql_plan.specs.Shapes.{Shape, Rows, Shaped, plain_rows}
+use Rattle.aql_plan.specs.Shapes.{Shape, Shaped, plain_rows}
 use Rattle.aql_plan.specs.laws.Agreement.{rows_agree}
 use Rattle.aql_plan.proofs.SomeRun.{some_run}
 use Rattle.aql_rewrite_plan.specs.declared.swap.Rename.{Rename}

@@ -1,6 +1,6 @@
 -- A Filter that swaps places with the node below it.
-use Rattle.std.proofs.Common.{◌≡◌, ◌∙◌, ◌<◌, ◌+◌, ℕ, List, [], ◌∷◌, ◌++◌, Bool, true, false, true≢false, refl, ap, sym, subst, subst₂, arith}
-use Rattle.std.specs.Prelude.{◌&&◌, Option, Some, None, filter}
+use Rattle.std.proofs.Common.{◌≡◌, ◌∙◌, ◌<◌, ◌+◌, List, [], ◌∷◌, true, false, true≢false, refl, ap, sym, subst, subst₂, arith}
+use Rattle.std.specs.Prelude.{◌&&◌, Option, Some, None}
 use Rattle.std.specs.List.{list_any, AllZip}
 use Rattle.std.proofs.lemmas.Bool.{and_parts, and_from}
 use Rattle.aql_tree.specs.declared.syntax.Ident.{Ident}
@@ -21,19 +21,18 @@ use Rattle.aql_plan.specs.Needs.{sets, result_uses}
 use Rattle.aql_plan.specs.Plan.{Plan, Singleton, Over, Node, EnumerateCollection, EnumerateList, Traversal, Calculation, Subquery, Filter, Sort, top}
 use Rattle.aql_plan.specs.Runs.{Outside, Runs, Gives}
 use Rattle.aql_plan.specs.Refines.{world, RefinesFor}
-use Rattle.aql_plan.specs.Shapes.{Shape, Rows, Shaped, calculated, with_subquery, plain_rows, ordered_rows, gather, gather_in_order, finishing, HasNoFragment}
-use Rattle.aql_plan.specs.Variables.{vars_of, vars_set, set_once, are_among, FindsAll}
+use Rattle.aql_plan.specs.Shapes.{Shape, Rows, Shaped, calculated, with_subquery, plain_rows, ordered_rows, gather, gather_in_order, finishing}
+use Rattle.aql_plan.specs.Variables.{vars_of, FindsAll}
 use Rattle.aql_plan.specs.laws.Agreement.{rows_agree}
-use Rattle.aql_plan.specs.laws.Among.{count}
 use Rattle.aql_rewrite_plan.specs.declared.swap.Rename.{Rename}
 use Rattle.aql_rewrite_plan.specs.Places.{renamed_by, First}
 use Rattle.aql_rewrite_plan.specs.Placed.{Placed, IsWhole}
-use Rattle.aql_rewrite_plan.specs.Swaps.{Replaced, Kept, SetsNoMore, KeepsPlaced}
+use Rattle.aql_rewrite_plan.specs.Swaps.{Replaced, KeepsPlaced}
 use Rattle.aql_rewrite_plan.specs.laws.Carried.{Lowers, Lifts, first_lowers}
 use Rattle.aql_rewrite_plan.specs.laws.PlacedBelow.{whole_placed}
 use Rattle.aql_rules_filter.specs.MoveFiltersUp.{may_swap, none_used, MovesUp, swapped, others_below, height}
 use Rattle.aql_rules_filter.specs.Readers.{filter_in}
-use Rattle.aql_rules_filter.specs.laws.Filtered.{holds, filtered}
+use Rattle.aql_rules_filter.specs.laws.Filtered.{filtered}
 use Rattle.aql_rules_filter.specs.laws.FiltersPass.{filter_after}
 use Rattle.aql_rules_filter.specs.laws.Filters.{filter_shaped}
 use Rattle.aql_rules_filter.specs.laws.Unused.{among_others}

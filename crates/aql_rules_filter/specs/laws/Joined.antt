@@ -1,8 +1,8 @@
 -- A condition holds where its items hold, and conditions that are joined hold where both do.
-use Rattle.std.proofs.Common.{◌≡◌, ◌∙◌, ◌<◌, length, arith, List, [], ◌∷◌, ◌++◌, map, Bool, true, false, true≢false, cond, refl, ap, ap₂, sym, subst}
+use Rattle.std.proofs.Common.{◌≡◌, ◌∙◌, ◌<◌, length, arith, List, [], ◌∷◌, ◌++◌, map, Bool, true, false, true≢false, cond, refl, ap, ap₂, sym}
 use Rattle.std.specs.Prelude.{◌&&◌}
 use Rattle.std.specs.List.{list_all, AllByRecursion}
-use Rattle.std.proofs.lemmas.Bool.{and_parts, and_from}
+use Rattle.std.proofs.lemmas.Bool.{and_parts}
 use Rattle.std.proofs.lemmas.List.Folds.{list_all-append}
 use Rattle.aql_value.specs.Datum.{Datum, null, boolean}
 use Rattle.aql_value.specs.Truth.{truth}
@@ -15,8 +15,8 @@ use Rattle.aql_tree.specs.View.{links}
 use Rattle.aql_meaning.specs.AtRows.{value_of, passes}
 use Rattle.aql_meaning.specs.Plain.{IsPlain, MaybePlain, LinksPlain}
 use Rattle.aql_meaning.specs.Row.{Row}
-use Rattle.aql_meaning.specs.Uses.{Uses, uses, maybe_uses, link_uses}
-use Rattle.aql_meaning.specs.Value.{value, links_value}
+use Rattle.aql_meaning.specs.Uses.{uses, maybe_uses, link_uses}
+use Rattle.aql_meaning.specs.Value.{links_value}
 use Rattle.aql_plan.specs.FirstPlan.{is_and, all_and, right_sides, parts}
 use Rattle.aql_plan.specs.Variables.{are_among}
 use Rattle.aql_rewrite_plan.specs.laws.Among.{among_join, among_split}

@@ -1,7 +1,7 @@
 -- What optimize-traversals shows of itself.
 use Rattle.std.proofs.Common.{◌≡◌, ◌∙◌, ◌<◌, ◌+◌, ◌≤◌, ℕ, suc, List, [], ◌∷◌, ◌++◌, Bool, true, false, true≢false, cond, refl, ap, ap₂, sym, subst, subst₂, append_assoc, arith}
 use Rattle.std.specs.Prelude.{◌||◌, ◌&&◌, not, Option, Some, None, filter, option_to_list}
-use Rattle.std.specs.List.{list_any, AllZip}
+use Rattle.std.specs.List.{AllZip}
 use Rattle.std.proofs.lemmas.Bool.{and_parts, not-true}
 use Rattle.std.proofs.lemmas.Option.{same_Some}
 use Rattle.std.proofs.lemmas.List.Folds.{list_any-append}

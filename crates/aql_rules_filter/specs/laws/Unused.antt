@@ -1,7 +1,6 @@
 -- A variable that is not used may have any value.
 use Rattle.std.proofs.Common.{◌≡◌, ◌∙◌, List, [], ◌∷◌, ◌++◌, Bool, true, false, true≢false, cond, refl, ap, sym}
-use Rattle.std.specs.Prelude.{◌||◌, ◌&&◌, not, Option, Some, None, unwrap_or, option_to_list}
-use Rattle.std.specs.List.{list_any, list_all}
+use Rattle.std.specs.Prelude.{◌||◌, not, Option, Some, None, unwrap_or, option_to_list}
 use Rattle.std.proofs.lemmas.Bool.{and_parts, not-true}
 use Rattle.std.proofs.lemmas.List.Folds.{list_all-append}
 use Rattle.aql_value.specs.Datum.{Datum, null}

@@ -1,4 +1,3 @@
-use Rattle.std.proofs.Common.{◌∙◌, sym}
 use Rattle.std.proofs.lemmas.Result.{IfOk-weaker}
 use Rattle.aql_plan.specs.Plan.{top}
 use Rattle.aql_plan.specs.View.{plan_tree}

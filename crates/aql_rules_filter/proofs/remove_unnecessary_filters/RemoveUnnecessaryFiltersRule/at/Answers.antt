@@ -1,7 +1,6 @@
-use Rattle.std.proofs.Common.{rules, ◌∙◌, ap, sym}
+use Rattle.std.proofs.Common.{rules, ap, sym}
 use Rattle.aql_value.specs.View.{datum_of}
 use Rattle.aql_tree.specs.View.{tree}
-use Rattle.aql_plan.specs.Plan.{Over, NoResults}
 use Rattle.aql_plan.specs.View.{plan_tree}
 use Rattle.aql_rules_filter.specs.laws.FiltersRemoved.{removes_stays, passing_at, failing_at}
 use Rattle.aql_rules_filter.proofs.remove_unnecessary_filters.RemoveUnnecessaryFiltersRule.at.Goals as goal
