@@ -1,31 +1,29 @@
 -- What the nodes of a subquery give over the one row before it, a FOR over its values gave.
-use Rattle.std.proofs.Common.{◌≡◌, ◌∙◌, ℕ, suc, ◌+◌, ◌≤◌, ◌<◌, List, [], ◌∷◌, ◌++◌, map, Bool, true, false, true≢false, cond, refl, ap, ap₂, sym, subst, subst₂, arith}
+use Rattle.std.proofs.Common.{◌≡◌, ◌∙◌, suc, ◌+◌, ◌≤◌, ◌<◌, List, [], ◌∷◌, ◌++◌, map, Bool, true, false, true≢false, cond, refl, ap, ap₂, sym, subst, subst₂, arith}
 use Rattle.std.specs.Prelude.{Option, Some, None, unwrap_or, not, ◌||◌, ◌&&◌}
-use Rattle.std.specs.List.{list_any, AllZip, AllByRecursion}
+use Rattle.std.specs.List.{AllZip, AllByRecursion}
 use Rattle.std.proofs.lemmas.Bool.{and_parts, not-true}
 use Rattle.std.proofs.lemmas.List.{append-nil}
 use Rattle.aql_value.specs.Datum.{Datum, null}
 use Rattle.aql_value.specs.Parts.{list, elements}
 use Rattle.aql_value.specs.laws.Lists.{datum_list-array_of}
 use Rattle.aql_tree.specs.declared.syntax.Ident.{Ident}
-use Rattle.aql_tree.specs.declared.syntax.Ident.TheVariants.{Num}
 use Rattle.aql_tree.specs.Tree.{ExprTree, variable}
 use Rattle.aql_meaning.specs.AtRows.{value_of, values_of}
 use Rattle.aql_meaning.specs.Clauses.{with_values, with_elements}
 use Rattle.aql_meaning.specs.Numbered.{IsNumber}
 use Rattle.aql_meaning.specs.Row.{Row, bind, value_at, same_ident}
-use Rattle.aql_meaning.specs.Uses.{Use, Whole, Part, Uses, AgreeAt, Agree, uses}
+use Rattle.aql_meaning.specs.Uses.{Whole, Part, Uses, Agree, uses}
 use Rattle.aql_plan.specs.declared.facts.Facts.{Facts}
 use Rattle.aql_plan.specs.Needs.{sets, result_uses}
 use Rattle.aql_plan.specs.Nodes.{weight}
-use Rattle.aql_plan.specs.Plan.{Plan, Singleton, Over, Node, Index, EnumerateList, Calculation, Subquery, Collect, Return, NoResults, Scatter, Distribute, Remote, Gather, top}
-use Rattle.aql_plan.specs.Refines.{world, RefinesFor}
-use Rattle.aql_plan.specs.Runs.{World, Outside, Runs, Gives, result_row, result_of}
-use Rattle.aql_plan.specs.Shapes.{Shape, Rows, Result, Shaped, IsOuter, HasNoFragment, IsNoFragment, is_inside, one_row, calculated, with_subquery, plain_rows, ordered_rows, lowest, other_reading, passing, gather, gather_in_order, finishing, returning}
+use Rattle.aql_plan.specs.Plan.{Plan, Singleton, Over, Node, Index, EnumerateList, Calculation, Subquery, Collect, Return, NoResults, Scatter, Distribute, Gather, top}
+use Rattle.aql_plan.specs.Refines.{world}
+use Rattle.aql_plan.specs.Runs.{World, Outside, Runs, result_row, result_of}
+use Rattle.aql_plan.specs.Shapes.{Shape, Rows, Shaped, IsOuter, HasNoFragment, IsNoFragment, is_inside, one_row, calculated, with_subquery, plain_rows, ordered_rows, lowest, other_reading, passing, gather, gather_in_order, finishing, returning}
 use Rattle.aql_plan.specs.Variables.{vars_of, vars_set, set_once, are_among, FindsAll}
 use Rattle.aql_plan.specs.laws.Agreement.{agree_self, agree_bind, agree_through}
 use Rattle.aql_plan.specs.laws.Among.{count, count_append, none_in, counted_has}
-use Rattle.aql_plan.specs.laws.Carried.{all_parts}
 use Rattle.aql_plan.specs.laws.FoundMapped.{NodeFinds}
 use Rattle.aql_plan.specs.laws.Idents.{same_self, same_is}
 use Rattle.aql_plan.specs.laws.RenamedPlaces.{number_is_no_result}
