@@ -30,7 +30,6 @@ use Rattle.aql_build.specs.Resolved.{IsResolved}
 use Rattle.aql_build.specs.Theorem.{ScopingGivesIt}
 use Rattle.aql_build_limits.specs.Theorem.{TextLimitsEnd}
 use Rattle.aql_opt.specs.declared.rule_sets.Rules.{Rules}
-use Rattle.aql_opt.specs.RuleSets.{Has}
 use Rattle.aql_opt.specs.Theorem.{FactsFit}
 use Rattle.aql_optimise.specs.Chosen.{Chosen}
 use Rattle.aql_engine.specs.declared.engine.Ran.{Ran}

@@ -1,5 +1,5 @@
 -- A plan that is chosen for one whose nodes have executors has executors for its own.
-use Rattle.std.proofs.Common.{ℕ, ◌≡◌, List, [], ◌∷◌, ◌++◌, Bool, true, false, Option, None, Some, sym, subst}
+use Rattle.std.proofs.Common.{ℕ, List, [], ◌∷◌, ◌++◌, Bool, true, false, Option, None, Some, sym, subst}
 use Rattle.std.specs.List.{AllZip, AllByRecursion}
 use Rattle.aql_tree.specs.declared.syntax.Ident.TheVariants.{Num}
 use Rattle.aql_tree.specs.Tree.{ExprTree, variable}
@@ -14,7 +14,7 @@ use Rattle.aql_plan.specs.Plan.{Plan, Singleton, Over, Node, EnumerateCollection
 use Rattle.aql_exec_plan.specs.Runnable.{HasExecutors, HasExecutor}
 use Rattle.aql_rewrite_plan.specs.declared.swap.Rename.{Rename}
 use Rattle.aql_rewrite_plan.specs.NodeExprs.{over_exprs}
-use Rattle.aql_rewrite_plan.specs.Places.{Rewriting, First, below, here, body, Reaches, at_once, next, IsPass, renamed_by}
+use Rattle.aql_rewrite_plan.specs.Places.{Rewriting, First, below, here, body, Reaches, at_once, next, renamed_by}
 use Rattle.aql_rewrite_node_exprs.specs.AtExprs.{AtExprs}
 use Rattle.aql_rules_calc.specs.MoveCalculationsUp.{Moves, swapped as calculation_moved}
 use Rattle.aql_rules_calc.specs.ReduceExtractionToProjection.{Reduces, enumeration, by_index}

@@ -11,8 +11,8 @@ use Rattle.aql_tree.specs.Tree.{QueryTree}
 use Rattle.aql_front.specs.declared.faults.QueryFault.{QueryFault}
 use Rattle.aql_front.specs.declared.faults.QueryFault.TheVariants as query
 use Rattle.aql_front.specs.Reading.{Refuses}
-use Rattle.aql_front.proofs.Once.{only_query, only_fault, written_once}
-use Rattle.aql_top.specs.Forms.{TakesWords, HasQuery, IsScriptWith, Accepts, HasQueryFault}
+use Rattle.aql_front.proofs.Once.{only_query, only_fault}
+use Rattle.aql_top.specs.Forms.{TakesWords, HasQuery, Accepts, HasQueryFault}
 use Rattle.aql_opt.specs.declared.rule_sets.Rules.{Rules}
 use Rattle.aql_top.specs.Entries.{PrintsEntry, AddsAtMostOne, IsEntered}
 use Rattle.aql_top.specs.Reasons.{fault_status, query_status, Deserves, IsTextOf, as_line}
