@@ -1,5 +1,5 @@
 -- A clause or a subquery is lifted: what it declares, and what its parts give.
-use Rattle.std.proofs.Common.{◌≡◌, ◌∙◌, ℕ, suc, List, [], ◌∷◌, ◌++◌, map, refl, sym, ap, ap₂, subst, append_assoc, append-nil, codes, Option, Some, None, option_map}
+use Rattle.std.proofs.Common.{◌≡◌, ◌∙◌, ℕ, suc, List, [], ◌∷◌, ◌++◌, map, refl, sym, ap, ap₂, subst, append_assoc, append-nil, codes, Option, Some, option_map}
 use Rattle.std.proofs.lemmas.List.{map-append}
 use Rattle.std.specs.Prelude.{option_to_list, IfOk, Result, Ok, Err}
 use Rattle.aql_value.specs.declared.memory.OutOfMemory.{OutOfMemory}
@@ -13,11 +13,11 @@ use Rattle.aql_tree.specs.View.{tree, maybe, clause_tree, into_tree, into_part}
 use Rattle.aql_meaning.specs.Options.{with_settings}
 use Rattle.aql_lift.specs.Numbering.{Numbering, text_of, number_traversal, after_traversal, traversal_names}
 use Rattle.aql_lift.specs.Lifting as spec
-use Rattle.aql_lift.specs.Lifting.{Scoped, as_it_is, over, declares}
+use Rattle.aql_lift.specs.Lifting.{Scoped, over, declares}
 use Rattle.aql_scope.specs.declared.numbers.Numbers.{Numbers}
 use Rattle.aql_scope.specs.Faults.{traversal_variables}
 use Rattle.aql_scope.specs.Lifts.{Progress, progress, let_of, after, Lifts}
-use Rattle.aql_scope.proofs.Turns.{progress_is, Given, over_given, after_none}
+use Rattle.aql_scope.proofs.Turns.{progress_is, Given, over_given}
 use Rattle.aql_scope.proofs.Declared.{say, said, declared_given, after_declare}
 use Rattle.aql_scope.proofs.Forms.{into_parts}
 
@@ -26,13 +26,6 @@ pub pushed : (lets new : List Clause) (c : Clause) (m : Numbers) → new ≡ let
     → progress new m ≡ record (progress lets m) { clauses = map clause_tree lets ++ clause_tree c ∷ [] }
 pushed lets new c m more = progress_is _ _ _ _ _ _
     (ap (map clause_tree) more ∙ map-append clause_tree lets (c ∷ [])) refl refl
-
--- a part that stays as it is, after the declaration of a variable
-pub declared_none : {T : Type 0} (x : Ident) (t : T) (lets : List Clause) (m k : Numbers)
-    → k.said ≡ m.said ++ text_of x ∷ [] → k.next ≡ suc m.next
-    → Given t (declares (x ∷ []) (as_it_is t (suc m.next))) (progress lets m) (progress lets k)
-declared_none x t lets m k e f =
-    after_declare x (λ n. as_it_is t n) t lets m k (progress lets k) e f (refl, after_none t (progress lets k))
 
 -- a clause that may not be there for want of memory
 pub when_ok : (r : Result Clause OutOfMemory) (t : ClauseTree) (s : Scoped ClauseTree) (p q : Progress)
@@ -89,11 +82,6 @@ let_query_given names x q r t number lets m k l is e f g t_is =
 pub into_some : (i : Into) (e : Expr) → i.what ≡ Some e
     → into_tree (Some (into_part i)) ≡ into i.var (one_expr (tree e)) i.keep
 into_some i e is = ap (λ p. into_tree (Some p)) (into_parts i)
-    ∙ ap (λ w. into i.var (maybe (option_map tree w)) i.keep) is
-
-pub into_none : (i : Into) → i.what ≡ None
-    → into_tree (Some (into_part i)) ≡ into i.var (maybe None) i.keep
-into_none i is = ap (λ p. into_tree (Some p)) (into_parts i)
     ∙ ap (λ w. into i.var (maybe (option_map tree w)) i.keep) is
 
 pub into_given : (names : Numbering) (x : Ident) (e w : ExprTree) (number : ℕ) (lets : List Clause)

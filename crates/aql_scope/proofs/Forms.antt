@@ -10,10 +10,9 @@ use Rattle.aql_tree.specs.declared.syntax.Clause as clause
 use Rattle.aql_tree.specs.declared.syntax.Clause.{Clause, the_lemmas as clause_lemmas}
 use Rattle.aql_tree.specs.declared.syntax.Collect.{Collect, out-Collect, the_lemmas as collect_lemmas}
 use Rattle.aql_tree.specs.declared.syntax.Into.{Into, the_lemmas as into_lemmas}
-use Rattle.aql_tree.specs.Tree.{ExprTree, literal, variable, current, array_literal, object_literal, access, function_call, unary_of, chain, array_comparison, ternary, range_of, subquery, for_each, let_be, query}
+use Rattle.aql_tree.specs.Tree.{ExprTree, variable, ternary, range_of, subquery, for_each, let_be, query}
 use Rattle.aql_tree.specs.View.{tree, maybe, clauses, clause_tree, query_tree, let_part, aggregate_part, into_part, collect_part, TraversalPart, traversal_part, traversal_clause, OptionsPart, options_part, members, member_part, inline, step_part}
 use Rattle.aql_meaning.specs.Options.{options_of, with_settings}
-use Rattle.aql_scope.specs.Faults.{Place, visible_variables, first, new_name, in_expr, in_clause}
 
 abbrev pub is_variable : ExprTree → Bool
 is_variable (variable x) = true
@@ -153,21 +152,3 @@ collect_parts c = search (rules, collect_lemmas)
 
 pub into_parts : (i : Into) → into_part i ≡ (i.var, option_map tree i.what, i.keep)
 into_parts i = search (rules, into_lemmas)
-
--- ---- FOR over an expression that is no variable
-
-pub in_for_other : (p : Place) (x : Ident) (e : ExprTree) → is_variable e ≡ false
-    → in_clause p (for_each x e) ≡ first (new_name (visible_variables p) [] x) (in_expr p e)
-in_for_other p x (variable y) other = absurd (cc)
-in_for_other p x (literal v) other = refl
-in_for_other p x current other = refl
-in_for_other p x (array_literal es) other = refl
-in_for_other p x (object_literal ms) other = refl
-in_for_other p x (access e ss) other = refl
-in_for_other p x (function_call f es) other = refl
-in_for_other p x (unary_of op e) other = refl
-in_for_other p x (chain e ls) other = refl
-in_for_other p x (array_comparison e kind op f) other = refl
-in_for_other p x (ternary e m f) other = refl
-in_for_other p x (range_of e f) other = refl
-in_for_other p x (subquery q) other = refl

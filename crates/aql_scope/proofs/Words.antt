@@ -2,7 +2,7 @@
 use Rattle.std.proofs.Common.{◌≡◌, ◌∙◌, ℕ, ◌<◌, List, [], ◌∷◌, ◌++◌, suc, length, map, ap, Bool, true, false, cond, refl, sym, arith}
 use mathlib.Core.List.{reverse-cons}
 use Rattle.std.proofs.lemmas.List.{map-append, reverse-append}
-use Rattle.std.specs.Prelude.{reverse, Option, Some, None}
+use Rattle.std.specs.Prelude.{reverse, Option, Some, None, is_some, ◌||◌}
 use Rattle.aql_aggregate.specs.declared.kinds.AggregateKind.{AggregateKind}
 use Rattle.aql_aggregate.specs.declared.kinds.AggregateKind.TheVariants.{Count, Sum, Min, Max, SortedUnique, CountDistinct}
 use Rattle.aql_aggregate.specs.View.{aggregate_of}
@@ -17,7 +17,7 @@ use Rattle.aql_lift.specs.Numbering.{Numbering, number_of, numbered_variable, id
 use Rattle.aql_scope.specs.declared.faults.ScopeFault.{ScopeFault}
 use Rattle.aql_meaning.specs.Groups.{into_names}
 use Rattle.aql_meaning.specs.Visible.{onto}
-use Rattle.aql_scope.specs.Faults.{first, expr_count, is_counting, new_name, new_names}
+use Rattle.aql_scope.specs.Faults.{is_among, first, expr_count, is_counting, new_name, new_names}
 
 -- a name that has no number among the first ones has that of the others
 pub number_outer : (own outer : Numbering) (x : Ident) → number_of own x ≡ None
@@ -39,6 +39,15 @@ number_before (v ∷ own) outer x n found = by (same_ident v.0 x) found (number_
       → cond same (Some v.1) (number_of (own ++ outer) x) ≡ Some n
   by true h f = h
   by false h f = f h
+
+-- a name is one of these where it has a number
+pub has_number : (names : Numbering) (x : Ident) → is_some (number_of names x) ≡ is_among (idents names) x
+has_number [] x = refl
+has_number (v ∷ names) x = by (same_ident v.0 x) (has_number names x) where
+  by : (same : Bool) → is_some (number_of names x) ≡ is_among (idents names) x
+      → is_some (cond same (Some v.1) (number_of names x)) ≡ (same || is_among (idents names) x)
+  by true e = refl
+  by false e = e
 
 -- the names of a list whose latest entry comes first, the latest last
 pub idents_turned : (entries : Numbering) → reverse (idents (reverse entries)) ≡ idents entries

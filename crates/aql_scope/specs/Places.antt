@@ -1,6 +1,8 @@
--- Where the program stands, as the definition of faults sees it.
-use Rattle.std.specs.Prelude.{true, false}
+-- Where the program stands, as the definition of faults sees it, and what it answers there.
+use Rattle.std.specs.Prelude.{◌≡◌, ◌⊎◌, true, false, Option, Some, None, Result, Ok, Err}
 use Rattle.aql_lift.specs.Numbering.{idents}
+use Rattle.aql_scope.specs.declared.faults.ScopeFault.{ScopeFault}
+use Rattle.aql_scope.specs.declared.faults.ScopeFault.TheVariants.{Memory}
 use Rattle.aql_scope.specs.declared.names.At.{At}
 use Rattle.aql_scope.specs.declared.names.Scope.{Scope}
 use Rattle.aql_scope.specs.Faults.{Place}
@@ -17,3 +19,8 @@ place a = record {
 abbrev pub place_within : At → Scope → Place
 place_within a s =
     record { own = idents s.own; outer = idents s.outer; held = a.catalog.now; lifts = true }
+
+-- a function that looks for the first fault of a part answers that there is none, or gives it
+abbrev pub Judges : Result Unit ScopeFault → Option ScopeFault → Type 0
+Judges (Ok u) first = first ≡ None
+Judges (Err fault) first = (fault ≡ Memory) ⊎ (first ≡ Some fault)

@@ -6,14 +6,14 @@ ghost use Rattle.aql_tree.specs.View.{traversal_part, traversal_clause, collect_
 ghost use Rattle.aql_meaning.specs.Visible.{onto, vars_after, aggregate_vars};
 ghost use Rattle.aql_lift.specs.Numbering.{idents};
 
+use crate::Made;
 use crate::names::{NameList, Scope};
 use aql_tree::{AggregateItem, Clause, Collect, Ident, Let, Traversal};
-use aql_value::OutOfMemory;
 use std::alloc::Global;
 
 impl NameList {
     /// Puts the variables of criteria before these names.
-    pub fn enter_criteria(&mut self, alloc: Global, groups: &[Let]) -> Result<(), OutOfMemory>
+    pub fn enter_criteria(&mut self, alloc: Global, groups: &[Let]) -> Made<()>
         ensures { OnOk result (idents self.new
             ≡ onto (map (λ l. l.0) (map let_part groups.now)) (idents self.old)) }
     {
@@ -24,11 +24,7 @@ impl NameList {
     }
 
     /// Puts the variables of aggregates before these names.
-    pub fn enter_aggregates(
-        &mut self,
-        alloc: Global,
-        all: &[AggregateItem],
-    ) -> Result<(), OutOfMemory>
+    pub fn enter_aggregates(&mut self, alloc: Global, all: &[AggregateItem]) -> Made<()>
         ensures { OnOk result (idents self.new
             ≡ onto (aggregate_vars (aggregates (map aggregate_part all.now))) (idents self.old)) }
     {
@@ -39,7 +35,7 @@ impl NameList {
     }
 
     /// Puts a variable that may be there before these names.
-    pub fn enter_maybe(&mut self, alloc: Global, ident: &Option<Ident>) -> Result<(), OutOfMemory>
+    pub fn enter_maybe(&mut self, alloc: Global, ident: &Option<Ident>) -> Made<()>
         ensures { OnOk result
             (idents self.new ≡ onto (option_to_list ident.now) (idents self.old)) }
     {
@@ -52,7 +48,7 @@ impl NameList {
 
 impl Scope {
     /// Makes the variables of a clause visible; COLLECT leaves only its own.
-    pub fn enter_clause(&mut self, alloc: Global, clause: &Clause) -> Result<(), OutOfMemory>
+    pub fn enter_clause(&mut self, alloc: Global, clause: &Clause) -> Made<()>
         ensures own { OnOk result
             (idents self.new.own ≡ vars_after (clause_tree clause.now) (idents self.old.own)) }
         ensures outer { self.new.outer ≡ self.old.outer }
@@ -68,11 +64,7 @@ impl Scope {
     }
 
     /// Makes the variables of a traversal visible.
-    pub fn enter_traversal(
-        &mut self,
-        alloc: Global,
-        traversal: &Traversal,
-    ) -> Result<(), OutOfMemory>
+    pub fn enter_traversal(&mut self, alloc: Global, traversal: &Traversal) -> Made<()>
         ensures own { OnOk result (idents self.new.own
             ≡ vars_after (traversal_clause (traversal_part traversal.now)) (idents self.old.own)) }
         ensures outer { self.new.outer ≡ self.old.outer }
@@ -82,7 +74,7 @@ impl Scope {
         self.own.enter_maybe(alloc, &traversal.path)
     }
 
-    fn enter_collect(&mut self, alloc: Global, collect: &Collect) -> Result<(), OutOfMemory>
+    fn enter_collect(&mut self, alloc: Global, collect: &Collect) -> Made<()>
         ensures own { OnOk result (idents self.new.own
             ≡ vars_after (collect_clause (collect_part collect.now)) (idents self.old.own)) }
         ensures outer { self.new.outer ≡ self.old.outer }

@@ -1,5 +1,4 @@
 use aql_value::{OutOfMemory, Text};
-use std::alloc::{AllocError, AllocFailed};
 
 /// The first fault of a query, in the order of its text.
 pub enum ScopeFault {
@@ -30,28 +29,6 @@ impl From<OutOfMemory> for ScopeFault {
     ghost from_gives = { λ _ fault. fault ≡ Memory };
 
     fn from(_: OutOfMemory) -> ScopeFault {
-        ScopeFault::Memory
-    }
-}
-
-impl From<AllocError> for ScopeFault {
-    ghost use Rattle.std.specs.Prelude.{◌≡◌};
-    ghost use Rattle.aql_scope.specs.declared.faults.ScopeFault.TheVariants.{Memory};
-
-    ghost from_gives = { λ _ fault. fault ≡ Memory };
-
-    fn from(_: AllocError) -> ScopeFault {
-        ScopeFault::Memory
-    }
-}
-
-impl<T: Drop> From<AllocFailed<T>> for ScopeFault {
-    ghost use Rattle.std.specs.Prelude.{◌≡◌};
-    ghost use Rattle.aql_scope.specs.declared.faults.ScopeFault.TheVariants.{Memory};
-
-    ghost from_gives = { λ _ fault. fault ≡ Memory };
-
-    fn from(_: AllocFailed<T>) -> ScopeFault {
         ScopeFault::Memory
     }
 }

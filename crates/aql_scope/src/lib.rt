@@ -18,5 +18,9 @@ mod option_faults;
 mod options;
 mod scoping;
 
+use aql_value::OutOfMemory;
 pub use faults::ScopeFault;
 pub use scoping::{Scoped, first_fault, lift, scope};
+
+/// What is made, unless memory runs out.
+type Made<T> = Result<T, OutOfMemory>;

@@ -9,37 +9,38 @@ ghost use Rattle.aql_lift.specs.Numbering.{number_of, from_name};
 ghost use Rattle.aql_lift.specs.Lifting as spec;
 ghost use Rattle.aql_scope.specs.Lifts.{Lifts, LiftsQuery, progress, visible};
 
+use crate::Made;
 use crate::lift_collect::lift_collect;
 use crate::lift_exprs::{let_query, lift_boxed, lift_expr};
 use crate::lift_traversals::lift_traversal;
 use crate::names::{NameList, Scope};
-use crate::numbers::Numbers;
+use crate::numbers::Walk;
 use aql_copy::copy_texts;
-use aql_tree::{Clause, Clauses, Expr, Ident, Key, Keys, Query};
-use aql_value::{OutOfMemory, Seq, Value};
+use aql_tree::{Clause, Expr, Ident, Key, Keys, Query};
+use aql_value::{Seq, Value};
+use std::alloc::Global;
+use std::mem;
 
 /// A query among the names that are visible where it stands.
 #[cycle(lift)]
-pub fn lift_query(
-    query: &Query,
-    around: &Scope,
-    numbers: &mut Numbers,
-) -> Result<Query, OutOfMemory>
-    ensures { LiftsQuery query_tree
-        (spec.scope_query (visible around.now) numbers.old.next (query_tree query.now))
-        numbers.old result numbers.new }
+pub fn lift_query(query: &Query, around: &Scope, walk: &mut Walk) -> Made<Query>
+    ensures query { LiftsQuery query_tree
+        (spec.scope_query (visible around.now) walk.old.numbers.next (query_tree query.now))
+        walk.old.numbers result walk.new.numbers }
+    ensures lets { OnOk result (walk.new.lets ≡ walk.old.lets) }
 {
-    let with = copy_texts(numbers.alloc, query.with.as_slice())?;
-    let mut scope = around.subquery(numbers.alloc)?;
-    let mut done = Seq::new(numbers.alloc);
+    let with = copy_texts(walk.numbers.alloc, query.with.as_slice())?;
+    let mut scope = around.subquery(walk.numbers.alloc)?;
+    let lets_around = mem::replace(&mut walk.lets, Seq::new(walk.numbers.alloc));
     for clause in query.clauses.as_slice() {
-        let lifted = lift_clause(clause, &mut scope, numbers, &mut done)?;
-        done.push(lifted)?;
+        let lifted = lift_clause(clause, &mut scope, walk)?;
+        walk.lets.push(lifted)?;
     }
-    let result = lift_boxed(&query.result, &scope, numbers, &mut done)?;
+    let result = lift_boxed(&query.result, &scope, walk)?;
+    let clauses = mem::replace(&mut walk.lets, lets_around);
     Ok(Query {
         with,
-        clauses: done,
+        clauses,
         distinct: query.distinct,
         result,
     })
@@ -47,67 +48,58 @@ pub fn lift_query(
 
 // A clause; the query's own names are then those after it.
 #[cycle(lift)]
-fn lift_clause(
-    clause: &Clause,
-    scope: &mut Scope,
-    numbers: &mut Numbers,
-    lets: &mut Clauses,
-) -> Result<Clause, OutOfMemory>
-    ensures clause { Lifts clause_tree (spec.clause scope.old.outer scope.old.own numbers.old.next
+fn lift_clause(clause: &Clause, scope: &mut Scope, walk: &mut Walk) -> Made<Clause>
+    ensures clause { Lifts clause_tree (spec.clause scope.old.outer scope.old.own walk.old.numbers.next
         (clause_tree clause.now)).clause
-        (progress lets.old numbers.old) result (progress lets.new numbers.new) }
+        (progress walk.old.lets walk.old.numbers) result
+        (progress walk.new.lets walk.new.numbers) }
     ensures own { OnOk result (scope.new.own
-        ≡ (spec.clause scope.old.outer scope.old.own numbers.old.next (clause_tree clause.now)).own) }
+        ≡ (spec.clause scope.old.outer scope.old.own walk.old.numbers.next (clause_tree clause.now)).own) }
     ensures outer { scope.new.outer ≡ scope.old.outer }
 {
     match clause {
-        Clause::For { var, list } => lift_for(list, var, scope, numbers, lets),
+        Clause::For { var, list } => lift_for(list, var, scope, walk),
         Clause::ForDocs { var, collection } => {
-            let number = numbers.declare(var)?;
-            scope.own.enter(numbers.alloc, var, number)?;
+            let number = walk.numbers.declare(var)?;
+            scope.own.enter(walk.numbers.alloc, var, number)?;
             Ok(Clause::ForDocs {
                 var: Ident::Num(number),
-                collection: collection.copy(numbers.alloc)?,
+                collection: collection.copy(walk.numbers.alloc)?,
             })
         }
-        Clause::Traversal(traversal) => lift_traversal(traversal, scope, numbers, lets),
-        Clause::Filter(test) => Ok(Clause::Filter(lift_expr(test, scope, numbers, lets)?)),
-        Clause::Let { var, expr } => lift_let(expr, var, scope, numbers, lets),
-        Clause::Sort(keys) => Ok(Clause::Sort(lift_keys(keys.as_slice(), scope, numbers, lets)?)),
+        Clause::Traversal(traversal) => lift_traversal(traversal, scope, walk),
+        Clause::Filter(test) => Ok(Clause::Filter(lift_expr(test, scope, walk)?)),
+        Clause::Let { var, expr } => lift_let(expr, var, scope, walk),
+        Clause::Sort(keys) => Ok(Clause::Sort(lift_keys(keys.as_slice(), scope, walk)?)),
         Clause::Limit { offset, count } => Ok(Clause::Limit {
             offset: *offset,
             count: *count,
         }),
-        Clause::Collect(collect) => lift_collect(collect, scope, numbers, lets),
+        Clause::Collect(collect) => lift_collect(collect, scope, walk),
     }
 }
 
 // FOR over a single name, which is a variable or a collection, or over any other expression.
 #[cycle(lift)]
-fn lift_for(
-    list: &Expr,
-    var: &Ident,
-    scope: &mut Scope,
-    numbers: &mut Numbers,
-    lets: &mut Clauses,
-) -> Result<Clause, OutOfMemory>
-    ensures clause { Lifts clause_tree (spec.clause scope.old.outer scope.old.own numbers.old.next
+fn lift_for(list: &Expr, var: &Ident, scope: &mut Scope, walk: &mut Walk) -> Made<Clause>
+    ensures clause { Lifts clause_tree (spec.clause scope.old.outer scope.old.own walk.old.numbers.next
         (for_each var.now (tree list.now))).clause
-        (progress lets.old numbers.old) result (progress lets.new numbers.new) }
+        (progress walk.old.lets walk.old.numbers) result
+        (progress walk.new.lets walk.new.numbers) }
     ensures own { OnOk result (scope.new.own ≡ (spec.clause scope.old.outer scope.old.own
-        numbers.old.next (for_each var.now (tree list.now))).own) }
+        walk.old.numbers.next (for_each var.now (tree list.now))).own) }
     ensures outer { scope.new.outer ≡ scope.old.outer }
 {
-    let number = numbers.declare(var)?;
+    let number = walk.numbers.declare(var)?;
     match list {
         Expr::Var(ident) => {
-            let lifted = source(ident, number, scope, numbers)?;
-            scope.own.enter(numbers.alloc, var, number)?;
+            let lifted = source(ident, number, scope, walk.numbers.alloc)?;
+            scope.own.enter(walk.numbers.alloc, var, number)?;
             Ok(lifted)
         }
         _ => {
-            let list = lift_expr(list, scope, numbers, lets)?;
-            scope.own.enter(numbers.alloc, var, number)?;
+            let list = lift_expr(list, scope, walk)?;
+            scope.own.enter(walk.numbers.alloc, var, number)?;
             Ok(Clause::For {
                 var: Ident::Num(number),
                 list,
@@ -117,12 +109,7 @@ fn lift_for(
 }
 
 // FOR over a single name: a visible variable, or else a collection.
-fn source(
-    ident: &Ident,
-    number: u32,
-    scope: &Scope,
-    numbers: &Numbers,
-) -> Result<Clause, OutOfMemory>
+fn source(ident: &Ident, number: u32, scope: &Scope, alloc: Global) -> Made<Clause>
     ensures { IfOk result (λ c. clause_tree c
         ≡ from_name number (number_of (visible scope.now) ident.now) ident.now) }
 {
@@ -134,7 +121,7 @@ fn source(
     match ident {
         Ident::Name(name) => Ok(Clause::ForDocs {
             var,
-            collection: name.copy(numbers.alloc)?,
+            collection: name.copy(alloc)?,
         }),
         Ident::Num(_) => Ok(Clause::For {
             var,
@@ -145,30 +132,25 @@ fn source(
 
 // LET of a subquery, which stays there, or of any other expression.
 #[cycle(lift)]
-fn lift_let(
-    value: &Expr,
-    var: &Ident,
-    scope: &mut Scope,
-    numbers: &mut Numbers,
-    lets: &mut Clauses,
-) -> Result<Clause, OutOfMemory>
-    ensures clause { Lifts clause_tree (spec.clause scope.old.outer scope.old.own numbers.old.next
+fn lift_let(value: &Expr, var: &Ident, scope: &mut Scope, walk: &mut Walk) -> Made<Clause>
+    ensures clause { Lifts clause_tree (spec.clause scope.old.outer scope.old.own walk.old.numbers.next
         (let_be var.now (tree value.now))).clause
-        (progress lets.old numbers.old) result (progress lets.new numbers.new) }
+        (progress walk.old.lets walk.old.numbers) result
+        (progress walk.new.lets walk.new.numbers) }
     ensures own { OnOk result (scope.new.own ≡ (spec.clause scope.old.outer scope.old.own
-        numbers.old.next (let_be var.now (tree value.now))).own) }
+        walk.old.numbers.next (let_be var.now (tree value.now))).own) }
     ensures outer { scope.new.outer ≡ scope.old.outer }
 {
-    let number = numbers.declare(var)?;
+    let number = walk.numbers.declare(var)?;
     match value {
         Expr::Sub(query) => {
-            let inner = lift_query(query, scope, numbers)?;
-            scope.own.enter(numbers.alloc, var, number)?;
-            let_query(inner, number, numbers.alloc)
+            let inner = lift_query(query, scope, walk)?;
+            scope.own.enter(walk.numbers.alloc, var, number)?;
+            let_query(inner, number, walk.numbers.alloc)
         }
         _ => {
-            let expr = lift_expr(value, scope, numbers, lets)?;
-            scope.own.enter(numbers.alloc, var, number)?;
+            let expr = lift_expr(value, scope, walk)?;
+            scope.own.enter(walk.numbers.alloc, var, number)?;
             Ok(Clause::Let {
                 var: Ident::Num(number),
                 expr,
@@ -178,23 +160,19 @@ fn lift_let(
 }
 
 #[cycle(lift)]
-fn lift_keys(
-    keys: &[Key],
-    scope: &Scope,
-    numbers: &mut Numbers,
-    lets: &mut Clauses,
-) -> Result<Keys, OutOfMemory>
+fn lift_keys(keys: &[Key], scope: &Scope, walk: &mut Walk) -> Made<Keys>
     ensures keys { Lifts (λ ks. trees (map (λ k. k.0) (map key_part ks)))
-        (spec.exprs (visible scope.now) numbers.old.next
+        (spec.exprs (visible scope.now) walk.old.numbers.next
         (trees (map (λ k. k.0) (map key_part keys.now))))
-        (progress lets.old numbers.old) result (progress lets.new numbers.new) }
+        (progress walk.old.lets walk.old.numbers) result
+        (progress walk.new.lets walk.new.numbers) }
     ensures directions { IfOk result (λ ks. map (λ k. k.1) (map key_part ks)
         ≡ map (λ k. k.1) (map key_part keys.now)) }
 {
-    let mut done = Seq::new(numbers.alloc);
+    let mut done = Seq::new(walk.numbers.alloc);
     for key in keys {
         done.push(Key {
-            expr: lift_expr(&key.expr, scope, numbers, lets)?,
+            expr: lift_expr(&key.expr, scope, walk)?,
             descending: key.descending,
         })?;
     }

@@ -12,71 +12,56 @@ ghost use Rattle.aql_lift.specs.Numbering.{number_of, numbered_variable, idents,
 ghost use Rattle.aql_lift.specs.Lifting as spec;
 ghost use Rattle.aql_scope.specs.Lifts.{Lifts, progress, visible};
 
+use crate::Made;
 use crate::lift_exprs::{lift_expr, lift_maybe, numbered};
 use crate::names::{NameList, Scope};
-use crate::numbers::Numbers;
+use crate::numbers::Walk;
 use aql_tree::{
-    AggregateItem, Aggregates, Clause, Clauses, Collect, Expr, Field, Fields, Ident, Into, Let,
-    Lets,
+    AggregateItem, Aggregates, Clause, Collect, Expr, Field, Fields, Ident, Into, Let, Lets,
 };
-use aql_value::{OutOfMemory, Seq, Text};
+use aql_value::{Seq, Text};
 use std::alloc::Global;
 
 /// COLLECT: after it only its own names are left.
 #[cycle(lift)]
-pub fn lift_collect(
-    collect: &Collect,
-    scope: &mut Scope,
-    numbers: &mut Numbers,
-    lets: &mut Clauses,
-) -> Result<Clause, OutOfMemory>
-    ensures clause { Lifts clause_tree (spec.clause scope.old.outer scope.old.own numbers.old.next
+pub fn lift_collect(collect: &Collect, scope: &mut Scope, walk: &mut Walk) -> Made<Clause>
+    ensures clause { Lifts clause_tree (spec.clause scope.old.outer scope.old.own walk.old.numbers.next
         (collect_clause (collect_part collect.now))).clause
-        (progress lets.old numbers.old) result (progress lets.new numbers.new) }
+        (progress walk.old.lets walk.old.numbers) result
+        (progress walk.new.lets walk.new.numbers) }
     ensures own { OnOk result (scope.new.own ≡ (spec.clause scope.old.outer scope.old.own
-        numbers.old.next (collect_clause (collect_part collect.now))).own) }
+        walk.old.numbers.next (collect_clause (collect_part collect.now))).own) }
     ensures outer { scope.new.outer ≡ scope.old.outer }
 {
-    let mut own = NameList::new(numbers.alloc);
-    let groups = lift_criteria(collect.groups.as_slice(), scope, &mut own, numbers, lets)?;
-    let found = lift_aggregates(
-        collect.aggregates.as_slice(),
-        scope,
-        &mut own,
-        numbers,
-        lets,
-    )?;
-    let into = lift_into(&collect.into, scope, &mut own, numbers, lets)?;
+    let mut own = NameList::new(walk.numbers.alloc);
+    let groups = lift_criteria(collect.groups.as_slice(), scope, &mut own, walk)?;
+    let found = lift_aggregates(collect.aggregates.as_slice(), scope, &mut own, walk)?;
+    let into = lift_into(&collect.into, scope, &mut own, walk)?;
     scope.own = own;
     Ok(Clause::collect(groups, found, into))
 }
 
 #[cycle(lift)]
-fn lift_criteria(
-    groups: &[Let],
-    scope: &Scope,
-    own: &mut NameList,
-    numbers: &mut Numbers,
-    lets: &mut Clauses,
-) -> Result<Lets, OutOfMemory>
+fn lift_criteria(groups: &[Let], scope: &Scope, own: &mut NameList, walk: &mut Walk) -> Made<Lets>
     ensures criteria { Lifts
         (λ ls. (map (λ l. l.0) (map let_part ls), trees (map (λ l. l.1) (map let_part ls))))
-        (spec.criteria (visible scope.now) numbers.old.next
+        (spec.criteria (visible scope.now) walk.old.numbers.next
         (map (λ l. l.0) (map let_part groups.now))
         (trees (map (λ l. l.1) (map let_part groups.now))))
-        (progress lets.old numbers.old) result (progress lets.new numbers.new) }
+        (progress walk.old.lets walk.old.numbers) result
+        (progress walk.new.lets walk.new.numbers) }
     ensures own { OnOk result (own.new ≡ enter (map (λ l. l.0) (map let_part groups.now))
-        (spec.criteria (visible scope.now) numbers.old.next
+        (spec.criteria (visible scope.now) walk.old.numbers.next
         (map (λ l. l.0) (map let_part groups.now))
         (trees (map (λ l. l.1) (map let_part groups.now)))).tree.0 own.old) }
 {
-    let mut done = Seq::new(numbers.alloc);
+    let mut done = Seq::new(walk.numbers.alloc);
     for group in groups {
-        let number = numbers.declare(&group.var)?;
-        own.enter(numbers.alloc, &group.var, number)?;
+        let number = walk.numbers.declare(&group.var)?;
+        own.enter(walk.numbers.alloc, &group.var, number)?;
         done.push(Let {
             var: Ident::Num(number),
-            expr: lift_expr(&group.expr, scope, numbers, lets)?,
+            expr: lift_expr(&group.expr, scope, walk)?,
         })?;
     }
     Ok(done)
@@ -87,26 +72,26 @@ fn lift_aggregates(
     all: &[AggregateItem],
     scope: &Scope,
     own: &mut NameList,
-    numbers: &mut Numbers,
-    lets: &mut Clauses,
-) -> Result<Aggregates, OutOfMemory>
+    walk: &mut Walk,
+) -> Made<Aggregates>
     ensures aggregates { Lifts (λ gs. aggregates (map aggregate_part gs))
-        (spec.aggregates (visible scope.now) numbers.old.next
+        (spec.aggregates (visible scope.now) walk.old.numbers.next
         (aggregates (map aggregate_part all.now)))
-        (progress lets.old numbers.old) result (progress lets.new numbers.new) }
+        (progress walk.old.lets walk.old.numbers) result
+        (progress walk.new.lets walk.new.numbers) }
     ensures own { OnOk result
         (own.new ≡ enter (aggregate_vars (aggregates (map aggregate_part all.now)))
-        (aggregate_vars (spec.aggregates (visible scope.now) numbers.old.next
+        (aggregate_vars (spec.aggregates (visible scope.now) walk.old.numbers.next
         (aggregates (map aggregate_part all.now))).tree) own.old) }
 {
-    let mut done = Seq::new(numbers.alloc);
+    let mut done = Seq::new(walk.numbers.alloc);
     for item in all {
-        let number = numbers.declare(&item.var)?;
-        own.enter(numbers.alloc, &item.var, number)?;
+        let number = walk.numbers.declare(&item.var)?;
+        own.enter(walk.numbers.alloc, &item.var, number)?;
         done.push(AggregateItem {
             var: Ident::Num(number),
-            name: item.name.copy(numbers.alloc)?,
-            arg: lift_maybe(&item.arg, scope, numbers, lets)?,
+            name: item.name.copy(walk.numbers.alloc)?,
+            arg: lift_maybe(&item.arg, scope, walk)?,
         })?;
     }
     Ok(done)
@@ -118,31 +103,31 @@ fn lift_into(
     into: &Option<Into>,
     scope: &Scope,
     own: &mut NameList,
-    numbers: &mut Numbers,
-    lets: &mut Clauses,
-) -> Result<Option<Into>, OutOfMemory>
+    walk: &mut Walk,
+) -> Made<Option<Into>>
     ensures into { Lifts (λ i. into_tree (option_map into_part i))
-        (spec.into_part scope.now.own (visible scope.now) numbers.old.next
+        (spec.into_part scope.now.own (visible scope.now) walk.old.numbers.next
         (into_tree (option_map into_part into.now)))
-        (progress lets.old numbers.old) result (progress lets.new numbers.new) }
+        (progress walk.old.lets walk.old.numbers) result
+        (progress walk.new.lets walk.new.numbers) }
     ensures own { OnOk result
         (own.new ≡ enter (option_to_list (into_var (into_tree (option_map into_part into.now))))
         (option_to_list (into_var (spec.into_part scope.now.own (visible scope.now)
-        numbers.old.next (into_tree (option_map into_part into.now))).tree)) own.old) }
+        walk.old.numbers.next (into_tree (option_map into_part into.now))).tree)) own.old) }
 {
     let Some(into) = into else {
         return Ok(None);
     };
-    let number = numbers.declare(&into.var)?;
-    own.enter(numbers.alloc, &into.var, number)?;
+    let number = walk.numbers.declare(&into.var)?;
+    own.enter(walk.numbers.alloc, &into.var, number)?;
     match &into.what {
         Some(what) => {
-            let what = lift_expr(what, scope, numbers, lets)?;
-            Ok(Some(into_with(what, number, numbers.alloc)))
+            let what = lift_expr(what, scope, walk)?;
+            Ok(Some(into_with(what, number, walk.numbers.alloc)))
         }
         None => {
-            let what = variables_object(into.keep.as_slice(), scope, numbers.alloc)?;
-            Ok(Some(into_with(what, number, numbers.alloc)))
+            let what = variables_object(into.keep.as_slice(), scope, walk.numbers.alloc)?;
+            Ok(Some(into_with(what, number, walk.numbers.alloc)))
         }
     }
 }
@@ -156,7 +141,7 @@ fn into_with(what: Expr, number: u32, alloc: Global) -> Into
 // What INTO takes without an expression: the object of the query's own variables, or of those that
 // KEEP names.
 #[tactic(auto, using(crate::proofs::Words::kept_taken))]
-fn variables_object(keep: &[Text], scope: &Scope, alloc: Global) -> Result<Expr, OutOfMemory>
+fn variables_object(keep: &[Text], scope: &Scope, alloc: Global) -> Made<Expr>
     ensures { IfOk result (λ e. tree e ≡ object_literal (variable_members (visible scope.now)
         (into_names (idents scope.now.own) keep.now))) }
 {
@@ -169,7 +154,7 @@ fn variables_object(keep: &[Text], scope: &Scope, alloc: Global) -> Result<Expr,
 
 // The object of the variables of these names.
 #[tactic(auto, using(crate::proofs::Words::object_members))]
-fn object_with(names: &[Text], scope: &Scope, alloc: Global) -> Result<Expr, OutOfMemory>
+fn object_with(names: &[Text], scope: &Scope, alloc: Global) -> Made<Expr>
     ensures { IfOk result
         (λ e. tree e ≡ object_literal (variable_members (visible scope.now) names.now)) }
 {
@@ -187,7 +172,7 @@ fn object(fields: Fields) -> Expr
 }
 
 // A member with a variable by its name.
-fn named_member(name: &Text, scope: &Scope, alloc: Global) -> Result<Field, OutOfMemory>
+fn named_member(name: &Text, scope: &Scope, alloc: Global) -> Made<Field>
     ensures { IfOk result (λ f. member_part f
         ≡ named name.now (numbered_variable (number_of (visible scope.now) (Name name.now)))) }
 {

@@ -9,13 +9,12 @@ ghost use Rattle.aql_lift.specs.Numbering.{number_of, numbered_variable};
 ghost use Rattle.aql_lift.specs.Lifting as spec;
 ghost use Rattle.aql_scope.specs.Lifts.{Lifts, progress, visible, one_member, one_step};
 
+use crate::Made;
 use crate::lift_clauses::lift_query;
 use crate::names::Scope;
-use crate::numbers::Numbers;
-use aql_tree::{
-    Clause, Clauses, Expr, Exprs, Field, Fields, Ident, Link, Links, Query, Step, Steps,
-};
-use aql_value::{OutOfMemory, Seq, Text, Value, copy};
+use crate::numbers::Walk;
+use aql_tree::{Clause, Expr, Exprs, Field, Fields, Ident, Link, Links, Query, Step, Steps};
+use aql_value::{Seq, Text, Value, copy};
 use std::alloc::Global;
 
 /// A variable by its number; null for a name that is not visible.
@@ -29,38 +28,32 @@ pub fn numbered(ident: &Ident, scope: &Scope) -> Expr
 }
 
 #[cycle(lift)]
-pub fn lift_expr(
-    expr: &Expr,
-    scope: &Scope,
-    numbers: &mut Numbers,
-    lets: &mut Clauses,
-) -> Result<Expr, OutOfMemory>
-    ensures { Lifts tree (spec.expr (visible scope.now) numbers.old.next (tree expr.now))
-        (progress lets.old numbers.old) result (progress lets.new numbers.new) }
+pub fn lift_expr(expr: &Expr, scope: &Scope, walk: &mut Walk) -> Made<Expr>
+    ensures { Lifts tree (spec.expr (visible scope.now) walk.old.numbers.next (tree expr.now))
+        (progress walk.old.lets walk.old.numbers) result
+        (progress walk.new.lets walk.new.numbers) }
 {
     match expr {
-        Expr::Lit(value) => Ok(Expr::Lit(copy(numbers.alloc, value)?)),
+        Expr::Lit(value) => Ok(Expr::Lit(copy(walk.numbers.alloc, value)?)),
         Expr::Var(ident) => Ok(numbered(ident, scope)),
         Expr::Current => Ok(Expr::Current),
-        Expr::List(items) => Ok(Expr::List(lift_all(items.as_slice(), scope, numbers, lets)?)),
-        Expr::Object(fields) => {
-            Ok(Expr::Object(lift_members(fields.as_slice(), scope, numbers, lets)?))
-        }
+        Expr::List(items) => Ok(Expr::List(lift_all(items.as_slice(), scope, walk)?)),
+        Expr::Object(fields) => Ok(Expr::Object(lift_members(fields.as_slice(), scope, walk)?)),
         Expr::Access { of, steps } => Ok(Expr::Access {
-            of: lift_boxed(of, scope, numbers, lets)?,
-            steps: lift_steps(steps.as_slice(), scope, numbers, lets)?,
+            of: lift_boxed(of, scope, walk)?,
+            steps: lift_steps(steps.as_slice(), scope, walk)?,
         }),
         Expr::Call { name, args } => Ok(Expr::Call {
-            name: name.copy(numbers.alloc)?,
-            args: lift_all(args.as_slice(), scope, numbers, lets)?,
+            name: name.copy(walk.numbers.alloc)?,
+            args: lift_all(args.as_slice(), scope, walk)?,
         }),
         Expr::Unary { op, of } => Ok(Expr::Unary {
             op: *op,
-            of: lift_boxed(of, scope, numbers, lets)?,
+            of: lift_boxed(of, scope, walk)?,
         }),
         Expr::Chain { first, rest } => Ok(Expr::Chain {
-            first: lift_boxed(first, scope, numbers, lets)?,
-            rest: lift_links(rest.as_slice(), scope, numbers, lets)?,
+            first: lift_boxed(first, scope, walk)?,
+            rest: lift_links(rest.as_slice(), scope, walk)?,
         }),
         Expr::Quant {
             left,
@@ -68,189 +61,153 @@ pub fn lift_expr(
             op,
             right,
         } => Ok(Expr::Quant {
-            left: lift_boxed(left, scope, numbers, lets)?,
+            left: lift_boxed(left, scope, walk)?,
             kind: *kind,
             op: *op,
-            right: lift_boxed(right, scope, numbers, lets)?,
+            right: lift_boxed(right, scope, walk)?,
         }),
         Expr::Cond { test, yes, no } => Ok(Expr::Cond {
-            test: lift_boxed(test, scope, numbers, lets)?,
-            yes: lift_chosen(yes, scope, numbers, lets)?,
-            no: lift_boxed(no, scope, numbers, lets)?,
+            test: lift_boxed(test, scope, walk)?,
+            yes: lift_chosen(yes, scope, walk)?,
+            no: lift_boxed(no, scope, walk)?,
         }),
         Expr::Range { low, high } => Ok(Expr::Range {
-            low: lift_boxed(low, scope, numbers, lets)?,
-            high: lift_boxed(high, scope, numbers, lets)?,
+            low: lift_boxed(low, scope, walk)?,
+            high: lift_boxed(high, scope, walk)?,
         }),
-        Expr::Sub(query) => lift_subquery(query, scope, numbers, lets),
+        Expr::Sub(query) => lift_subquery(query, scope, walk),
     }
 }
 
 #[cycle(lift)]
-pub fn lift_boxed(
-    expr: &Expr,
-    scope: &Scope,
-    numbers: &mut Numbers,
-    lets: &mut Clauses,
-) -> Result<Box<Expr>, OutOfMemory>
+pub fn lift_boxed(expr: &Expr, scope: &Scope, walk: &mut Walk) -> Made<Box<Expr>>
     ensures { Lifts (λ b. tree b.value)
-        (spec.expr (visible scope.now) numbers.old.next (tree expr.now))
-        (progress lets.old numbers.old) result (progress lets.new numbers.new) }
+        (spec.expr (visible scope.now) walk.old.numbers.next (tree expr.now))
+        (progress walk.old.lets walk.old.numbers) result
+        (progress walk.new.lets walk.new.numbers) }
 {
-    let lifted = lift_expr(expr, scope, numbers, lets)?;
-    Ok(Box::new(numbers.alloc, lifted)?)
+    let lifted = lift_expr(expr, scope, walk)?;
+    Ok(Box::new(walk.numbers.alloc, lifted)?)
 }
 
 // What stands between `?` and `:`.
 #[cycle(lift)]
-fn lift_chosen(
-    expr: &Option<Box<Expr>>,
-    scope: &Scope,
-    numbers: &mut Numbers,
-    lets: &mut Clauses,
-) -> Result<Option<Box<Expr>>, OutOfMemory>
+fn lift_chosen(expr: &Option<Box<Expr>>, scope: &Scope, walk: &mut Walk) -> Made<Option<Box<Expr>>>
     ensures { Lifts (λ m. maybe (option_map (λ b. tree b.value) m))
-        (spec.maybe (visible scope.now) numbers.old.next
+        (spec.maybe (visible scope.now) walk.old.numbers.next
         (maybe (option_map (λ b. tree b.value) expr.now)))
-        (progress lets.old numbers.old) result (progress lets.new numbers.new) }
+        (progress walk.old.lets walk.old.numbers) result
+        (progress walk.new.lets walk.new.numbers) }
 {
     match expr {
-        Some(expr) => Ok(Some(lift_boxed(expr, scope, numbers, lets)?)),
+        Some(expr) => Ok(Some(lift_boxed(expr, scope, walk)?)),
         None => Ok(None),
     }
 }
 
 #[cycle(lift)]
-pub fn lift_maybe(
-    expr: &Option<Expr>,
-    scope: &Scope,
-    numbers: &mut Numbers,
-    lets: &mut Clauses,
-) -> Result<Option<Expr>, OutOfMemory>
+pub fn lift_maybe(expr: &Option<Expr>, scope: &Scope, walk: &mut Walk) -> Made<Option<Expr>>
     ensures { Lifts (λ m. maybe (option_map tree m))
-        (spec.maybe (visible scope.now) numbers.old.next (maybe (option_map tree expr.now)))
-        (progress lets.old numbers.old) result (progress lets.new numbers.new) }
+        (spec.maybe (visible scope.now) walk.old.numbers.next (maybe (option_map tree expr.now)))
+        (progress walk.old.lets walk.old.numbers) result
+        (progress walk.new.lets walk.new.numbers) }
 {
     match expr {
-        Some(expr) => Ok(Some(lift_expr(expr, scope, numbers, lets)?)),
+        Some(expr) => Ok(Some(lift_expr(expr, scope, walk)?)),
         None => Ok(None),
     }
 }
 
 #[cycle(lift)]
-fn lift_all(
-    exprs: &[Expr],
-    scope: &Scope,
-    numbers: &mut Numbers,
-    lets: &mut Clauses,
-) -> Result<Exprs, OutOfMemory>
+fn lift_all(exprs: &[Expr], scope: &Scope, walk: &mut Walk) -> Made<Exprs>
     ensures { Lifts (λ es. trees (map tree es))
-        (spec.exprs (visible scope.now) numbers.old.next (trees (map tree exprs.now)))
-        (progress lets.old numbers.old) result (progress lets.new numbers.new) }
+        (spec.exprs (visible scope.now) walk.old.numbers.next (trees (map tree exprs.now)))
+        (progress walk.old.lets walk.old.numbers) result
+        (progress walk.new.lets walk.new.numbers) }
 {
-    let mut done = Seq::new(numbers.alloc);
+    let mut done = Seq::new(walk.numbers.alloc);
     for expr in exprs {
-        done.push(lift_expr(expr, scope, numbers, lets)?)?;
+        done.push(lift_expr(expr, scope, walk)?)?;
     }
     Ok(done)
 }
 
 #[cycle(lift)]
-fn lift_members(
-    fields: &[Field],
-    scope: &Scope,
-    numbers: &mut Numbers,
-    lets: &mut Clauses,
-) -> Result<Fields, OutOfMemory>
+fn lift_members(fields: &[Field], scope: &Scope, walk: &mut Walk) -> Made<Fields>
     ensures { Lifts (λ ms. members (map member_part ms))
-        (spec.members (visible scope.now) numbers.old.next (members (map member_part fields.now)))
-        (progress lets.old numbers.old) result (progress lets.new numbers.new) }
+        (spec.members (visible scope.now) walk.old.numbers.next (members (map member_part fields.now)))
+        (progress walk.old.lets walk.old.numbers) result
+        (progress walk.new.lets walk.new.numbers) }
 {
-    let mut done = Seq::new(numbers.alloc);
+    let mut done = Seq::new(walk.numbers.alloc);
     for field in fields {
-        done.push(lift_member(field, scope, numbers, lets)?)?;
+        done.push(lift_member(field, scope, walk)?)?;
     }
     Ok(done)
 }
 
 #[cycle(lift)]
-fn lift_member(
-    field: &Field,
-    scope: &Scope,
-    numbers: &mut Numbers,
-    lets: &mut Clauses,
-) -> Result<Field, OutOfMemory>
+fn lift_member(field: &Field, scope: &Scope, walk: &mut Walk) -> Made<Field>
     ensures { Lifts member_part
-        (one_member (visible scope.now) numbers.old.next (member_part field.now))
-        (progress lets.old numbers.old) result (progress lets.new numbers.new) }
+        (one_member (visible scope.now) walk.old.numbers.next (member_part field.now))
+        (progress walk.old.lets walk.old.numbers) result
+        (progress walk.new.lets walk.new.numbers) }
 {
     match field {
         Field::Named { name, value } => Ok(Field::Named {
-            name: name.copy(numbers.alloc)?,
-            value: lift_expr(value, scope, numbers, lets)?,
+            name: name.copy(walk.numbers.alloc)?,
+            value: lift_expr(value, scope, walk)?,
         }),
         Field::Computed { name, value } => Ok(Field::Computed {
-            name: lift_expr(name, scope, numbers, lets)?,
-            value: lift_expr(value, scope, numbers, lets)?,
+            name: lift_expr(name, scope, walk)?,
+            value: lift_expr(value, scope, walk)?,
         }),
     }
 }
 
 #[cycle(lift)]
-fn lift_steps(
-    all: &[Step],
-    scope: &Scope,
-    numbers: &mut Numbers,
-    lets: &mut Clauses,
-) -> Result<Steps, OutOfMemory>
+fn lift_steps(all: &[Step], scope: &Scope, walk: &mut Walk) -> Made<Steps>
     ensures { Lifts (λ ss. steps (map step_part ss))
-        (spec.steps (visible scope.now) numbers.old.next (steps (map step_part all.now)))
-        (progress lets.old numbers.old) result (progress lets.new numbers.new) }
+        (spec.steps (visible scope.now) walk.old.numbers.next (steps (map step_part all.now)))
+        (progress walk.old.lets walk.old.numbers) result
+        (progress walk.new.lets walk.new.numbers) }
 {
-    let mut done = Seq::new(numbers.alloc);
+    let mut done = Seq::new(walk.numbers.alloc);
     for step in all {
-        done.push(lift_step(step, scope, numbers, lets)?)?;
+        done.push(lift_step(step, scope, walk)?)?;
     }
     Ok(done)
 }
 
 #[cycle(lift)]
-fn lift_step(
-    step: &Step,
-    scope: &Scope,
-    numbers: &mut Numbers,
-    lets: &mut Clauses,
-) -> Result<Step, OutOfMemory>
+fn lift_step(step: &Step, scope: &Scope, walk: &mut Walk) -> Made<Step>
     ensures { Lifts step_part
-        (one_step (visible scope.now) numbers.old.next (step_part step.now))
-        (progress lets.old numbers.old) result (progress lets.new numbers.new) }
+        (one_step (visible scope.now) walk.old.numbers.next (step_part step.now))
+        (progress walk.old.lets walk.old.numbers) result
+        (progress walk.new.lets walk.new.numbers) }
 {
     match step {
-        Step::Name(name) => Ok(Step::Name(name.copy(numbers.alloc)?)),
-        Step::At(place) => Ok(Step::At(lift_expr(place, scope, numbers, lets)?)),
+        Step::Name(name) => Ok(Step::Name(name.copy(walk.numbers.alloc)?)),
+        Step::At(place) => Ok(Step::At(lift_expr(place, scope, walk)?)),
         Step::Each { filter, project } => Ok(Step::Each {
-            filter: lift_maybe(filter, scope, numbers, lets)?,
-            project: lift_maybe(project, scope, numbers, lets)?,
+            filter: lift_maybe(filter, scope, walk)?,
+            project: lift_maybe(project, scope, walk)?,
         }),
     }
 }
 
 #[cycle(lift)]
-fn lift_links(
-    all: &[Link],
-    scope: &Scope,
-    numbers: &mut Numbers,
-    lets: &mut Clauses,
-) -> Result<Links, OutOfMemory>
+fn lift_links(all: &[Link], scope: &Scope, walk: &mut Walk) -> Made<Links>
     ensures { Lifts (λ ls. links (map link_part ls))
-        (spec.links (visible scope.now) numbers.old.next (links (map link_part all.now)))
-        (progress lets.old numbers.old) result (progress lets.new numbers.new) }
+        (spec.links (visible scope.now) walk.old.numbers.next (links (map link_part all.now)))
+        (progress walk.old.lets walk.old.numbers) result
+        (progress walk.new.lets walk.new.numbers) }
 {
-    let mut done = Seq::new(numbers.alloc);
+    let mut done = Seq::new(walk.numbers.alloc);
     for link in all {
         done.push(Link {
             op: link.op,
-            right: lift_expr(&link.right, scope, numbers, lets)?,
+            right: lift_expr(&link.right, scope, walk)?,
         })?;
     }
     Ok(done)
@@ -258,25 +215,22 @@ fn lift_links(
 
 // The variable of a subquery, whose LET then stands before the clause at hand.
 #[cycle(lift)]
-fn lift_subquery(
-    query: &Query,
-    scope: &Scope,
-    numbers: &mut Numbers,
-    lets: &mut Clauses,
-) -> Result<Expr, OutOfMemory>
+fn lift_subquery(query: &Query, scope: &Scope, walk: &mut Walk) -> Made<Expr>
     ensures { Lifts tree
-        (spec.expr (visible scope.now) numbers.old.next (subquery (query_tree query.now)))
-        (progress lets.old numbers.old) result (progress lets.new numbers.new) }
+        (spec.expr (visible scope.now) walk.old.numbers.next (subquery (query_tree query.now)))
+        (progress walk.old.lets walk.old.numbers) result
+        (progress walk.new.lets walk.new.numbers) }
 {
-    let name = Text::new(numbers.alloc, "sub")?;
-    let number = numbers.take(name)?;
-    let lifted = lift_query(query, scope, numbers)?;
-    lets.push(let_query(lifted, number, numbers.alloc)?)?;
+    let name = Text::new(walk.numbers.alloc, "sub")?;
+    let number = walk.numbers.take(name)?;
+    let lifted = lift_query(query, scope, walk)?;
+    walk.lets
+        .push(let_query(lifted, number, walk.numbers.alloc)?)?;
     Ok(Expr::Var(Ident::Num(number)))
 }
 
 /// LET of a subquery.
-pub fn let_query(query: Query, number: u32, alloc: Global) -> Result<Clause, OutOfMemory>
+pub fn let_query(query: Query, number: u32, alloc: Global) -> Made<Clause>
     ensures { IfOk result
         (λ c. clause_tree c ≡ let_be (Num number) (subquery (query_tree query))) }
 {

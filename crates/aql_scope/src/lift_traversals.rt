@@ -10,13 +10,14 @@ ghost use Rattle.aql_lift.specs.Lifting as spec;
 ghost use Rattle.aql_scope.specs.Faults.{traversal_variables};
 ghost use Rattle.aql_scope.specs.Lifts.{Lifts, progress, visible};
 
+use crate::Made;
 use crate::lift_exprs::{lift_expr, lift_maybe};
 use crate::lift_options::chosen_options;
 use crate::names::{NameList, Scope};
-use crate::numbers::Numbers;
+use crate::numbers::{Numbers, Walk};
 use aql_copy::copy_texts;
-use aql_tree::{Clause, Clauses, Expr, Ident, Traversal};
-use aql_value::{Names, OutOfMemory, Seq};
+use aql_tree::{Clause, Expr, Ident, Traversal};
+use aql_value::{Names, Seq};
 use std::alloc::Global;
 
 /// The numbered variables of a traversal.
@@ -29,26 +30,29 @@ struct Head {
 
 /// A traversal: its names are visible in its PRUNE.
 #[cycle(lift)]
-pub fn lift_traversal(
-    traversal: &Traversal,
-    scope: &mut Scope,
-    numbers: &mut Numbers,
-    lets: &mut Clauses,
-) -> Result<Clause, OutOfMemory>
-    ensures clause { Lifts clause_tree (spec.clause scope.old.outer scope.old.own numbers.old.next
+pub fn lift_traversal(traversal: &Traversal, scope: &mut Scope, walk: &mut Walk) -> Made<Clause>
+    ensures clause { Lifts clause_tree (spec.clause scope.old.outer scope.old.own walk.old.numbers.next
         (traversal_clause (traversal_part traversal.now))).clause
-        (progress lets.old numbers.old) result (progress lets.new numbers.new) }
+        (progress walk.old.lets walk.old.numbers) result
+        (progress walk.new.lets walk.new.numbers) }
     ensures own { OnOk result (scope.new.own ≡ (spec.clause scope.old.outer scope.old.own
-        numbers.old.next (traversal_clause (traversal_part traversal.now))).own) }
+        walk.old.numbers.next (traversal_clause (traversal_part traversal.now))).own) }
     ensures outer { scope.new.outer ≡ scope.old.outer }
 {
-    let collections = copy_texts(numbers.alloc, traversal.collections.as_slice())?;
-    let mut own = scope.own.copy(numbers.alloc)?;
-    let head = declare_traversal(traversal, &mut own, numbers)?;
-    let start = lift_expr(&traversal.start, scope, numbers, lets)?;
+    let collections = copy_texts(walk.numbers.alloc, traversal.collections.as_slice())?;
+    let mut own = scope.own.copy(walk.numbers.alloc)?;
+    let head = declare_traversal(traversal, &mut own, &mut walk.numbers)?;
+    let start = lift_expr(&traversal.start, scope, walk)?;
     scope.own = own;
-    let prune = lift_prune(&traversal.prune, scope, numbers)?;
-    Ok(traversal_with(traversal, head, start, collections, prune, numbers.alloc))
+    let prune = lift_prune(&traversal.prune, scope, &walk.numbers)?;
+    Ok(traversal_with(
+        traversal,
+        head,
+        start,
+        collections,
+        prune,
+        walk.numbers.alloc,
+    ))
 }
 
 // The clause of a traversal, from its numbered names and its parts.
@@ -90,25 +94,19 @@ fn traversal_with(
 // PRUNE is asked at each path, so there is no clause before which a subquery of it could stand: it
 // keeps its own LETs, and no number after it counts them.
 #[cycle(lift)]
-fn lift_prune(
-    prune: &Option<Expr>,
-    scope: &Scope,
-    numbers: &Numbers,
-) -> Result<Option<Expr>, OutOfMemory>
+fn lift_prune(prune: &Option<Expr>, scope: &Scope, numbers: &Numbers) -> Made<Option<Expr>>
     ensures { IfOk result (λ m. maybe (option_map tree m) ≡ (spec.maybe (visible scope.now)
         numbers.now.next (maybe (option_map tree prune.now))).tree) }
 {
-    let mut aside = Numbers::from(numbers.alloc, numbers.next);
-    let mut lets = Seq::new(numbers.alloc);
-    lift_maybe(prune, scope, &mut aside, &mut lets)
+    let mut aside = Walk {
+        numbers: Numbers::from(numbers.alloc, numbers.next),
+        lets: Seq::new(numbers.alloc),
+    };
+    lift_maybe(prune, scope, &mut aside)
 }
 
 // Numbers for the names of a traversal, which are then visible.
-fn declare_traversal(
-    traversal: &Traversal,
-    own: &mut NameList,
-    numbers: &mut Numbers,
-) -> Result<Head, OutOfMemory>
+fn declare_traversal(traversal: &Traversal, own: &mut NameList, numbers: &mut Numbers) -> Made<Head>
     ensures vars { IfOk result (λ h.
         let w = number_traversal numbers.old.next (traversal_part traversal.now).0 in
         (h.vertex ≡ w.vertex) × (h.edge ≡ w.edge) × (h.path ≡ w.path)) }
@@ -135,7 +133,7 @@ fn declare_maybe(
     ident: &Option<Ident>,
     own: &mut NameList,
     numbers: &mut Numbers,
-) -> Result<Option<Ident>, OutOfMemory>
+) -> Made<Option<Ident>>
     ensures number { IfOk result (λ x. x ≡ maybe_number numbers.old.next ident.now) }
     ensures own { OnOk result (own.new ≡ enter (option_to_list ident.now)
         (option_to_list (maybe_number numbers.old.next ident.now)) own.old) }

@@ -7,10 +7,11 @@ ghost use Rattle.aql_scope.specs.Faults.{is_among, inline};
 ghost use Rattle.aql_scope.specs.Places.{place, place_within};
 ghost use Rattle.aql_meaning.specs.Groups.{names_of};
 
+use crate::Made;
 use aql_copy::copy_ident;
 use aql_doc::Catalog;
 use aql_tree::Ident;
-use aql_value::{Names, OutOfMemory, Text};
+use aql_value::{Names, Text};
 use std::alloc::Global;
 use std::marker::Model;
 
@@ -59,20 +60,15 @@ pub struct At<'a> {
 pub fn is_same(a: &Ident, b: &Ident) -> bool
     ensures { result ≡ same_ident a.now b.now }
 {
-    match a {
-        Ident::Name(name) => match b {
-            Ident::Name(other) => name.as_str() == other.as_str(),
-            Ident::Num(_) => false,
-        },
-        Ident::Num(number) => match b {
-            Ident::Name(_) => false,
-            Ident::Num(other) => *number == *other,
-        },
+    match (a, b) {
+        (Ident::Name(a), Ident::Name(b)) => a.as_str() == b.as_str(),
+        (Ident::Num(a), Ident::Num(b)) => *a == *b,
+        _ => false,
     }
 }
 
 /// How a variable is written; nothing for a number.
-pub fn spelling(alloc: Global, ident: &Ident) -> Result<Text, OutOfMemory>
+pub fn spelling(alloc: Global, ident: &Ident) -> Made<Text>
     ensures { IfOk result (λ t. t ≡ text_of ident.now) }
 {
     match ident {
@@ -94,20 +90,8 @@ fn number_in(entries: &[(Ident, u32)], ident: &Ident) -> Option<u32>
     found
 }
 
-fn is_in(entries: &[(Ident, u32)], ident: &Ident) -> bool
-    ensures { result ≡ is_among (idents (reverse entries.now)) ident.now }
-{
-    let mut found = false;
-    for entry in entries {
-        if is_same(&entry.0, ident) {
-            found = true;
-        }
-    }
-    found
-}
-
 // The names as they are written.
-fn names_in(alloc: Global, entries: &[(Ident, u32)]) -> Result<Names, OutOfMemory>
+fn names_in(alloc: Global, entries: &[(Ident, u32)]) -> Made<Names>
     ensures { IfOk result (λ ns. ns ≡ names_of (idents entries.now)) }
 {
     let mut all = Names::new(alloc);
@@ -119,11 +103,7 @@ fn names_in(alloc: Global, entries: &[(Ident, u32)]) -> Result<Names, OutOfMemor
     Ok(all)
 }
 
-fn push_all(
-    alloc: Global,
-    items: &mut Vec<(Ident, u32)>,
-    entries: &[(Ident, u32)],
-) -> Result<(), OutOfMemory>
+fn push_all(alloc: Global, items: &mut Vec<(Ident, u32)>, entries: &[(Ident, u32)]) -> Made<()>
     ensures { OnOk result (items.new.items ≡ items.old.items ++ entries.now) }
 {
     for entry in entries {
@@ -142,7 +122,7 @@ impl NameList {
     }
 
     /// Puts a copy of a name before these.
-    pub fn enter(&mut self, alloc: Global, ident: &Ident, number: u32) -> Result<(), OutOfMemory>
+    pub fn enter(&mut self, alloc: Global, ident: &Ident, number: u32) -> Made<()>
         ensures { OnOk result (self.new ≡ (ident.now, number) ∷ self.old) }
     {
         self.items.push((copy_ident(alloc, ident)?, number))?;
@@ -157,21 +137,22 @@ impl NameList {
     }
 
     /// Whether the name is one of these.
+    #[tactic(auto, using(crate::proofs::Words::has_number))]
     pub fn has(&self, ident: &Ident) -> bool
         ensures { result ≡ is_among (idents self.now) ident.now }
     {
-        is_in(self.items.as_slice(), ident)
+        self.find(ident).is_some()
     }
 
     /// The names as they are written, the latest last.
     #[tactic(auto, using(crate::proofs::Words::idents_turned))]
-    pub fn names(&self, alloc: Global) -> Result<Names, OutOfMemory>
+    pub fn names(&self, alloc: Global) -> Made<Names>
         ensures { IfOk result (λ ns. ns ≡ names_of (reverse (idents self.now))) }
     {
         names_in(alloc, self.items.as_slice())
     }
 
-    pub fn copy(&self, alloc: Global) -> Result<NameList, OutOfMemory>
+    pub fn copy(&self, alloc: Global) -> Made<NameList>
         ensures { IfOk result (λ l. l ≡ self.now) }
     {
         let mut all = NameList::new(alloc);
@@ -180,7 +161,7 @@ impl NameList {
     }
 
     /// Puts copies of other names before these.
-    pub fn add_all(&mut self, alloc: Global, others: &NameList) -> Result<(), OutOfMemory>
+    pub fn add_all(&mut self, alloc: Global, others: &NameList) -> Made<()>
         ensures { OnOk result (self.new ≡ others.now ++ self.old) }
     {
         push_all(alloc, &mut self.items, others.items.as_slice())
@@ -199,27 +180,19 @@ impl Scope {
         }
     }
 
-    /// The names that a subquery sees of those around it.
-    pub fn visible(&self, alloc: Global) -> Result<NameList, OutOfMemory>
-        ensures { IfOk result (λ l. l ≡ self.now.own ++ self.now.outer) }
-    {
-        let mut all = NameList::new(alloc);
-        all.add_all(alloc, &self.outer)?;
-        all.add_all(alloc, &self.own)?;
-        Ok(all)
-    }
-
     /// The names at the opening of a subquery.
-    pub fn subquery(&self, alloc: Global) -> Result<Scope, OutOfMemory>
+    pub fn subquery(&self, alloc: Global) -> Made<Scope>
         ensures { IfOk result (λ s. (s.own ≡ []) × (s.outer ≡ self.now.own ++ self.now.outer)) }
     {
+        let mut outer = self.outer.copy(alloc)?;
+        outer.add_all(alloc, &self.own)?;
         Ok(Scope {
             own: NameList::new(alloc),
-            outer: self.visible(alloc)?,
+            outer,
         })
     }
 
-    pub fn copy(&self, alloc: Global) -> Result<Scope, OutOfMemory>
+    pub fn copy(&self, alloc: Global) -> Made<Scope>
         ensures { IfOk result (λ s. (s.own ≡ self.now.own) × (s.outer ≡ self.now.outer)) }
     {
         Ok(Scope {
@@ -251,10 +224,8 @@ impl<'a> At<'a> {
         ensures { place result ≡ inline (place self.now) }
     {
         At {
-            alloc: self.alloc,
-            catalog: self.catalog,
-            scope: self.scope,
             lifts: false,
+            ..*self
         }
     }
 

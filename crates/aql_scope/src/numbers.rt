@@ -3,8 +3,9 @@
 ghost use Rattle.std.specs.Prelude.{◌≡◌, [], ◌∷◌, ◌++◌, suc, IfOk, OnOk};
 ghost use Rattle.aql_lift.specs.Numbering.{text_of};
 
+use crate::Made;
 use crate::names::spelling;
-use aql_tree::Ident;
+use aql_tree::{Clauses, Ident};
 use aql_value::{Names, OutOfMemory, Text};
 use std::alloc::Global;
 
@@ -14,6 +15,14 @@ pub struct Numbers {
     pub alloc: Global,
     pub next: u32,
     pub said: Names,
+}
+
+/// What is lifted so far: the numbers of variables, and the clauses of the query at hand with the
+/// LETs of the subqueries that were taken out.
+#[derive(Drop)]
+pub struct Walk {
+    pub numbers: Numbers,
+    pub lets: Clauses,
 }
 
 impl Numbers {
@@ -31,7 +40,7 @@ impl Numbers {
 
     /// Takes the next number for a variable of this name. A query whose variables need more numbers
     /// than there are does not fit into memory.
-    pub fn take(&mut self, name: Text) -> Result<u32, OutOfMemory>
+    pub fn take(&mut self, name: Text) -> Made<u32>
         ensures number { IfOk result (λ n. n ≡ self.old.next) }
         ensures next { OnOk result (self.new.next ≡ suc self.old.next) }
         ensures said { OnOk result (self.new.said ≡ self.old.said ++ name ∷ []) }
@@ -46,7 +55,7 @@ impl Numbers {
     }
 
     /// Takes the next number for a variable that is written like this one.
-    pub fn declare(&mut self, ident: &Ident) -> Result<u32, OutOfMemory>
+    pub fn declare(&mut self, ident: &Ident) -> Made<u32>
         ensures number { IfOk result (λ n. n ≡ self.old.next) }
         ensures next { OnOk result (self.new.next ≡ suc self.old.next) }
         ensures said { OnOk result (self.new.said ≡ self.old.said ++ text_of ident.now ∷ []) }

@@ -1,11 +1,11 @@
 //! The first fault of a traversal's names and settings.
 
-ghost use Rattle.std.specs.Prelude.{◌≡◌, [], map, option_to_list, IfOk};
+ghost use Rattle.std.specs.Prelude.{◌≡◌, [], map, option_to_list};
 ghost use Rattle.aql_tree.specs.View.{tree, members, member_part, traversal_part};
 ghost use Rattle.aql_lift.specs.Numbering.{idents};
 ghost use Rattle.aql_scope.specs.Options.{no_settings};
 ghost use Rattle.aql_scope.specs.Faults as spec;
-ghost use Rattle.aql_scope.specs.Places.{place};
+ghost use Rattle.aql_scope.specs.Places.{place, Judges};
 
 use crate::checks::{Judged, new_name, option_fault};
 use crate::expr_faults::in_expr;
@@ -18,58 +18,46 @@ use std::alloc::Global;
 /// The names that a traversal declares.
 #[tactic(auto, using(crate::proofs::Words::new_append))]
 pub fn new_traversal_names(traversal: &Traversal, at: &At<'_>) -> Judged
-    ensures { IfOk result (λ f. f ≡ spec.new_names (spec.visible_variables (place at.now)) []
+    ensures { Judges result (spec.new_names (spec.visible_variables (place at.now)) []
         (spec.traversal_variables (traversal_part traversal.now).0)) }
 {
     let mut earlier = NameList::new(at.alloc);
-    if let Some(fault) = new_name(&traversal.vertex, at, &earlier)? {
-        return Ok(Some(fault));
-    }
+    new_name(&traversal.vertex, at, &earlier)?;
     earlier.enter(at.alloc, &traversal.vertex, 0)?;
-    if let Some(fault) = new_maybe(&traversal.edge, at, &earlier)? {
-        return Ok(Some(fault));
-    }
+    new_maybe(&traversal.edge, at, &earlier)?;
     earlier.enter_maybe(at.alloc, &traversal.edge)?;
     new_maybe(&traversal.path, at, &earlier)
 }
 
 // A name that a traversal may have.
 fn new_maybe(ident: &Option<Ident>, at: &At<'_>, earlier: &NameList) -> Judged
-    ensures { IfOk result (λ f. f ≡ spec.new_names (spec.visible_variables (place at.now))
+    ensures { Judges result (spec.new_names (spec.visible_variables (place at.now))
         (idents earlier.now) (option_to_list ident.now)) }
 {
     match ident {
         Some(ident) => new_name(ident, at, earlier),
-        None => Ok(None),
+        None => Ok(()),
     }
 }
 
 /// The settings of a traversal: first the parts of each, then what it shows.
 #[cycle(faults)]
 pub fn in_options(settings: &[Field], at: &At<'_>) -> Judged
-    ensures { IfOk result (λ f. f
-        ≡ spec.in_settings (place at.now) no_settings (members (map member_part settings.now))) }
+    ensures { Judges result
+        (spec.in_settings (place at.now) no_settings (members (map member_part settings.now))) }
 {
     let mut written = Written::nothing();
     for setting in settings {
         match setting {
             Field::Named { name, value } => {
-                if let Some(fault) = in_expr(value, at)? {
-                    return Ok(Some(fault));
-                }
+                in_expr(value, at)?;
                 let after = with_setting(value, name, written);
-                if let Some(fault) = setting_fault(name, &after, at.alloc)? {
-                    return Ok(Some(fault));
-                }
+                setting_fault(name, &after, at.alloc)?;
                 written = after.unwrap_or(written);
             }
             Field::Computed { name, value } => {
-                if let Some(fault) = in_expr(name, at)? {
-                    return Ok(Some(fault));
-                }
-                if let Some(fault) = in_expr(value, at)? {
-                    return Ok(Some(fault));
-                }
+                in_expr(name, at)?;
+                in_expr(value, at)?;
                 return option_fault("computed", at.alloc);
             }
         }
@@ -77,7 +65,7 @@ pub fn in_options(settings: &[Field], at: &At<'_>) -> Judged
     if !written.fits() {
         return option_fault("uniqueVertices", at.alloc);
     }
-    Ok(None)
+    Ok(())
 }
 
 // The settings with one more; nothing where it may not stand there.
@@ -92,11 +80,11 @@ fn with_setting(value: &Expr, name: &Text, written: Written) -> Option<Written>
 
 // What one setting shows.
 fn setting_fault(name: &Text, after: &Option<Written>, alloc: Global) -> Judged
-    ensures { IfOk result (λ f. f ≡ spec.setting_fault name.now after.now) }
+    ensures { Judges result (spec.setting_fault name.now after.now) }
 {
     match after {
         None => option_fault(name.as_str(), alloc),
         Some(written) if !written.agrees() => option_fault("order", alloc),
-        Some(_) => Ok(None),
+        Some(_) => Ok(()),
     }
 }

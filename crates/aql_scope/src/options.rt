@@ -22,15 +22,8 @@ fn edges_in(value: &Value) -> Option<UniqueEdges>
     ensures { result ≡ spec.edges_in (datum_of value.now) }
 {
     match value {
-        Value::Text(text) => {
-            if text.as_str() == "path" {
-                Some(UniqueEdges::Path)
-            } else if text.as_str() == "none" {
-                Some(UniqueEdges::None)
-            } else {
-                None
-            }
-        }
+        Value::Text(text) if text.as_str() == "path" => Some(UniqueEdges::Path),
+        Value::Text(text) if text.as_str() == "none" => Some(UniqueEdges::None),
         _ => None,
     }
 }
@@ -39,17 +32,9 @@ fn vertices_in(value: &Value) -> Option<UniqueVertices>
     ensures { result ≡ spec.vertices_in (datum_of value.now) }
 {
     match value {
-        Value::Text(text) => {
-            if text.as_str() == "none" {
-                Some(UniqueVertices::None)
-            } else if text.as_str() == "path" {
-                Some(UniqueVertices::Path)
-            } else if text.as_str() == "global" {
-                Some(UniqueVertices::Global)
-            } else {
-                None
-            }
-        }
+        Value::Text(text) if text.as_str() == "none" => Some(UniqueVertices::None),
+        Value::Text(text) if text.as_str() == "path" => Some(UniqueVertices::Path),
+        Value::Text(text) if text.as_str() == "global" => Some(UniqueVertices::Global),
         _ => None,
     }
 }
@@ -58,15 +43,8 @@ fn order_in(value: &Value) -> Option<bool>
     ensures { result ≡ spec.order_in (datum_of value.now) }
 {
     match value {
-        Value::Text(text) => {
-            if text.as_str() == "bfs" {
-                Some(true)
-            } else if text.as_str() == "dfs" {
-                Some(false)
-            } else {
-                None
-            }
-        }
+        Value::Text(text) if text.as_str() == "bfs" => Some(true),
+        Value::Text(text) if text.as_str() == "dfs" => Some(false),
         _ => None,
     }
 }

@@ -12,10 +12,10 @@ use crate::clause_faults::in_query;
 use crate::faults::ScopeFault;
 use crate::lift_clauses::lift_query;
 use crate::names::{At, Scope};
-use crate::numbers::Numbers;
+use crate::numbers::{Numbers, Walk};
 use aql_doc::Catalog;
 use aql_tree::Query;
-use aql_value::{Names, OutOfMemory};
+use aql_value::{Names, OutOfMemory, Seq};
 use std::alloc::Global;
 
 /// A query whose variables are numbers, from 1 on, and whose subqueries stand in LETs.
@@ -45,7 +45,13 @@ pub fn first_fault(
         scope: &Scope::nothing(alloc),
         lifts: true,
     };
-    in_query(query, &at)
+    match in_query(query, &at) {
+        Ok(()) => Ok(None),
+        Err(fault) => match &fault {
+            ScopeFault::Memory => Err(OutOfMemory),
+            _ => Ok(Some(fault)),
+        },
+    }
 }
 
 /// The query with numbers for its variables, and with each subquery that is not the whole right
@@ -56,11 +62,14 @@ pub fn lift(query: &Query, alloc: Global) -> Result<Scoped, OutOfMemory>
         (λ s. query_tree s.query ≡ (scope_query [] 1 (query_tree query.now)).tree) }
     ensures names { IfOk result (λ s. s.names ≡ (scope_query [] 1 (query_tree query.now)).said) }
 {
-    let mut numbers = Numbers::from(alloc, 1);
-    let lifted = lift_query(query, &Scope::nothing(alloc), &mut numbers)?;
+    let mut walk = Walk {
+        numbers: Numbers::from(alloc, 1),
+        lets: Seq::new(alloc),
+    };
+    let lifted = lift_query(query, &Scope::nothing(alloc), &mut walk)?;
     Ok(Scoped {
         query: lifted,
-        names: numbers.said,
+        names: walk.numbers.said,
     })
 }
 
