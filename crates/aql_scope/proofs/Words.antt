@@ -1,16 +1,18 @@
 -- Facts about the words that single names are judged in.
 use Rattle.std.proofs.Common.{◌≡◌, ◌∙◌, ℕ, ◌<◌, List, [], ◌∷◌, ◌++◌, suc, length, map, ap, Bool, true, false, cond, refl, sym, arith}
 use mathlib.Core.List.{reverse-cons}
-use Rattle.std.proofs.lemmas.List.{map-append, reverse-append}
+use Rattle.std.proofs.lemmas.List.{map-append, reverse-append, length-map}
+use Rattle.std.specs.Option.{option_or}
 use Rattle.std.specs.Prelude.{reverse, Option, Some, None, is_some, ◌||◌}
 use Rattle.aql_aggregate.specs.declared.kinds.AggregateKind.{AggregateKind}
 use Rattle.aql_aggregate.specs.declared.kinds.AggregateKind.TheVariants.{Count, Sum, Min, Max, SortedUnique, CountDistinct}
 use Rattle.aql_aggregate.specs.View.{aggregate_of}
+use Rattle.aql_tree.specs.declared.syntax.Expr.{Expr}
 use Rattle.aql_tree.specs.declared.syntax.Ident.{Ident}
 use Rattle.aql_tree.specs.declared.syntax.Ident.TheVariants.{Name}
 use Rattle.aql_tree.specs.Build.{default_options}
 use Rattle.aql_tree.specs.Tree.{ExprTree, TraversalOptions, no_members, named_then}
-use Rattle.aql_tree.specs.View.{MemberPart, named, computed, members, trees}
+use Rattle.aql_tree.specs.View.{tree, MemberPart, named, computed, members, trees}
 use Rattle.aql_meaning.specs.Options.{set_all, options_of}
 use Rattle.aql_meaning.specs.Row.{same_ident}
 use Rattle.aql_lift.specs.Numbering.{Numbering, number_of, numbered_variable, idents, variable_members}
@@ -19,26 +21,16 @@ use Rattle.aql_meaning.specs.Groups.{into_names}
 use Rattle.aql_meaning.specs.Visible.{onto}
 use Rattle.aql_scope.specs.Faults.{is_among, first, expr_count, is_counting, new_name, new_names}
 
--- a name that has no number among the first ones has that of the others
-pub number_outer : (own outer : Numbering) (x : Ident) → number_of own x ≡ None
-    → number_of (own ++ outer) x ≡ number_of outer x
-number_outer [] outer x none = refl
-number_outer (v ∷ own) outer x none = by (same_ident v.0 x) none (number_outer own outer x) where
-  by : (same : Bool) → cond same (Some v.1) (number_of own x) ≡ None
-      → (number_of own x ≡ None → number_of (own ++ outer) x ≡ number_of outer x)
-      → cond same (Some v.1) (number_of (own ++ outer) x) ≡ number_of outer x
-  by true h f = absurd (cc)
-  by false h f = f h
-
-pub number_before : (own outer : Numbering) (x : Ident) (n : ℕ) → number_of own x ≡ Some n
-    → number_of (own ++ outer) x ≡ Some n
-number_before [] outer x n found = absurd (cc)
-number_before (v ∷ own) outer x n found = by (same_ident v.0 x) found (number_before own outer x n) where
-  by : (same : Bool) → cond same (Some v.1) (number_of own x) ≡ Some n
-      → (number_of own x ≡ Some n → number_of (own ++ outer) x ≡ Some n)
-      → cond same (Some v.1) (number_of (own ++ outer) x) ≡ Some n
-  by true h f = h
-  by false h f = f h
+-- a name has its number among the first ones, or else among the others
+pub number_append : (own outer : Numbering) (x : Ident)
+    → number_of (own ++ outer) x ≡ option_or (number_of own x) (number_of outer x)
+number_append [] outer x = refl
+number_append (v ∷ own) outer x = by (same_ident v.0 x) (number_append own outer x) where
+  by : (same : Bool) → number_of (own ++ outer) x ≡ option_or (number_of own x) (number_of outer x)
+      → cond same (Some v.1) (number_of (own ++ outer) x)
+      ≡ option_or (cond same (Some v.1) (number_of own x)) (number_of outer x)
+  by true e = refl
+  by false e = e
 
 -- a name is one of these where it has a number
 pub has_number : (names : Numbering) (x : Ident) → is_some (number_of names x) ≡ is_among (idents names) x
@@ -104,6 +96,9 @@ no_counting Max not = refl
 no_counting SortedUnique not = refl
 no_counting CountDistinct not = refl
 
-pub count_trees : (ts : List ExprTree) → expr_count (trees ts) ≡ length ts
+count_trees : (ts : List ExprTree) → expr_count (trees ts) ≡ length ts
 count_trees [] = refl
 count_trees (t ∷ ts) = ap suc (count_trees ts)
+
+pub count_args : (args : List Expr) → expr_count (trees (map tree args)) ≡ length args
+count_args args = count_trees (map tree args) ∙ length-map args tree

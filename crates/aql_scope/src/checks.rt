@@ -1,10 +1,10 @@
 //! The faults of single names, calls and settings.
 
-ghost use Rattle.std.specs.Prelude.{◌≡◌, ◌++◌, ◌∷◌, [], suc, length, map, option_map, is_some, nat_le, codes};
+ghost use Rattle.std.specs.Prelude.{◌≡◌, option_map};
 ghost use Rattle.aql_func.specs.Names.{function_named};
 ghost use Rattle.aql_func.specs.Aggregates.{aggregate_named};
 ghost use Rattle.aql_aggregate.specs.View.{aggregate_of};
-ghost use Rattle.aql_tree.specs.View.{tree, trees, maybe};
+ghost use Rattle.aql_tree.specs.View.{tree, maybe};
 ghost use Rattle.aql_lift.specs.Numbering.{idents, text_of};
 ghost use Rattle.aql_doc.specs.Declarations.{place_of};
 ghost use Rattle.aql_scope.specs.declared.faults.ScopeFault.TheVariants.{BadOption};
@@ -105,15 +105,8 @@ fn edge_fault(name: &Text, alloc: Global, catalog: &Catalog) -> Judged
     }
 }
 
-/// A call with these arguments, at the function's name.
-pub fn call_fault(args: &[Expr], name: &Text, alloc: Global) -> Judged
-    ensures { Judges result (spec.call_fault (function_named name.now) name.now
-        (spec.expr_count (trees (map tree args.now)))) }
-{
-    arity_fault(args.len(), name, alloc)
-}
-
-fn arity_fault(given: usize, name: &Text, alloc: Global) -> Judged
+/// A call with this number of arguments, at the function's name.
+pub fn call_fault(given: usize, name: &Text, alloc: Global) -> Judged
     ensures { Judges result (spec.call_fault (function_named name.now) name.now given) }
 {
     let Some(function) = lookup(name.as_str()) else {

@@ -54,11 +54,12 @@ pub fn in_expr(expr: &Expr, at: &At<'_>) -> Judged
 
 // A call is judged at the function's name, before its arguments.
 #[cycle(faults)]
+#[tactic(auto, using(crate::proofs::Words::count_args))]
 fn in_call(args: &[Expr], name: &Text, at: &At<'_>) -> Judged
     ensures { Judges result
         (spec.in_expr (place at.now) (function_call name.now (trees (map tree args.now)))) }
 {
-    call_fault(args, name, at.alloc)?;
+    call_fault(args.len(), name, at.alloc)?;
     in_exprs(args, at)
 }
 

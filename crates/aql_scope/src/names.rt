@@ -201,14 +201,11 @@ impl Scope {
         })
     }
 
-    #[tactic(auto, using(crate::proofs::Words::number_before, crate::proofs::Words::number_outer))]
+    #[tactic(auto, using(crate::proofs::Words::number_append))]
     pub fn find(&self, ident: &Ident) -> Option<u32>
         ensures { result ≡ number_of (self.now.own ++ self.now.outer) ident.now }
     {
-        match self.own.find(ident) {
-            Some(number) => Some(number),
-            None => self.outer.find(ident),
-        }
+        self.own.find(ident).or(self.outer.find(ident))
     }
 
     pub fn sees(&self, ident: &Ident) -> bool
