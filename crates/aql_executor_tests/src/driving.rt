@@ -70,8 +70,22 @@ fn answer<W: Place, X: Executor<W>>(
     Ok(None)
 }
 
-// The values of a variable in all rows that an executor gives, in steps of at most `batch`, where
-// so many are skipped first.
+// What an executor gave: the values of a variable in all rows, and what was counted.
+#[derive(Drop)]
+pub struct Ran {
+    pub values: Items,
+    pub tally: Tally,
+}
+
+// The start row: 8 under the variable 1.
+fn start(alloc: Global) -> Result<Row, OutOfMemory> {
+    let mut row = Row::new(alloc);
+    row.set(1, Value::Num(8))?;
+    Ok(row)
+}
+
+// Takes all rows that an executor gives, in steps of at most `batch`, where so many are skipped
+// first.
 pub fn run<W: Place, X: Executor<W>>(
     alloc: Global,
     x: &mut X,
@@ -80,7 +94,7 @@ pub fn run<W: Place, X: Executor<W>>(
     offset: u64,
     batch: u64,
     var: u32,
-) -> Result<Items, OutOfMemory>
+) -> Result<Ran, OutOfMemory>
     requires node { IsOperator (W.stock world.old).facts (X.node x.old) }
     requires batch { (1 ≤ batch) × (batch ≤ 10000) }
 {
@@ -88,7 +102,7 @@ pub fn run<W: Place, X: Executor<W>>(
     let mut tally = Tally::new();
     let mut values = Items::new(alloc);
     let mut offset = offset;
-    x.begin(alloc, &Row::new(alloc))?;
+    x.begin(alloc, &start(alloc)?)?;
     for _call in 0..MANY {
         let call = Call {
             offset,
@@ -96,7 +110,7 @@ pub fn run<W: Place, X: Executor<W>>(
             hard: u64::MAX,
         };
         let Some(step) = answer(alloc, x, below, &mut body, world, call, &mut tally)? else {
-            return Ok(values);
+            return Ok(Ran { values, tally });
         };
         let Step {
             skipped,
@@ -106,8 +120,8 @@ pub fn run<W: Place, X: Executor<W>>(
         offset -= skipped;
         add_values(block, var, &mut values)?;
         if matches!(progress, Progress::Done) {
-            return Ok(values);
+            return Ok(Ran { values, tally });
         }
     }
-    Ok(values)
+    Ok(Ran { values, tally })
 }

@@ -4,11 +4,17 @@
 #[cfg(test)]
 mod driving;
 #[cfg(test)]
+mod leaves;
+#[cfg(test)]
 mod lists;
 #[cfg(test)]
 mod memory;
 #[cfg(test)]
 mod rows;
+#[cfg(test)]
+mod scans;
+#[cfg(test)]
+mod shelves;
 #[cfg(test)]
 mod sorts;
 #[cfg(test)]

@@ -35,7 +35,8 @@ pub fn gives(
     let mut each = each(alloc)?;
     let mut below = Source::new(1, numbers(alloc, input)?, waits);
     let mut world = Still::new(alloc);
-    run(alloc, &mut each, &mut below, &mut world, offset, batch, 2)
+    let ran = run(alloc, &mut each, &mut below, &mut world, offset, batch, 2)?;
+    Ok(ran.values)
 }
 
 static CASES: [(&[i64], u64, &str); 5] = [

@@ -3,7 +3,8 @@
 ghost use Rattle.std.specs.Prelude.{◌≡◌, ◌<◌, ◌^◌, length, IfOk};
 ghost use Rattle.aql_block.specs.Tables.{rows_of};
 
-use aql_block::Block;
+use crate::driving::Ran;
+use aql_block::{Block, Tally};
 use aql_value::{Items, OutOfMemory, Value, write_json};
 use std::alloc::Global;
 use std::process::Abort;
@@ -42,6 +43,26 @@ pub fn is_json(alloc: Global, values: Result<Items, OutOfMemory>, want: &str) ->
         Ok(()) => text.as_slice() == want.as_bytes(),
         Err(_) => false,
     }
+}
+
+// Whether the values are those of this JSON text, where so many documents were read and so many
+// rows dropped.
+pub fn is_counted(
+    alloc: Global,
+    ran: Result<Ran, OutOfMemory>,
+    want: &str,
+    read: u64,
+    dropped: u64,
+) -> bool {
+    let Ok(Ran { values, tally }) = ran else {
+        return false;
+    };
+    let counts = Tally {
+        scanned_full: read,
+        scanned_index: 0,
+        filtered: dropped,
+    };
+    tally == counts && is_json(alloc, Ok(values), want)
 }
 
 // Whether memory ran out, or the values are those of this JSON text.

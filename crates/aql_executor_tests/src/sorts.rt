@@ -53,7 +53,8 @@ pub fn gives(alloc: Global, case: &Case, batch: u64, waits: bool) -> Result<Item
     let mut sort = sort(alloc, descending, limit)?;
     let mut below = Source::new(1, numbers(alloc, input)?, waits);
     let mut world = Still::new(alloc);
-    run(alloc, &mut sort, &mut below, &mut world, offset, batch, 1)
+    let ran = run(alloc, &mut sort, &mut below, &mut world, offset, batch, 1)?;
+    Ok(ran.values)
 }
 
 #[test]

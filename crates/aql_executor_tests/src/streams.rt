@@ -4,8 +4,8 @@ ghost use Rattle.std.specs.Prelude.{◌≤◌};
 ghost use Rattle.aql_plan.specs.declared.facts.Facts.{Facts};
 ghost use Rattle.aql_exec.specs.Operators.{IsOperator};
 
-use crate::driving::run;
-use crate::rows::{expect, is_json, numbers};
+use crate::driving::{Ran, run};
+use crate::rows::{expect, is_counted, is_json, numbers};
 use crate::sources::{Source, Still};
 use aql_exec::{
     Calculation, Executor, Filter, FirstResults, Keep, Let, Limit, Mapped, Results, Return,
@@ -52,7 +52,25 @@ fn distinct(alloc: Global, var: u32) -> ReturnDistinct
     Stream::new(FirstResults::new(alloc, Expr::Var(Ident::Num(var))))
 }
 
-// What an executor gives of these rows of the variable 1.
+// Runs an executor over these rows of the variable 1.
+fn ran<X: Executor<Still>>(
+    alloc: Global,
+    x: &mut X,
+    var: u32,
+    input: &[i64],
+    offset: u64,
+    batch: u64,
+    waits: bool,
+) -> Result<Ran, OutOfMemory>
+    requires node { (facts : Facts) → IsOperator facts (X.node x.old) }
+    requires batch { (1 ≤ batch) × (batch ≤ 10000) }
+{
+    let mut below = Source::new(1, numbers(alloc, input)?, waits);
+    let mut world = Still::new(alloc);
+    run(alloc, x, &mut below, &mut world, offset, batch, var)
+}
+
+// What it gives.
 fn given<X: Executor<Still>>(
     alloc: Global,
     x: &mut X,
@@ -65,9 +83,7 @@ fn given<X: Executor<Still>>(
     requires node { (facts : Facts) → IsOperator facts (X.node x.old) }
     requires batch { (1 ≤ batch) × (batch ≤ 10000) }
 {
-    let mut below = Source::new(1, numbers(alloc, input)?, waits);
-    let mut world = Still::new(alloc);
-    run(alloc, x, &mut below, &mut world, offset, batch, var)
+    Ok(ran(alloc, x, var, input, offset, batch, waits)?.values)
 }
 
 const INPUT: [i64; 6] = [0, 3, 0, 5, 7, 0];
@@ -110,14 +126,15 @@ pub fn first_results(alloc: Global, batch: u64) -> Result<Items, OutOfMemory>
     given(alloc, &mut distinct(alloc, 1), 0, &INPUT, 0, batch, false)
 }
 
+// The three rows that are dropped are counted, whatever is skipped.
 #[test]
 fn filtered(rt: HostRuntime) {
     let alloc = rt.alloc();
     for (offset, want) in [(0, "[3,5,7]"), (2, "[7]"), (3, "[]"), (9, "[]")] {
         for batch in [1, 2, 3, 1000] {
             for waits in [false, true] {
-                let values = given(alloc, &mut filter(alloc), 1, &INPUT, offset, batch, waits);
-                expect(&rt, is_json(alloc, values, want), want, batch);
+                let ran = ran(alloc, &mut filter(alloc), 1, &INPUT, offset, batch, waits);
+                expect(&rt, is_counted(alloc, ran, want, 0, 3), want, batch);
             }
         }
     }

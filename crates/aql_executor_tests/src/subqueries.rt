@@ -21,7 +21,7 @@ pub fn gives(
     let mut subquery = Subquery::new(alloc, 9);
     let mut below = Source::new(1, numbers(alloc, input)?, waits);
     let mut world = Still::new(alloc);
-    run(
+    let ran = run(
         alloc,
         &mut subquery,
         &mut below,
@@ -29,7 +29,8 @@ pub fn gives(
         offset,
         batch,
         9,
-    )
+    )?;
+    Ok(ran.values)
 }
 
 static CASES: [(&[i64], u64, &str); 5] = [
