@@ -1,7 +1,6 @@
 -- A world with one collection.
 use Rattle.std.specs.Prelude.{List, [], ◌∷◌, false}
 use Rattle.aql_value.specs.Datum.{Datum}
-use Rattle.aql_value.specs.Database.{Collection}
 use Rattle.aql_plan.specs.declared.facts.Facts.{Facts}
 use Rattle.aql_plan.specs.Runs.{World}
 

@@ -1,5 +1,4 @@
 use Rattle.std.proofs.Common.{◌≡◌}
-use Rattle.aql_exec.specs.Operators.{IsOperator}
 use Rattle.aql_executor_tests.proofs.driving.answer.Given as goal
 
 abbrev pub invariant-loop-turn : goal.invariant-loop-turn

@@ -1,5 +1,4 @@
 use Rattle.std.proofs.Common.{◌≡◌}
-use Rattle.aql_block.specs.declared.calls.Call.{Call}
 use Rattle.aql_executor_tests.proofs.driving.run.Given as goal
 
 abbrev pub invariant-loop-call : goal.invariant-loop-call
