@@ -1,2 +1,3 @@
 pub mod NotFalse
+pub mod Nowhere
 pub mod Sample

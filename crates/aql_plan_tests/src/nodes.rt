@@ -30,6 +30,8 @@ fn last(alloc: Global, of: u8) -> Result<Last, OutOfMemory> {
     match of {
         b'o' => Ok(Last::OneOf(expr(alloc, b'_')?)),
         b't' => Ok(Last::OneOf(expr(alloc, b't')?)),
+        b'q' => Ok(Last::OneOf(expr(alloc, b's')?)),
+        b'v' => Ok(Last::OneOf(expr(alloc, b'2')?)),
         b'r' => Ok(Last::Range {
             low: Some(Edge {
                 expr: expr(alloc, b'_')?,
@@ -48,24 +50,26 @@ fn last(alloc: Global, of: u8) -> Result<Last, OutOfMemory> {
     }
 }
 
-// I: variable, collection, shard, index, equalities, last bound, order, kept attribute.
-fn by_index(alloc: Global, below: Boxed, fields: &[u8; 8]) -> Made {
-    let [var, coll, shard, index, equal, bound, order, kept] = *fields;
-    let mut equalities: &[u8] = b"";
-    if equal == b'1' {
-        equalities = b"_";
+// The expressions of the equalities: one, two or three, one with a subquery, or one of variable 2.
+fn equalities(of: u8) -> &'static [u8] {
+    match of {
+        b'1' => b"_",
+        b'2' => b"__",
+        b'3' => b"___",
+        b's' => b"s",
+        b'v' => b"2",
+        _ => b"",
     }
-    if equal == b'2' {
-        equalities = b"__";
-    }
-    if equal == b'3' {
-        equalities = b"___";
-    }
+}
+
+// I: variable, collection, shard, index, equalities, last bound, order, kept attribute, filter.
+fn by_index(alloc: Global, below: Boxed, fields: &[u8; 9]) -> Made {
+    let [var, coll, shard, index, equal, bound, order, kept, filter] = *fields;
     Ok(Plan::Index {
         below,
         var: number(var),
         coll: CollNo(number(coll)),
-        filter: None,
+        filter: maybe_expr(alloc, filter)?,
         attrs: match kept {
             b'-' => None,
             b'a' => Some(names(alloc, b"a")?),
@@ -73,7 +77,7 @@ fn by_index(alloc: Global, below: Boxed, fields: &[u8; 8]) -> Made {
         },
         shard: maybe_number(shard),
         index: number(index),
-        equal: exprs(alloc, equalities)?,
+        equal: exprs(alloc, equalities(equal))?,
         last: last(alloc, bound)?,
         ordered: match order {
             b'a' => Some(false),
@@ -205,7 +209,10 @@ pub fn node(alloc: Global, word: &[u8], below: Plan) -> Made {
     match word {
         [b'E', a, b, c, d] => scan(alloc, below, &[*a, *b, *c, *d]),
         [b'I', a, b, c, d, e, f, g, h] => {
-            by_index(alloc, below, &[*a, *b, *c, *d, *e, *f, *g, *h])
+            by_index(alloc, below, &[*a, *b, *c, *d, *e, *f, *g, *h, b'-'])
+        }
+        [b'I', a, b, c, d, e, f, g, h, i] => {
+            by_index(alloc, below, &[*a, *b, *c, *d, *e, *f, *g, *h, *i])
         }
         [b'T', a, b, c, d, e, f, g, h, i] => {
             traversal(alloc, below, &[*a, *b, *c, *d, *e, *f, *g, *h, *i])

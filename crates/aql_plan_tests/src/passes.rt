@@ -1,4 +1,4 @@
-// A pass over a plan with a body, worked out by hand.
+// Passes over a plan with a body, worked out by hand.
 ghost use Rattle.std.specs.Prelude.{◌≡◌, [], false, IfOk};
 ghost use Rattle.aql_tree.specs.View.{tree};
 ghost use Rattle.aql_plan.specs.Plan.{Over, Singleton, Filter};
@@ -8,12 +8,12 @@ ghost use Rattle.aql_plan_tests.specs.Sample.{two_of as spec_two_of, sample as s
 ghost use Rattle.aql_plan_tests.specs.Sample.{sample_body as spec_sample_body};
 
 use crate::pages::{Page, expect_page};
-use crate::rules::{Never, NotFalse};
+use crate::rules::{Never, NotFalse, Nowhere};
 use aql_func::UnaryOp;
 use aql_plan::{CollFacts, Facts, Passed, Plan};
 use aql_rewrite_expr::ExprRule;
 use aql_rewrite_node_exprs::run_expr_pass;
-use aql_rewrite_plan::node_exprs;
+use aql_rewrite_plan::{first_place, node_exprs, run_pass};
 use aql_test_support::{Notation, write_expr};
 use aql_tree::Expr;
 use aql_value::{OutOfMemory, Seq, Value};
@@ -134,6 +134,30 @@ fn expect_rewritten<R: ExprRule>(rt: &impl Abort, alloc: Global, rule: &R, want:
     expect_page(rt, &page, want, "a rule over a plan");
 }
 
+// The sample after a rule on plans was applied at its first place, if there is one, and after its
+// pass.
+#[tactic(auto, using(crate::specs::Sample::whole_of))]
+fn write_step(alloc: Global, rule: &Nowhere, page: &mut Page) {
+    match sample(alloc) {
+        Ok(plan) => {
+            let facts = no_facts(alloc);
+            write_passed(alloc, first_place(alloc, rule, plan, &facts), page);
+        }
+        Err(_) => page.put("no memory"),
+    }
+}
+
+#[tactic(auto, using(crate::specs::Sample::whole_of))]
+fn write_pass(alloc: Global, rule: &Nowhere, page: &mut Page) {
+    match sample(alloc) {
+        Ok(plan) => {
+            let facts = no_facts(alloc);
+            write_passed(alloc, run_pass(alloc, rule, plan, &facts), page);
+        }
+        Err(_) => page.put("no memory"),
+    }
+}
+
 static OLD: &str =
     "unchanged || (Not false)| (|| (Not false)| (Not false))| [ (Not false) (Not false) ]";
 
@@ -144,4 +168,15 @@ fn rule_over_plan(rt: HostRuntime) {
     let alloc = rt.alloc();
     expect_rewritten(&rt, alloc, &Never {}, OLD);
     expect_rewritten(&rt, alloc, &NotFalse {}, NEW);
+}
+
+#[test]
+fn rule_without_place(rt: HostRuntime) {
+    let alloc = rt.alloc();
+    let mut step = Page::new(alloc);
+    write_step(alloc, &Nowhere {}, &mut step);
+    expect_page(&rt, &step, OLD, "a step of a rule without a place");
+    let mut pass = Page::new(alloc);
+    write_pass(alloc, &Nowhere {}, &mut pass);
+    expect_page(&rt, &pass, OLD, "a pass of a rule without a place");
 }

@@ -1,9 +1,11 @@
-// Two rules on expressions.
+// Two rules on expressions, and one on plans.
 ghost use Rattle.std.specs.Prelude.{◌≡◌, refl};
 ghost use Rattle.aql_plan_tests.specs.NotFalse.{IsTurned, turned_falls, turned_keeps};
 
 use aql_func::UnaryOp;
+use aql_plan::{Facts, Plan, Uses};
 use aql_rewrite_expr::ExprRule;
+use aql_rewrite_plan::{Rule, Swap};
 use aql_tree::Expr;
 use aql_value::{OutOfMemory, Value};
 use std::alloc::Global;
@@ -47,4 +49,35 @@ impl ExprRule for Never {
     ghost keeps = { λ x p q h. absurd h };
 
     ghost falls = { λ x p q h. absurd h };
+}
+
+// The same on plans.
+#[derive(Drop)]
+pub struct Nowhere {}
+
+impl Rule for Nowhere {
+    ghost use Rattle.std.specs.Prelude.{false};
+    ghost use Rattle.aql_plan_tests.specs.Nowhere.{Nothing, no_first};
+
+    ghost rewrites = { λ _ _. Nothing };
+
+    ghost fragments = { λ _. false };
+
+    ghost measure = { λ _ _. 0 };
+
+    fn at(
+        &self,
+        alloc: Global,
+        part: &Plan,
+        above: &[Uses],
+        facts: &Facts,
+    ) -> Result<Option<Swap>, OutOfMemory> {
+        Ok(None)
+    }
+
+    ghost refines = { λ _ _ _ _ _ _ _ _ _ h. absurd h };
+
+    ghost keeps = { λ _ _ _ _ _ _ _ _ _ h. absurd h };
+
+    ghost falls = { λ _ _ _ _ _ _ h. absurd (no_first h) };
 }

@@ -18,7 +18,7 @@ fn expect_rows(rt: &impl Abort, alloc: Global, rows: &[Row]) -> Result<(), Fail>
 }
 
 // Outside fragments.
-static OUTSIDE: [(&str, &str); 10] = [
+static OUTSIDE: [(&str, &str); 13] = [
     // a Return is at the top, and nowhere else
     ("E10--", "E10-- R1-"),
     ("R_- R_-", "R_-"),
@@ -28,7 +28,10 @@ static OUTSIDE: [(&str, &str); 10] = [
     ("I10000--- R1-", "I10-00--- R1-"),
     // an index in its order stands over a single row
     ("L1_ I20-00-a- R2-", "C1_ I20-00-a- R2-"),
-    // nothing comes over a link
+    ("F_ I10-00-a- R1-", "Q2_ I10-00-a- R1-"),
+    // no fragment begins without an end, and nothing comes over a link
+    ("E10-- A0- R1-", "E10-- R1-"),
+    ("E10-- D0_ R1-", "E10-- R1-"),
     ("E10-- > R1-", "E10-- R1-"),
     ("E10-- Ga R1-", "E10-- R1-"),
     // a body has a result
@@ -38,7 +41,7 @@ static OUTSIDE: [(&str, &str); 10] = [
 ];
 
 // Fragments.
-static FRAGMENTS: [(&str, &str); 15] = [
+static FRAGMENTS: [(&str, &str); 20] = [
     // the lowest node reads the collection of its foot, without a shard of its own
     ("A0- > E11-- > Ga R1-", "A0- > E10-- > Ga R1-"),
     ("A0- > E100- > Ga R1-", "D0_ > E10-- > Ga R1-"),
@@ -47,6 +50,14 @@ static FRAGMENTS: [(&str, &str); 15] = [
     ("L1_ A0- > I20-00-a- > Ga R2-", "A0- > I20-00-a- > Ga R2-"),
     // the others that read have one
     ("A0- > E10-- E20-- > Ga R1-", "A0- > E10-- E201- > Ga R1-"),
+    (
+        "A0- > E10-- I20-00--- > Ga R1-",
+        "A0- > E10-- I20100--- > Ga R1-",
+    ),
+    (
+        "A0- > E10-- I20100-a- > Ga R1-",
+        "A0- > E10-- I20100--- > Ga R1-",
+    ),
     // links at both ends, and a Gather
     ("A0- E10-- > Ga R1-", "A0- > E10-- > Ga R1-"),
     ("A0- > E10-- Ga R1-", "A0- > E10-- > Ga R1-"),
@@ -56,6 +67,12 @@ static FRAGMENTS: [(&str, &str); 15] = [
     ("A0- > E10-- M01 > Ga R1-", "A0- > E10-- > Ga M01 R1-"),
     ("A0- > E10-- L2_ > Ga R1-", "A0- > E10-- > Ga L2_ R1-"),
     ("A0- > E10-- Q2_ > Ga R1-", "A0- > E10-- C2_ > Ga R1-"),
+    (
+        "A0- > E10-- T2--11_1-- > Ga R1-",
+        "A0- > E10-- > Ga T2--11_1-- R1-",
+    ),
+    ("A0- > E10-- N > Ga R1-", "A0- > E10-- > Ga N R1-"),
+    ("A0- > E10-- R1- > Ga R1-", "A0- > E10-- > Ga R1-"),
     (
         "A0- > E10-- Kw21----- > Ga R2-",
         "A0- > E10-- > Ga Kw21----- R2-",
@@ -67,7 +84,7 @@ static FRAGMENTS: [(&str, &str); 15] = [
 ];
 
 // Gathers with keys, and Collects in two stages.
-static MERGES: [(&str, &str); 15] = [
+static MERGES: [(&str, &str); 19] = [
     ("A0- > E10-- > Ga1 R1-", "A0- > E10-- Sa1 > Ga1 R1-"),
     ("A0- > E10-- Saa > Gab R1-", "A0- > E10-- Saa > Gaa R1-"),
     ("A0- > E10-- Saa > Gda R1-", "A0- > E10-- Sda > Gda R1-"),
@@ -107,20 +124,52 @@ static MERGES: [(&str, &str); 15] = [
         "A0- > E10-- > Ga Kw21---4_ R2-",
     ),
     (
+        "A0- > E10-- Kp21----- > Ga Kf21---4_ R2-",
+        "A0- > E10-- Kp21----- > Ga Kf21----- R2-",
+    ),
+    (
         "A0- > E10-- Kp21----- > Ga2 Kf21----- R2-",
+        "A0- > E10-- Kp21----- > Ga Kf21----- R2-",
+    ),
+    (
+        "A0- > E10-- Kp21----- F_ > Ga Kf21----- R2-",
+        "A0- > E10-- F_ Kp21----- > Ga Kf21----- R2-",
+    ),
+    (
+        "A0- > E10-- Kp21----- > Ga F_ Kf21----- R2-",
+        "A0- > E10-- Kp21----- > Ga Kf21----- F_ R2-",
+    ),
+    (
+        "A0- > E10-- Kp21----- > Ga Kw21----- R2-",
         "A0- > E10-- Kp21----- > Ga Kf21----- R2-",
     ),
 ];
 
 // What each node needs by itself.
-static NODES: [(&str, &str); 19] = [
+static NODES: [(&str, &str); 13] = [
     ("E12-- R1-", "E11-- R1-"),
     ("A0- > E10-- E202- > Ga R1-", "A0- > E10-- E201- > Ga R1-"),
     ("A02 > E10-- > Ga R1-", "A01 > E10-- > Ga R1-"),
     ("A2- > E12-- > Ga R1-", "A1- > E11-- > Ga R1-"),
+    ("D2_ > E12-- > Ga R1-", "D1_ > E11-- > Ga R1-"),
     ("D0 > E10-- > Ga R1-", "D0_ > E10-- > Ga R1-"),
     ("D0__ > E10-- > Ga R1-", "D0_ > E10-- > Ga R1-"),
+    ("T1--11_0-- R1-", "T1--11_1-- R1-"),
+    ("T1--11_2-- R1-", "T1--11_1-- R1-"),
+    ("T1--21_1-- R1-", "T1--12_1-- R1-"),
+    ("M1h R_-", "M0h R_-"),
+    ("Kw--2x_-- R2-", "Kw--2s_-- R2-"),
+    ("Kw--2s--- R2-", "Kw--2l--- R2-"),
+];
+
+// The same of an index, with its subqueries and what it uses.
+static INDEXES: [(&str, &str); 16] = [
+    ("I12-00--- R1-", "I10-00--- R1-"),
     ("I10-30--- R1-", "I10-00--- R1-"),
+    (
+        "A0- > E10-- I20200--- > Ga R1-",
+        "A0- > E10-- I20100--- > Ga R1-",
+    ),
     ("I10-03--- R1-", "I10-02--- R1-"),
     ("I10-02o-- R1-", "I10-01o-- R1-"),
     ("I10-02r-- R1-", "I10-01r-- R1-"),
@@ -128,11 +177,12 @@ static NODES: [(&str, &str); 19] = [
     ("I10-10r-- R1-", "I10-10o-- R1-"),
     ("I10-11-a- R1-", "I10-21--- R1-"),
     ("I10-00-aa R1-", "I10-00-ak R1-"),
-    ("T1--11_0-- R1-", "T1--11_1-- R1-"),
-    ("T1--21_1-- R1-", "T1--12_1-- R1-"),
-    ("M1h R_-", "M0h R_-"),
-    ("Kw--2x_-- R2-", "Kw--2s_-- R2-"),
-    ("Kw--2s--- R2-", "Kw--2l--- R2-"),
+    ("I10-0s--- R1-", "I10-01--- R1-"),
+    ("I10-00q-- R1-", "I10-00o-- R1-"),
+    ("I10-00---s R1-", "I10-00---_ R1-"),
+    ("I10-0v--- R1-", "C2_ I10-0v--- R1-"),
+    ("I10-00v-- R1-", "C2_ I10-00v-- R1-"),
+    ("I10-00---2 R1-", "I10-00---1 R1-"),
 ];
 
 // No expression holds a subquery, and INTO has its expression.
@@ -156,7 +206,7 @@ static EXPRESSIONS: [(&str, &str); 16] = [
 ];
 
 // Each variable that is used is there.
-static USES: [(&str, &str); 17] = [
+static USES: [(&str, &str); 18] = [
     ("R1-", "C1_ R1-"),
     ("Rn-", "R_-"),
     ("F1 C1_ R1-", "C1_ F1 R1-"),
@@ -173,17 +223,24 @@ static USES: [(&str, &str); 17] = [
     ("C1_ Kw2_----- R1-", "C1_ Kw2_----- R2-"),
     ("Q12 R1-", "C2_ Q12 R1-"),
     ("Q11 R1-", "C2_ Q12 R1-"),
+    ("Q2d R1-", "Q2d R2-"),
     ("D01 > E10-- > Ga R1-", "C2_ D02 > E10-- > Ga R1-"),
 ];
 
 // None is set twice, and all are numbers from 1 on.
-static SETS: [(&str, &str); 9] = [
+static SETS: [(&str, &str); 15] = [
     ("C1_ C1_ R1-", "C1_ C2_ R1-"),
     ("C1_ Q1_ R1-", "C1_ Q2_ R1-"),
+    ("C1_ Q2d R2-", "C3_ Q2d R2-"),
     ("T11-11_1-- R1-", "T12-11_1-- R1-"),
     ("T1-111_1-- R1-", "T1-211_1-- R1-"),
     ("Kw1_1s_-- R1-", "Kw1_2s_-- R1-"),
     ("C0_ R_-", "C1_ R_-"),
+    ("E00-- R_-", "E10-- R_-"),
+    ("I00-00--- R_-", "I10-00--- R_-"),
+    ("L0_ R_-", "L1_ R_-"),
+    ("Q0_ R_-", "Q1_ R_-"),
+    ("T0--11_1-- R_-", "T1--11_1-- R_-"),
     ("Kwn_----- R_-", "Kw1_----- R_-"),
     ("Kw--ns_-- R_-", "Kw--1s_-- R_-"),
     ("Kw-----n_ R_-", "Kw-----1_ R_-"),
@@ -207,6 +264,11 @@ fn merges(rt: HostRuntime) -> Result<(), Fail> {
 #[test]
 fn nodes(rt: HostRuntime) -> Result<(), Fail> {
     expect_rows(&rt, rt.alloc(), &NODES)
+}
+
+#[test]
+fn indexes(rt: HostRuntime) -> Result<(), Fail> {
+    expect_rows(&rt, rt.alloc(), &INDEXES)
 }
 
 #[test]
