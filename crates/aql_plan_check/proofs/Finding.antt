@@ -1,14 +1,10 @@
 -- Whether what a plan uses is there depends only on which variables there are; steps of the walk.
-use Rattle.std.proofs.Common.{◌≡◌, ◌∙◌, ap, sym, refl, subst, ℕ, ◌+◌, List, [], ◌∷◌, ◌++◌, length, take, Bool, true, false, true≢false, cond, append_assoc}
+use Rattle.std.proofs.Common.{◌≡◌, ◌∙◌, ap, sym, refl, subst, ℕ, List, [], ◌∷◌, ◌++◌, length, take, Bool, true, false, true≢false, cond, append_assoc}
 use Rattle.std.specs.Prelude.{◌&&◌, ◌↔◌, IsTrue}
-use Rattle.std.specs.List.{list_any}
-use Rattle.std.proofs.lemmas.List.Folds.{list_any-append}
 use Rattle.aql_tree.specs.declared.syntax.Ident.{Ident}
 use Rattle.aql_tree.specs.Tree.{ExprTree}
-use Rattle.aql_meaning.specs.Row.{same_ident}
 use Rattle.aql_meaning.specs.Uses.{Uses, used_variable, uses}
-use Rattle.aql_meaning.specs.declared.grouping.Stage.{Stage}
-use Rattle.aql_plan.specs.Plan.{Plan, Singleton, Over, Node, EnumerateCollection, Index, EnumerateList, Traversal, Calculation, Subquery, Filter, Sort, Limit, Collect, Return, NoResults, Scatter, Distribute, Remote, Gather}
+use Rattle.aql_plan.specs.Plan.{Plan, Singleton, Over, Node, EnumerateCollection, Index, EnumerateList, Traversal, Calculation, Subquery, Collect, Return}
 use Rattle.aql_plan.specs.Needs.{sets}
 use Rattle.aql_plan.specs.Variables.{input_uses, filter_uses, vars_of, are_among, FindsAll, FindsInside}
 use Rattle.aql_plan_check.specs.Rows.{variables, Same, Adds, Grows, Finds, GivesRows, RowsNumbered, is_collect}

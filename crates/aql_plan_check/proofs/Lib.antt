@@ -1,9 +1,7 @@
-mod Shaping
 mod SameVariables
 mod Finding
 mod Numbered
 mod Whole
-mod Collected
 mod Tests
 mod UsesFound
-mod Lists
+mod Distinct

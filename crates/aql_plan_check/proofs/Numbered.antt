@@ -1,18 +1,18 @@
 -- A plan that has a shape, and sets numbers from 1 on, sets numbers in all its nodes.
-use Rattle.std.proofs.Common.{◌≡◌, ◌∙◌, ap, sym, refl, subst, ℕ, suc, List, [], ◌∷◌, ◌++◌, Bool, true, false}
-use Rattle.std.specs.Prelude.{Option, Some, None, option_to_list}
+use Rattle.std.proofs.Common.{◌≡◌, ap, refl, subst, ℕ, suc, List, [], ◌∷◌, ◌++◌}
+use Rattle.std.specs.Prelude.{Some, None}
 use Rattle.std.specs.List.{AllByRecursion}
 use Rattle.aql_tree.specs.declared.syntax.Ident.{Ident}
 use Rattle.aql_tree.specs.declared.syntax.Ident.TheVariants.{Name, Num}
-use Rattle.aql_tree.specs.Tree.{ExprTrees, AggregateTrees, no_into}
+use Rattle.aql_tree.specs.Tree.{no_into}
 use Rattle.aql_meaning.specs.Numbered.{IsNumber}
-use Rattle.aql_meaning.specs.Visible.{aggregate_vars, into_var}
+use Rattle.aql_meaning.specs.Visible.{aggregate_vars}
 use Rattle.aql_meaning.specs.declared.grouping.Stage.TheVariants as stage
 use Rattle.aql_plan.specs.declared.facts.Facts.{Facts}
-use Rattle.aql_plan.specs.Plan.{Reading, Plan, Singleton, Over, Node, EnumerateCollection, Index, EnumerateList, Traversal, Calculation, Subquery, Filter, Sort, Limit, Collect, Return, NoResults, Scatter, Distribute, Remote, Gather}
+use Rattle.aql_plan.specs.Plan.{Plan, Over, Node, EnumerateCollection, Index, EnumerateList, Traversal, Calculation, Subquery, Filter, Sort, Limit, Collect, NoResults, Remote}
 use Rattle.aql_plan.specs.Needs.{sets}
 use Rattle.aql_plan.specs.Variables.{vars_set, set_once, numbers}
-use Rattle.aql_plan.specs.Shapes.{Order, Shape, Rows, Foot, Fragment, States, AllStates, Sent, Result, IsOuter, ReadsFragment, ReadsShard, KeepsRowOrder, IsSent, Shaped, one_row, calculated, with_subquery, plain_rows, ordered_rows, scatter, distribute, remote, lowest, lowest_in_order, other_reading, passing, sorting, gather, gather_in_order, partial, joining, finishing, returning}
+use Rattle.aql_plan.specs.Shapes.{Shape, Foot, Fragment, States, AllStates, Sent, Result, IsOuter, ReadsFragment, ReadsShard, KeepsRowOrder, IsSent, Shaped, one_row, calculated, with_subquery, plain_rows, ordered_rows, scatter, distribute, remote, lowest, lowest_in_order, other_reading, passing, sorting, gather, gather_in_order, partial, joining, finishing, returning}
 use Rattle.aql_plan.specs.laws.Carried.{all_parts}
 use Rattle.aql_plan_check.specs.Rows.{variables, IsNum, AreNumbers, GivesRows, RowsNumbered, BodyNumbered, ResultNumbered}
 

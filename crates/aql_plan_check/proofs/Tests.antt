@@ -1,5 +1,5 @@
 -- Tests that hold exactly where something does, one after another.
-use Rattle.std.proofs.Common.{◌≡◌, ◌∙◌, ap, sym, refl, subst, ℕ, ◌<◌, ◌+◌, List, [], ◌∷◌, ◌++◌, length, get_or, drop, map, Bool, true, false, true≢false}
+use Rattle.std.proofs.Common.{◌≡◌, ◌∙◌, ap, sym, refl, subst, ℕ, ◌<◌, ◌+◌, List, [], ◌∷◌, ◌++◌, length, get_or, drop, Bool, true, false, true≢false}
 use Rattle.std.specs.Prelude.{◌↔◌, IsTrue}
 use Rattle.std.specs.List.{AllByRecursion}
 use Rattle.std.proofs.lemmas.List.{drop_more}
@@ -12,13 +12,6 @@ use Rattle.aql_plan.specs.laws.Carried.{all_parts}
 pub left : {X : Type 0} (xs : List X) (i : ℕ) (x : X) → i < length xs → x ≡ get_or xs i x
     → drop i xs ≡ x ∷ drop (i + 1) xs
 left xs i x h e = drop_more xs i x h ∙ ap (λ y. y ∷ drop (i + 1) xs) (sym e)
-
--- a loop over a list: the first part holds, or doesn't
-pub next : {A B W : Type 0} → (A × B) ↔ W → A → B ↔ W
-next h a = ((λ b. h.0 (a, b)), (λ w. (h.1 w).1))
-
-pub stop : {A B W : Type 0} (r : Bool) → (A × B) ↔ W → IsTrue r ↔ A → r ≡ false → IsTrue false ↔ W
-stop r h k e = ((λ t. absurd (true≢false (sym t))), (λ w. absurd (true≢false (sym (k.1 (h.1 w).0) ∙ e))))
 
 -- two tests
 pub both : {A B W : Type 0} (r s : Bool) → (A × B) ↔ W → IsTrue r ↔ A → IsTrue s ↔ B → r ≡ true → IsTrue s ↔ W

@@ -1,12 +1,12 @@
 -- What is found form by form is what is found of the list of uses.
-use Rattle.std.proofs.Common.{◌≡◌, ◌∙◌, ap, sym, refl, List, [], ◌∷◌, ◌++◌, map, Bool, true, false}
+use Rattle.std.proofs.Common.{◌≡◌, ◌∙◌, ap, sym, refl, List, [], ◌∷◌, ◌++◌, Bool, true, false}
 use Rattle.std.specs.Prelude.{◌&&◌, ◌↔◌, Option, Some, None}
 use Rattle.std.specs.List.{list_any}
 use Rattle.std.proofs.lemmas.Bool.{and_parts, and_from}
 use Rattle.aql_tree.specs.declared.syntax.Ident.{Ident}
 use Rattle.aql_tree.specs.Tree.{ExprTree, literal, variable, current, array_literal, object_literal, access, function_call, unary_of, chain, array_comparison, ternary, range_of, subquery, ExprTrees, no_exprs, expr_then, MaybeExpr, no_expr, one_expr, MemberTrees, no_members, named_then, computed_then, StepTrees, no_steps, name_then, at_then, inline_then, LinkTrees, no_links, link_then, AggregateTrees, no_aggregates, aggregate_then, IntoTree, no_into, into}
 use Rattle.aql_meaning.specs.Row.{same_ident}
-use Rattle.aql_meaning.specs.Uses.{Uses, Whole, Part, used_variable, uses, all_uses, maybe_uses, member_uses, step_uses, link_uses, aggregate_uses, into_uses}
+use Rattle.aql_meaning.specs.Uses.{Uses, used_variable, uses, all_uses, maybe_uses, member_uses, step_uses, link_uses, aggregate_uses, into_uses}
 use Rattle.aql_meaning.specs.Visible.{aggregate_vars}
 use Rattle.aql_meaning.specs.Documents.{End, Last, no_last, one_of, between}
 use Rattle.aql_meaning.specs.declared.grouping.Stage.TheVariants as stage

@@ -1,6 +1,6 @@
 -- Each variable that an expression or a node uses is one of a list, form by form: for the contracts of private
 -- functions. Those of aql_plan say the same of the list of uses.
-use Rattle.std.specs.Prelude.{◌≡◌, List, [], Bool, true, Option, None, Some}
+use Rattle.std.specs.Prelude.{◌≡◌, List, true, Option, None, Some}
 use Rattle.std.specs.List.{list_any, AllByRecursion}
 use Rattle.aql_tree.specs.declared.syntax.Ident.{Ident}
 use Rattle.aql_tree.specs.Tree.{ExprTree, literal, variable, current, array_literal, object_literal, access, function_call, unary_of, chain, array_comparison, ternary, range_of, subquery, ExprTrees, no_exprs, expr_then, MaybeExpr, no_expr, one_expr, MemberTrees, no_members, named_then, computed_then, StepTrees, no_steps, name_then, at_then, inline_then, LinkTrees, no_links, link_then, AggregateTrees, no_aggregates, aggregate_then, IntoTree, no_into, into}

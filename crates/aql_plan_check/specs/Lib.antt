@@ -1,5 +1,2 @@
-pub mod Standing
-pub mod Sameness
 pub mod Rows
 pub mod Findings
-pub mod View

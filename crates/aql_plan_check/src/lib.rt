@@ -1,29 +1,19 @@
 //! Whether a plan is well formed.
 #![tactic(auto)]
 
-mod aggregates;
-mod bounds;
-mod collections;
-mod equality;
-mod fits;
 mod found;
-mod plain;
 mod rows;
 mod sets;
-mod shapes;
-mod standing;
 mod uses;
-mod walk;
 
 ghost use Rattle.std.specs.Prelude.{[], ◌↔◌, IfOk, IsTrue};
 ghost use Rattle.aql_plan.specs.View.{plan_tree};
 ghost use Rattle.aql_plan.specs.WellFormed.{IsWellFormed};
 
-use crate::collections::collections_fit;
 use crate::sets::{distinct, sets_numbers};
 use crate::uses::result_finds;
-use crate::walk::has_result;
 use aql_plan::{Facts, Plan};
+use aql_plan_shape::{collections_fit, has_result};
 use aql_value::OutOfMemory;
 use indexmap::IndexSet;
 use std::alloc::Global;

@@ -1,6 +1,6 @@
 -- From the end on, each number is new.
 use Rattle.std.proofs.Common.{arith}
-use Rattle.aql_plan_check.proofs.Lists.{twice, once_more, seen_more}
+use Rattle.aql_plan_check.proofs.Distinct.{twice, once_more, seen_more}
 use Rattle.aql_plan_check.proofs.sets.distinct.Goals as goal
 
 pub returns-then-not-branch : goal.returns-then-not-branch

@@ -1,9 +1,9 @@
 -- A step of the walk.
-use Rattle.std.proofs.Common.{◌∙◌, sym, subst, refl, ◌≡◌, Bool, true≢false, ℕ, List}
+use Rattle.std.proofs.Common.{◌∙◌, sym, subst, refl, Bool, true≢false}
 use Rattle.std.specs.Prelude.{◌↔◌, IsTrue}
 use Rattle.aql_tree.specs.View.{tree}
 use Rattle.aql_plan.specs.declared.plan.Plan.{Plan as Code}
-use Rattle.aql_plan.specs.Plan.{Plan, Over, Return, top}
+use Rattle.aql_plan.specs.Plan.{Over, Return, top}
 use Rattle.aql_plan.specs.Variables.{FindsAll, input_uses, filter_uses, are_among}
 use Rattle.aql_plan.specs.View.{plan_tree}
 use Rattle.aql_plan_check.specs.Findings.{InputFinds}

@@ -1,0 +1,4 @@
+mod Shaping
+mod Collected
+mod Tests
+mod Lists
