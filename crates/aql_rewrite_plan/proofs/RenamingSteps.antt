@@ -1,15 +1,28 @@
--- The expression at a place of a list that is lent.
+-- The expression at a place of a list that is lent, and the renaming at a place of a list.
 use Rattle.std.proofs.Common.{◌≡◌, ◌∙◌, ◌<◌, ◌≤◌, ◌+◌, ℕ, List, [], ◌∷◌, ◌++◌, length, map, take, drop, get_or, append_assoc, ap, sym, subst, arith}
 use Rattle.std.specs.Borrow.{Bor}
 use Rattle.std.specs.List.{AllByRecursion}
 use Rattle.std.proofs.lemmas.List.{take_more, take-append-drop, map-append}
 use Rattle.aql_tree.specs.declared.syntax.Expr.{Expr}
-use Rattle.aql_tree.specs.Tree.{ExprTree}
+use Rattle.aql_tree.specs.declared.syntax.Ident.TheVariants.{Num}
+use Rattle.aql_tree.specs.Tree.{ExprTree, variable}
 use Rattle.aql_meaning.specs.Plain.{IsPlain}
 use Rattle.aql_plan.specs.laws.Carried.{all_parts}
 use Rattle.aql_rewrite_expr.specs.Size.{size, size_all}
 use Rattle.aql_rewrite_expr.specs.View.{lent}
 use Rattle.aql_rewrite_expr.specs.laws.PartSizes.{append_size}
+use Rattle.aql_rewrite_plan.specs.declared.swap.Rename.{Rename}
+use Rattle.aql_rewrite_plan.specs.Renames.{renaming, put_each}
+use Rattle.aql_rewrite_plan.specs.laws.Renamings.{each_more}
+
+pub name_next : (rs : List Rename) (i : ℕ) (d : Rename) (number name next : ℕ) → i < length rs
+    → put_each (take i rs) (variable (Num number)) ≡ variable (Num name)
+    → renaming (get_or rs i d) (variable (Num name)) ≡ variable (Num next)
+    → put_each (take (i + 1) rs) (variable (Num number)) ≡ variable (Num next)
+name_next rs i d number name next within h k =
+    ap (λ qs. put_each qs (variable (Num number))) (take_more rs i d within)
+    ∙ each_more renaming (take i rs) (get_or rs i d) (variable (Num number))
+    ∙ ap (renaming (get_or rs i d)) h ∙ k
 
 module _ (all : List (Bor Expr)) (i : ℕ) (e : Bor Expr) (within : i < length all) (here : e ≡ get_or all i e) where
   next : take (i + 1) all ≡ take i all ++ e ∷ []
