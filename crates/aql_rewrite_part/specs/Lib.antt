@@ -1,3 +1,4 @@
 pub mod Sums
 pub mod Finished
+pub mod Removed
 pub mod laws

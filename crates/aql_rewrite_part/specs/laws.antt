@@ -1,3 +1,4 @@
 pub mod Falling
 pub mod Finishing
 pub mod StaysPlaced
+pub mod Removing

@@ -2,7 +2,9 @@
 #![tactic(auto)]
 
 mod pass;
+mod removing;
 mod rule;
 
 pub use pass::run_part_pass;
+pub use removing::{RemovingRule, run_removing_pass};
 pub use rule::PartRule;

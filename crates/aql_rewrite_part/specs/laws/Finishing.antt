@@ -79,7 +79,7 @@ module _ (R : Rewriting) where
     stays_seen us vs p h q r k = h q r (blind vs us p q r k)
 
     mutual
-      no_place_seen : (inside : Bool) (us vs : Uses) (p : Plan) → NoPlace R inside us p → NoPlace R inside vs p
+      pub no_place_seen : (inside : Bool) (us vs : Uses) (p : Plan) → NoPlace R inside us p → NoPlace R inside vs p
       no_place_seen inside us vs Singleton h = tt
       no_place_seen inside us vs (Over b n) h = (
         no_place_seen (input_inside n inside) (under n us) (under n vs) b h.0,
@@ -92,7 +92,7 @@ module _ (R : Rewriting) where
       none_seen false us vs b (Subquery x s) h = (stays_seen us vs (Over b (Subquery x s)) h.0, h.1)
       none_seen false us vs b n h = stays_seen us vs (Over b n) h
 
-    first_seen : {inside : Bool} {us : Uses} {p q : Plan} {r : Option Rename} → First R inside us p q r
+    pub first_seen : {inside : Bool} {us : Uses} {p q : Plan} {r : Option Rename} → First R inside us p q r
         → (vs : Uses) → First R inside vs p q r
     first_seen (below {n = n} h) vs = below (first_seen h (under n vs))
     first_seen (here {us = us} {b = b} {q = q} {n = n} {r = r} m h) vs =

@@ -1,6 +1,6 @@
 -- A placed part stays placed through applications one after another.
 use Rattle.std.proofs.Common.{◌≡◌, List, [], ◌∷◌, ◌++◌, Bool, true, false, refl, ap, sym, subst, subst₂, arith}
-use Rattle.std.specs.Prelude.{◌||◌, None}
+use Rattle.std.specs.Prelude.{◌||◌, Option, None}
 use Rattle.aql_tree.specs.declared.syntax.Ident.{Ident}
 use Rattle.aql_meaning.specs.Numbered.{IsNumber}
 use Rattle.aql_meaning.specs.Row.{same_ident}
@@ -11,6 +11,7 @@ use Rattle.aql_plan.specs.Plan.{Plan, Over, Node}
 use Rattle.aql_plan.specs.Variables.{vars_of, vars_set, are_among}
 use Rattle.aql_plan.specs.laws.Among.{fewer_have}
 use Rattle.aql_plan.specs.laws.Idents.{same_self}
+use Rattle.aql_rewrite_plan.specs.declared.swap.Rename.{Rename}
 use Rattle.aql_rewrite_plan.specs.Placed.{Placed, IsPlaced}
 use Rattle.aql_rewrite_plan.specs.Places.{Rewriting}
 use Rattle.aql_rewrite_plan.specs.Swaps.{is_used, Kept, KeepsPlaced}
@@ -36,16 +37,16 @@ used_kept (u ∷ us) away xs ys k h =
     later z true m = refl
     later z false m = m
 
-placed_kept : (facts : Facts) (outer away : List Ident) (us : Uses) (p q : Plan)
-    → Placed false false facts outer away us p → KeepsPlaced false false facts outer us p q None
-    → Placed false false facts outer away us q
-placed_kept facts outer away us p q placed kept = record {
+pub placed_kept : (facts : Facts) (outer away : List Ident) (us : Uses) (p q : Plan) (r : Option Rename)
+    → Placed false false facts outer away us p → KeepsPlaced false false facts outer us p q r
+    → are_among us (away ++ vars_of outer q) ≡ true → Placed false false facts outer away us q
+placed_kept facts outer away us p q r placed kept used = record {
   known = placed.known;
   suits = kept.suits;
   shaped =
       let s = placed.shaped in (s.0, s.1, kept.shape s.0 s.1 s.2);
   found = kept.found;
-  used = used_kept us away (vars_of outer p) (vars_of outer q) kept.vars placed.used;
+  used = used;
   once = λ z e. omega (arith, placed.once z e, kept.fewer z);
   numbers = fewer_have IsNumber (vars_set q) (vars_set p) kept.fewer placed.numbers;
 }
@@ -57,8 +58,9 @@ module _ (R : Rewriting) (facts : Facts) (refines : Refining false facts R) (kee
   steps_placed outer away us h at_once = h
   steps_placed outer away us h (next {m = m} {d = d} k s) =
       let before = steps_placed outer away us h k in
-      placed_kept facts outer away us m d before
-      (part_kept false facts R refines keeps outer away us m d None before s)
+      let kept = part_kept false facts R refines keeps outer away us m d None before s in
+      placed_kept facts outer away us m d None before kept
+      (used_kept us away (vars_of outer m) (vars_of outer d) kept.vars before.used)
 
 -- the rule is one for plans without fragments
 pub stays_placed : (R : Rewriting) (facts : Facts) (fragments : Bool) → fragments ≡ false
