@@ -9,11 +9,14 @@ ghost use Rattle.aql_plan.specs.Plan as spec;
 ghost use Rattle.aql_plan.specs.Plan.{top};
 ghost use Rattle.aql_plan.specs.View.{plan_tree};
 ghost use Rattle.aql_rules_calc.specs.Readers.{calculation_in as spec_calculation_in};
+ghost use Rattle.aql_rewrite_plan.specs.Plain.{NodePlain};
 ghost use Rattle.aql_rules_calc.specs.RemoveRedundantCalculations.{IsNotOf, Calculates};
+ghost use Rattle.aql_rules_calc.specs.RemoveRedundantCalculations.{IsRedundant, IsNotRedundant};
 
 use crate::needs::gives_new_rows;
 use aql_plan::{Facts, Plan, Uses};
 use aql_rewrite_expr::same_expr;
+use aql_rewrite_part::RemovingRule;
 use aql_rewrite_plan::{Rename, Rule, Swap};
 use aql_tree::Expr;
 use aql_value::OutOfMemory;
@@ -70,6 +73,27 @@ fn calculated(plan: &Plan, expr: &Expr) -> Option<u32>
     }
 }
 
+// The input of a redundant Calculation, and what its variable goes by above.
+fn redundant(part: &Plan) -> Option<(&Plan, Rename)>
+    requires { NodePlain (top (plan_tree part.now)) }
+    ensures { MatchOption result (IsNotRedundant (plan_tree part.now))
+        (λ c. IsRedundant (plan_tree part.now) (plan_tree c.0.now) c.1) }
+{
+    match calculation_in(part) {
+        None => None,
+        Some((below, var, expr)) => match calculated(below, expr) {
+            None => None,
+            Some(lower) => Some((
+                below,
+                Rename {
+                    from: var,
+                    to: lower,
+                },
+            )),
+        },
+    }
+}
+
 /// The rule remove-redundant-calculations.
 #[derive(Clone, Copy, Drop)]
 pub struct RemoveRedundantCalculations;
@@ -94,21 +118,15 @@ impl Rule for RemoveRedundantCalculations {
         _above: &[Uses],
         _facts: &Facts,
     ) -> Result<Option<Swap>, OutOfMemory> {
-        match calculation_in(part) {
+        match redundant(part) {
             None => Ok(None),
-            Some((below, var, expr)) => match calculated(below, expr) {
-                None => Ok(None),
-                Some(lower) => {
-                    let part = below.copy(alloc)?;
-                    Ok(Some(Swap {
-                        part,
-                        rename: Some(Rename {
-                            from: var,
-                            to: lower,
-                        }),
-                    }))
-                }
-            },
+            Some((below, rename)) => {
+                let part = below.copy(alloc)?;
+                Ok(Some(Swap {
+                    part,
+                    rename: Some(rename),
+                }))
+            }
         }
     }
 
@@ -119,4 +137,22 @@ impl Rule for RemoveRedundantCalculations {
         redundant_keep facts outer away us p q r placed h };
 
     ghost falls = { λ _ facts p q r whole h. redundant_fall facts p q r whole h };
+}
+
+impl RemovingRule for RemoveRedundantCalculations {
+    ghost use Rattle.std.specs.Prelude.{refl};
+    ghost use Rattle.aql_rules_calc.specs.laws.CalculatedTwice.{redundant_blind, redundant_removes};
+
+    fn removed(&self, part: &Plan, _facts: &Facts) -> Option<Rename> {
+        match redundant(part) {
+            None => None,
+            Some((_, rename)) => Some(rename),
+        }
+    }
+
+    ghost blind = { λ _ _ us vs p q r h. redundant_blind us vs p q r h };
+
+    ghost lone = { λ _. refl };
+
+    ghost removes = { λ _ _ us p q r h. redundant_removes us p q r h };
 }

@@ -14,7 +14,7 @@ use Rattle.aql_meaning.specs.Uses.{Uses, uses, Agree}
 use Rattle.aql_meaning.specs.laws.Agrees.{value_same}
 use Rattle.aql_plan.specs.declared.facts.Facts.{Facts}
 use Rattle.aql_plan.specs.Needs.{sets, under, result_uses}
-use Rattle.aql_plan.specs.Nodes.{weight}
+use Rattle.aql_plan.specs.Nodes.{body_in, weight}
 use Rattle.aql_plan.specs.Plan.{Plan, Over, Node, Calculation, Subquery, Collect, Return, top}
 use Rattle.aql_plan.specs.Refines.{world}
 use Rattle.aql_plan.specs.Renaming.{renamed}
@@ -34,7 +34,9 @@ use Rattle.aql_rewrite_plan.specs.laws.Carried.{Lowers, first_lowers}
 use Rattle.aql_rewrite_plan.specs.laws.PlacedBelow.{placed_below, whole_placed}
 use Rattle.aql_rewrite_plan.specs.laws.Standing.{outside}
 use Rattle.aql_rewrite_plan.specs.laws.Weights.{weight_lifts}
-use Rattle.aql_rules_calc.specs.RemoveRedundantCalculations.{IsNotOf, Calculates, here, further, renaming, Redundant, calculated_twice}
+use Rattle.aql_rewrite_part.specs.Removed.{TakesAway}
+use Rattle.aql_rules_calc.specs.RemoveRedundantCalculations.{IsNotOf, Calculates, here, further, renaming, Redundant, calculated_twice, IsRedundant, IsNotRedundant}
+use Rattle.aql_rules_calc.specs.Readers.{calculation_in}
 use Rattle.aql_rules_calc.specs.laws.Apart.{vars_counted, counts_itself, no_result, set_nowhere, not_there}
 use Rattle.aql_rules_calc.specs.laws.RowsHold.{Leaves, over_holds}
 use Rattle.aql_rules_calc.specs.laws.UnnecessaryCalculations.{calculation_off, more}
@@ -224,7 +226,37 @@ handed_on p b e None i other o h = nowhere p b e i other h
 handed_on p b e (Some w) i other o h =
     subst (λ (m : Plan). Calculates e (Num w) m) (sym i) (further other o h)
 
-pub redundant_at : (us : Uses) (p b q : Plan) (v w : ℕ) (e : ExprTree) → p ≡ Over b (Calculation (Num v) e)
-    → Calculates e (Num w) b → q ≡ b → Redundant us p q (Some (renaming v w))
-redundant_at us p b q v w e i c k = subst₂ (λ (m s : Plan). Redundant us m s (Some (renaming v w)))
-    (sym i) (sym k) (calculated_twice c)
+pub redundant_found : (p b : Plan) (v w : ℕ) (e : ExprTree) → p ≡ Over b (Calculation (Num v) e)
+    → Calculates e (Num w) b → IsRedundant p b (renaming v w)
+redundant_found p b v w e i c us = (
+  i ∙ ap (Over b) (sym (ap top i)),
+  subst (λ (m : Plan). Redundant us m b (Some (renaming v w))) (sym i) (calculated_twice c),
+)
+
+pub no_calculation : (p : Plan) → calculation_in p ≡ None → IsNotRedundant p
+no_calculation _ h us _ _ (calculated_twice c) = cc
+
+pub not_calculated : (p b : Plan) (v : ℕ) (e : ExprTree) → p ≡ Over b (Calculation (Num v) e)
+    → ((w : Ident) → Calculates e w b → ⊥) → IsNotRedundant p
+not_calculated p b v e i none us q r h = by us q r (subst (λ (m : Plan). Redundant us m q r) i h)
+  where
+    by : (us : Uses) (q : Plan) (r : Option Rename) → Redundant us (Over b (Calculation (Num v) e)) q r → ⊥
+    by us _ _ (calculated_twice {w = w} c) = none (Num w) c
+
+-- ---- for its pass
+
+pub redundant_blind : (us vs : Uses) (p q : Plan) (r : Option Rename) → Redundant us p q r
+    → Redundant vs p q r
+redundant_blind _ vs _ _ _ (calculated_twice c) = calculated_twice c
+
+pub redundant_removes : (us : Uses) (p q : Plan) (r : Option Rename) → Redundant us p q r
+    → (p ≡ Over q (top p)) × (body_in (top p) ≡ None)
+redundant_removes _ _ _ _ (calculated_twice c) = (refl, refl)
+
+pub redundant_takes : (p b : Plan) (r : Rename) → IsRedundant p b r → TakesAway Redundant p r
+redundant_takes p b r h c e =
+    let i = h [] in
+    subst (λ (o : Plan). Redundant [] p o (Some r)) (same b c (top p) (sym i.0 ∙ e)) i.1
+  where
+    same : (b c : Plan) (n : Node) → Over b n ≡ Over c n → b ≡ c
+    same b c n e = cc

@@ -1,9 +1,21 @@
-use Rattle.aql_tree.specs.View.{tree}
+use Rattle.std.proofs.Common.{false, sym, subst}
+use Rattle.std.specs.Prelude.{Some}
+use Rattle.aql_plan.specs.Plan.{Plan}
 use Rattle.aql_plan.specs.View.{plan_tree}
-use Rattle.aql_rules_calc.specs.laws.CalculatedTwice.{redundant_at}
+use Rattle.aql_rewrite_plan.specs.View.{above_uses}
+use Rattle.aql_rewrite_plan.specs.laws.RenamedPlans.{placed_plain}
+use Rattle.aql_rules_calc.specs.RemoveRedundantCalculations.{Redundant}
 use Rattle.aql_rules_calc.proofs.remove_redundant_calculations.RemoveRedundantCalculationsRule.at.Goals as goal
 
-pub returns-in_ok-part-in-Some-calculated : goal.returns-in_ok-part-in-Some-calculated
-returns-in_ok-part-in-Some-calculated c = redundant_at _ (plan_tree c.args.part.now)
-    (plan_tree c.in-Some.below.now) _ c.in-Some.var c.in-Some-calculated.lower (tree c.in-Some.expr.now)
-    c.in-Some.ensures c.in-Some-calculated.ensures c.in_ok-part-in-Some-calculated.ensures
+pub redundant-requires : goal.redundant-requires
+redundant-requires c = placed_plain false false c.args._facts.now (above_uses c.args._above.now)
+    (plan_tree c.args.part.now) c.requires
+
+pub returns-in-None : goal.returns-in-None
+returns-in-None c = c.in-None.ensures (above_uses c.args._above.now)
+
+pub returns-in_ok-part-in-Some : goal.returns-in_ok-part-in-Some
+returns-in_ok-part-in-Some c =
+    let us = above_uses c.args._above.now in
+    subst (λ (o : Plan). Redundant us (plan_tree c.args.part.now) o (Some c.in-Some.rename))
+    (sym c.in_ok-part-in-Some.ensures) (c.in-Some.ensures us).1
