@@ -18,6 +18,7 @@ ghost use Rattle.aql_rules_order.specs.Readers.{may_inline as spec_may_inline};
 
 use aql_copy::copy_expr;
 use aql_plan::{Facts, Plan, Uses};
+use aql_rewrite_part::PartRule;
 use aql_rewrite_plan::{Rule, Swap, is_used};
 use aql_tree::{Expr, Ident};
 use aql_value::OutOfMemory;
@@ -196,4 +197,27 @@ impl Rule for InlineSubqueries {
         inlines_keep facts outer away us p q r placed h };
 
     ghost falls = { λ _ facts p q r whole h. inlines_fall facts p q r whole h };
+}
+
+impl PartRule for InlineSubqueries {
+    ghost use Rattle.std.specs.Prelude.{refl, true};
+    ghost use Rattle.std.proofs.Common.{true≢false};
+    ghost use Rattle.aql_rules_order.specs.laws.SubqueriesInlined.{nothing};
+    ghost use Rattle.aql_rules_order.specs.laws.SubqueriesInlined.{inlines_nameless, inlines_shrink};
+
+    ghost looks = { λ _. true };
+
+    fn looks_above(&self) -> bool {
+        true
+    }
+
+    ghost blind = { λ _ e facts us vs p q r h. absurd (true≢false e) };
+
+    ghost lone = { λ _. refl };
+
+    ghost nameless = { λ _ _ us p q r h. inlines_nameless us p q r h };
+
+    ghost size = { λ _. nothing };
+
+    ghost lowers = { λ _ _ us p q r h. inlines_shrink us p q r h };
 }

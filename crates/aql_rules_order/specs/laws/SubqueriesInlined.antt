@@ -1,5 +1,5 @@
 -- What the nodes of a subquery give over the one row before it, a FOR over its values gave.
-use Rattle.std.proofs.Common.{◌≡◌, ◌∙◌, suc, ◌+◌, ◌≤◌, ◌<◌, List, [], ◌∷◌, ◌++◌, map, Bool, true, false, true≢false, cond, refl, ap, ap₂, sym, subst, subst₂, arith}
+use Rattle.std.proofs.Common.{◌≡◌, ◌∙◌, ℕ, suc, ◌+◌, ◌≤◌, ◌<◌, List, [], ◌∷◌, ◌++◌, map, Bool, true, false, true≢false, cond, refl, ap, ap₂, sym, subst, subst₂, arith}
 use Rattle.std.specs.Prelude.{Option, Some, None, unwrap_or, not, ◌||◌, ◌&&◌}
 use Rattle.std.specs.List.{AllZip, AllByRecursion}
 use Rattle.std.proofs.lemmas.Bool.{and_parts, not-true}
@@ -38,6 +38,7 @@ use Rattle.aql_rewrite_plan.specs.laws.Among.{has, has_front, has_back, has_eith
 use Rattle.aql_rewrite_plan.specs.laws.Carried.{Lowers, first_lowers}
 use Rattle.aql_rewrite_plan.specs.laws.PlacedBelow.{whole_placed}
 use Rattle.aql_rewrite_plan.specs.laws.Weights.{weight_lifts}
+use Rattle.aql_rewrite_part.specs.Sums.{total}
 use Rattle.aql_rules_calc.specs.laws.Apart.{vars_counted, counts_itself}
 use Rattle.aql_rules_calc.specs.laws.RowsHold.{Leaves, over_holds}
 use Rattle.aql_rules_calc.specs.laws.Unused.{agree_unused, unused_from, used_other}
@@ -328,6 +329,20 @@ inlines_fall facts p q r whole h =
     (first_lowers false facts Inlines weight weight weight_lifts
     (λ outer away us p q r placed k. inlines_lower us p q r k) h [] []
     (whole_placed false facts p whole)).falls
+
+abbrev pub nothing : Node → ℕ
+nothing n = 0
+
+total_from : (p b : Plan) → total nothing (started_from p b) ≡ total nothing b + total nothing p
+total_from p Singleton = refl
+total_from p (Over b n) = omega (arith, total_from p b)
+
+pub inlines_nameless : (us : Uses) (p q : Plan) (r : Option Rename) → Inlines us p q r → r ≡ None
+inlines_nameless _ _ _ _ (inlined u h l) = refl
+
+pub inlines_shrink : (us : Uses) (p q : Plan) (r : Option Rename) → Inlines us p q r
+    → weight q + total nothing q < weight p + total nothing p
+inlines_shrink _ _ _ _ (inlined {p = p} {b = b} u h l) = omega (arith, weight_from p b, total_from p b)
 
 rows_over : (xs : List Ident) (b : Plan) (n : Node) → gives_new_rows n ≡ false
     → vars_of xs (Over b n) ≡ sets n ++ vars_of xs b
