@@ -10,8 +10,7 @@ ghost use Rattle.aql_optimise.specs.Passes.{IsPassOf};
 use aql_plan::{Facts, Passed, Plan, RuleName};
 use aql_rewrite_exchange::run_exchange_pass;
 use aql_rewrite_node_exprs::run_expr_pass;
-use aql_rewrite_part::run_part_pass;
-use aql_rewrite_plan::run_pass;
+use aql_rewrite_part::{run_part_pass, run_removing_pass};
 use aql_rules_calc::{
     MoveCalculationsUp, ReduceExtractionToProjection, RemoveRedundantCalculations,
     RemoveUnnecessaryCalculations,
@@ -41,11 +40,11 @@ pub(crate) fn pass_of(
 {
     match rule {
         RuleName::SimplifyConditions => run_expr_pass(alloc, &SimplifyConditions, plan, facts),
-        RuleName::InlineSubqueries => run_pass(alloc, &InlineSubqueries, plan, facts),
+        RuleName::InlineSubqueries => run_part_pass(alloc, &InlineSubqueries, plan, facts),
         RuleName::MoveCalculationsUp => run_exchange_pass(alloc, &MoveCalculationsUp, plan, facts),
         RuleName::MoveFiltersUp => run_exchange_pass(alloc, &MoveFiltersUp, plan, facts),
         RuleName::RemoveRedundantCalculations => {
-            run_pass(alloc, &RemoveRedundantCalculations, plan, facts)
+            run_removing_pass(alloc, &RemoveRedundantCalculations, plan, facts)
         }
         RuleName::RemoveUnnecessaryFilters => {
             run_part_pass(alloc, &RemoveUnnecessaryFilters, plan, facts)
