@@ -9,7 +9,7 @@ use aql_tree::{
     AggregateItem, Clause, Collect, Expr, Field, Ident, Into, Key, Let, Link, Options, Query, Step,
     Traversal,
 };
-use aql_value::{OutOfMemory, Seq, Text, copy};
+use aql_value::{CollNo, CollNos, Names, OutOfMemory, Seq, Text, copy};
 use std::alloc::Global;
 
 /// Equal texts.
@@ -19,6 +19,27 @@ pub fn copy_texts(alloc: Global, texts: &[Text]) -> Result<Seq<Text>, OutOfMemor
     let mut all = Seq::new(alloc);
     for text in texts {
         all.push(text.copy(alloc)?)?;
+    }
+    Ok(all)
+}
+
+/// Equal texts, where there are some.
+pub fn copy_maybe_texts(alloc: Global, texts: &Option<Names>) -> Result<Option<Names>, OutOfMemory>
+    ensures { IfOk result (λ ts. ts ≡ texts.now) }
+{
+    match texts {
+        Some(texts) => Ok(Some(copy_texts(alloc, texts.as_slice())?)),
+        None => Ok(None),
+    }
+}
+
+/// The same collections.
+pub fn copy_colls(alloc: Global, colls: &[CollNo]) -> Result<CollNos, OutOfMemory>
+    ensures { IfOk result (λ cs. cs ≡ colls.now) }
+{
+    let mut all = Seq::new(alloc);
+    for coll in colls {
+        all.push(*coll)?;
     }
     Ok(all)
 }

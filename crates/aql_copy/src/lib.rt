@@ -5,6 +5,6 @@
 mod copying;
 
 pub use copying::{
-    copy_aggregates, copy_expr, copy_exprs, copy_ident, copy_into, copy_keys, copy_lets,
-    copy_maybe, copy_maybe_ident, copy_options, copy_texts,
+    copy_aggregates, copy_colls, copy_expr, copy_exprs, copy_ident, copy_into, copy_keys,
+    copy_lets, copy_maybe, copy_maybe_ident, copy_maybe_texts, copy_options, copy_texts,
 };
