@@ -8,30 +8,12 @@ ghost use Rattle.aql_plan.specs.View.{plan_tree};
 
 use crate::plan::Plan;
 use aql_copy::{
-    copy_aggregates, copy_expr, copy_exprs, copy_into, copy_keys, copy_lets, copy_maybe, copy_texts,
+    copy_aggregates, copy_colls, copy_expr, copy_exprs, copy_into, copy_keys, copy_lets,
+    copy_maybe, copy_maybe_texts,
 };
 use aql_meaning::{Edge, Last};
-use aql_value::{CollNo, CollNos, Names, OutOfMemory, Seq};
+use aql_value::OutOfMemory;
 use std::alloc::Global;
-
-fn copy_colls(alloc: Global, colls: &[CollNo]) -> Result<CollNos, OutOfMemory>
-    ensures { IfOk result (λ cs. cs ≡ colls.now) }
-{
-    let mut all = Seq::new(alloc);
-    for coll in colls {
-        all.push(*coll)?;
-    }
-    Ok(all)
-}
-
-fn copy_attrs(alloc: Global, attrs: &Option<Names>) -> Result<Option<Names>, OutOfMemory>
-    ensures { IfOk result (λ a. a ≡ attrs.now) }
-{
-    match attrs {
-        Some(names) => Ok(Some(copy_texts(alloc, names.as_slice())?)),
-        None => Ok(None),
-    }
-}
 
 fn copy_edge(alloc: Global, edge: &Edge) -> Result<Edge, OutOfMemory>
     ensures { IfOk result (λ e. end_tree e ≡ end_tree edge.now) }
@@ -118,7 +100,7 @@ impl Plan {
                 var: *var,
                 coll: *coll,
                 filter: copy_maybe(alloc, filter)?,
-                attrs: copy_attrs(alloc, attrs)?,
+                attrs: copy_maybe_texts(alloc, attrs)?,
                 shard: *shard,
             }),
             Plan::Index {
@@ -137,7 +119,7 @@ impl Plan {
                 var: *var,
                 coll: *coll,
                 filter: copy_maybe(alloc, filter)?,
-                attrs: copy_attrs(alloc, attrs)?,
+                attrs: copy_maybe_texts(alloc, attrs)?,
                 shard: *shard,
                 index: *index,
                 equal: copy_exprs(alloc, equal.as_slice())?,
