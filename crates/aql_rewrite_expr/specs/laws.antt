@@ -3,6 +3,7 @@ pub mod PartValues
 pub mod PlainParts
 pub mod PartCurrent
 pub mod PartsBack
+pub mod Own
 pub mod PartVariables
 pub mod PartSizes
 pub mod FirstKept

@@ -20,7 +20,8 @@ fn add_exprs<'a>(to: &mut Vec<&'a Expr>, all: &'a [Expr]) -> Result<(), OutOfMem
     Ok(())
 }
 
-fn add_maybe<'a>(to: &mut Vec<&'a Expr>, expr: &'a Option<Expr>) -> Result<(), OutOfMemory>
+/// Puts the expression, where there is one, after the others.
+pub fn add_maybe<'a>(to: &mut Vec<&'a Expr>, expr: &'a Option<Expr>) -> Result<(), OutOfMemory>
     ensures { OnOk result (map lent to.new.items ≡ map lent to.old.items
         ++ maybe_parts (maybe (option_map tree expr.now))) }
 {

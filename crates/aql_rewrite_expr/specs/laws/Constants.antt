@@ -26,7 +26,8 @@ use Rattle.aql_rewrite_expr.specs.Constant.{is_open, IsConstant, constant, AreCo
 use Rattle.aql_rewrite_expr.specs.Constant.{constant_then, HasOneValue}
 use Rattle.aql_rewrite_expr.specs.Keeps.{variables}
 use Rattle.aql_rewrite_expr.specs.laws.PlainParts.{EachPlain, is_subquery, plain_whole}
-use Rattle.aql_rewrite_expr.specs.laws.PartVariables.{own_variables, all_variables, variables_split}
+use Rattle.aql_rewrite_expr.specs.laws.Own.{own_variables}
+use Rattle.aql_rewrite_expr.specs.laws.PartVariables.{all_variables, variables_split}
 
 closed : (e : ExprTree) → is_open e ≡ false → (is_subquery e ≡ false) × (own_variables e ≡ [])
 closed (literal v) h = (refl, refl)

@@ -11,6 +11,7 @@ use Rattle.aql_rewrite_expr.specs.OverParts.{over_parts}
 use Rattle.aql_rewrite_expr.specs.Size.{size, list_size, maybe_size, members_size, steps_size, links_size}
 use Rattle.aql_rewrite_expr.specs.Size.{size_all}
 use Rattle.aql_rewrite_expr.specs.View.{each_over}
+use Rattle.aql_rewrite_expr.specs.laws.Own.{own_size, own_kept}
 use Rattle.aql_rewrite_expr.specs.laws.PartsBack.{parts_back}
 
 pub append_size : (xs ys : List ExprTree) → size_all (xs ++ ys) ≡ size_all xs + size_all ys
@@ -48,10 +49,6 @@ links_sized : (ls : LinkTrees) → size_all (link_parts ls) ≡ links_size ls
 links_sized no_links = refl
 links_sized (link_then op e ls) = omega (arith, links_sized ls)
 
-abbrev pub own_size : ExprTree → ℕ
-own_size (literal v) = 1
-own_size e = 2
-
 pub size_split : (e : ExprTree) → size e ≡ size_all (parts e) + own_size e
 size_split (literal v) = omega arith
 size_split (variable x) = omega arith
@@ -67,21 +64,6 @@ size_split (ternary test middle other) =
     omega (arith, append_size (maybe_parts middle) (other ∷ []), maybe_sized middle)
 size_split (range_of a b) = omega arith
 size_split (subquery q) = omega arith
-
-own_kept : (e : ExprTree) (ps : List ExprTree) → own_size (over_parts e ps) ≡ own_size e
-own_kept (literal v) ps = refl
-own_kept (variable x) ps = refl
-own_kept current ps = refl
-own_kept (array_literal es) ps = refl
-own_kept (object_literal ms) ps = refl
-own_kept (access e ss) ps = refl
-own_kept (function_call name es) ps = refl
-own_kept (unary_of op e) ps = refl
-own_kept (chain e ls) ps = refl
-own_kept (array_comparison a kind op b) ps = refl
-own_kept (ternary test middle other) ps = refl
-own_kept (range_of a b) ps = refl
-own_kept (subquery q) ps = refl
 
 pub at_least_one : (e : ExprTree) → 1 ≤ own_size e
 at_least_one (literal v) = omega arith
@@ -106,4 +88,4 @@ pub smaller_over : (e : ExprTree) (ps : List ExprTree) → each_over (parts e) p
     → size_all ps < size_all (parts e) → size (over_parts e ps) < size e
 smaller_over e ps h k =
     let same : size_all (parts (over_parts e ps)) ≡ size_all ps = ap size_all (parts_back e ps ∙ h) in
-    omega (arith, size_split e, size_split (over_parts e ps), own_kept e ps, same)
+    omega (arith, size_split e, size_split (over_parts e ps), (own_kept e ps).same_size, same)

@@ -17,12 +17,9 @@ use Rattle.aql_meaning.specs.Uses.{link_uses}
 use Rattle.aql_rewrite_expr.specs.Parts.{list_parts, maybe_parts, member_parts, step_parts, link_parts, parts}
 use Rattle.aql_rewrite_expr.specs.OverParts.{over_parts}
 use Rattle.aql_rewrite_expr.specs.Keeps.{variables, uses_variable}
+use Rattle.aql_rewrite_expr.specs.laws.Own.{own_variables, own_kept}
 use Rattle.aql_rewrite_expr.specs.laws.PartsBack.{new_parts}
 use Rattle.aql_rewrite_expr.specs.laws.PartCurrent.{OnlyWhere, either_only}
-
-abbrev pub own_variables : ExprTree → List Ident
-own_variables (variable x) = x ∷ []
-own_variables e = []
 
 abbrev pub all_variables : List ExprTree → List Ident
 all_variables es = flat_map variables es
@@ -84,21 +81,6 @@ variables_split (ternary test middle other) =
 variables_split (range_of a b) = first_then a (uses b) (all_variables (b ∷ [])) (alone b)
 variables_split (subquery q) = refl
 
-own_kept : (e : ExprTree) (ps : List ExprTree) → own_variables (over_parts e ps) ≡ own_variables e
-own_kept (literal v) ps = refl
-own_kept (variable x) ps = refl
-own_kept current ps = refl
-own_kept (array_literal es) ps = refl
-own_kept (object_literal ms) ps = refl
-own_kept (access e ss) ps = refl
-own_kept (function_call name es) ps = refl
-own_kept (unary_of op e) ps = refl
-own_kept (chain e ls) ps = refl
-own_kept (array_comparison a kind op b) ps = refl
-own_kept (ternary test middle other) ps = refl
-own_kept (range_of a b) ps = refl
-own_kept (subquery q) ps = refl
-
 module _ (x : Ident) where
   abbrev pub NoVariable : ExprTree → ExprTree → Type 0
   NoVariable p q = OnlyWhere (uses_variable x p) (uses_variable x q)
@@ -128,4 +110,4 @@ module _ (x : Ident) where
       (any_of (parts e)) (any_of ps) (λ l. l) (each_only (parts e) ps h)
       (sym (used_split (over_parts e ps)
       ∙ ap₂ (λ (xs : List Ident) (qs : List ExprTree). list_any (same_ident x) xs || any_of qs)
-      (own_kept e ps) (new_parts NoVariable e ps h)) ∙ k)
+      (own_kept e ps).same_variables (new_parts NoVariable e ps h)) ∙ k)
