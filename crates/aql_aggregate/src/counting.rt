@@ -9,14 +9,14 @@ ghost use Rattle.aql_aggregate.specs.States.{Counts};
 use aql_value::Value;
 
 /// A count of no members.
-pub(crate) fn none_counted() -> Option<i64>
+pub fn none_counted() -> Option<i64>
     ensures { Counts result [] }
 {
     Some(0)
 }
 
 /// One member more. The count is lost where a number of 64 bits can't tell it.
-pub(crate) fn one_more(count: Option<i64>) -> Option<i64>
+pub fn one_more(count: Option<i64>) -> Option<i64>
     ensures { (ts : List Datum) (t : Datum) → Counts count ts → Counts result (ts ++ t ∷ []) }
 {
     match count {
@@ -26,7 +26,7 @@ pub(crate) fn one_more(count: Option<i64>) -> Option<i64>
 }
 
 /// The count as a value, null where it was lost.
-pub(crate) fn count_value(count: Option<i64>) -> Value
+pub fn count_value(count: Option<i64>) -> Value
     ensures { (ts : List Datum) → Counts count ts → datum_of result ≡ count_of ts }
 {
     match count {
