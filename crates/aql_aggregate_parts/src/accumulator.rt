@@ -9,10 +9,10 @@ ghost use Rattle.aql_func.specs.Aggregates.{aggregate, state};
 ghost use Rattle.aql_aggregate.specs.View.{aggregate_of};
 ghost use Rattle.aql_aggregate_parts.specs.Kept.{kind_of, Keeps};
 
-use crate::counting::{count_value, more, none_counted, one_more};
+use crate::counting::more;
 use crate::elements::{add_elements, at_most_one, element_count};
 use crate::summing::PartSum;
-use aql_aggregate::{Accumulator, AggregateKind};
+use aql_aggregate::{Accumulator, AggregateKind, count_value, none_counted, one_more};
 use aql_value::{OutOfMemory, Value};
 use std::alloc::Global;
 

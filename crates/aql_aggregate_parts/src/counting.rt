@@ -1,29 +1,12 @@
-//! How many members there are.
+//! How many members there are, by the states of parts.
 
-ghost use Rattle.std.specs.Prelude.{◌≡◌, List, [], ◌∷◌, ◌++◌};
+ghost use Rattle.std.specs.Prelude.{◌≡◌, List, ◌++◌};
 ghost use Rattle.aql_value.specs.Datum.{Datum};
 ghost use Rattle.aql_value.specs.View.{datum_of};
 ghost use Rattle.aql_func.specs.Aggregates.{count_of};
 ghost use Rattle.aql_aggregate.specs.States.{Counts};
 
 use aql_value::Value;
-
-/// A count of no members.
-pub(crate) fn none_counted() -> Option<i64>
-    ensures { Counts result [] }
-{
-    Some(0)
-}
-
-/// One member more. The count is lost where a number of 64 bits can't tell it.
-pub(crate) fn one_more(count: Option<i64>) -> Option<i64>
-    ensures { (ts : List Datum) (t : Datum) → Counts count ts → Counts result (ts ++ t ∷ []) }
-{
-    match count {
-        Some(count) => count.checked_add(1),
-        None => None,
-    }
-}
 
 /// As many members more as a state tells.
 pub(crate) fn more(count: Option<i64>, state: &Value) -> Option<i64>
@@ -36,15 +19,5 @@ pub(crate) fn more(count: Option<i64>, state: &Value) -> Option<i64>
             None => None,
         },
         _ => None,
-    }
-}
-
-/// The count as a value, null where it was lost.
-pub(crate) fn count_value(count: Option<i64>) -> Value
-    ensures { (ts : List Datum) → Counts count ts → datum_of result ≡ count_of ts }
-{
-    match count {
-        Some(count) => Value::Num(count),
-        None => Value::Null,
     }
 }

@@ -9,7 +9,8 @@ ghost use Rattle.aql_value.specs.Convert.{number_or_null};
 ghost use Rattle.aql_func.specs.Aggregates.{sum_of, sum_state};
 ghost use Rattle.aql_aggregate_parts.specs.Kept.{Sums};
 
-use crate::counting::{count_value, more, none_counted, one_more};
+use crate::counting::more;
+use aql_aggregate::{count_value, none_counted, one_more};
 use aql_value::{Items, OutOfMemory, Value, to_number, truthy};
 use std::alloc::Global;
 
