@@ -2,13 +2,13 @@
 //! in a queue, in the order of the plan's text; where it is empty the old one is copied.
 
 ghost use Rattle.std.specs.Prelude.{◌≡◌, ◌++◌, OnOk, IfOk, map, option_map};
-ghost use Rattle.aql_tree.specs.View.{tree, trees, maybe, key_part, let_part, aggregate_part};
+ghost use Rattle.aql_tree.specs.View.{tree, trees, key_part, let_part, aggregate_part};
 ghost use Rattle.aql_tree.specs.View.{into_part, aggregates as aggregate_trees, into_tree};
 ghost use Rattle.aql_meaning.specs.View.{end_tree, last_tree};
 ghost use Rattle.aql_plan.specs.Plan as spec;
 ghost use Rattle.aql_plan.specs.Nodes.{over, with_body};
 ghost use Rattle.aql_plan.specs.View.{plan_tree};
-ghost use Rattle.aql_rewrite_expr.specs.Parts.{list_parts, maybe_parts};
+ghost use Rattle.aql_rewrite_expr.specs.Parts.{list_parts};
 ghost use Rattle.aql_rewrite_expr.specs.OverParts.{first_or, after_first};
 ghost use Rattle.aql_rewrite_expr.specs.View.{lent, each_over, option_over, after_option};
 ghost use Rattle.aql_rewrite_plan.specs.NodeExprs.{end_exprs, last_exprs, aggregate_exprs, into_exprs};
@@ -17,10 +17,11 @@ ghost use Rattle.aql_rewrite_plan.specs.NodeExprs.{after_end, over_last as spec_
 ghost use Rattle.aql_rewrite_plan.specs.NodeViews.{after_each, keys_over, lets_over, aggregates_over};
 ghost use Rattle.aql_rewrite_plan.specs.NodeViews.{after_each_aggregate, into_over, plan_over};
 
-use aql_copy::{copy_expr, copy_ident, copy_texts};
+use aql_copy::{copy_colls, copy_expr, copy_ident, copy_maybe_texts, copy_texts};
 use aql_plan::{Edge, Last, Plan};
+use aql_rewrite_expr::add_maybe;
 use aql_tree::{AggregateItem, Expr, Into, Key, Let};
-use aql_value::{CollNo, CollNos, Names, OutOfMemory, Seq};
+use aql_value::{OutOfMemory, Seq};
 use std::alloc::Global;
 use std::collections::VecDeque;
 
@@ -32,19 +33,6 @@ fn add_exprs<'a>(to: &mut Vec<&'a Expr>, all: &'a [Expr]) -> Result<(), OutOfMem
         to.push(expr)?;
     }
     Ok(())
-}
-
-fn add_maybe<'a>(to: &mut Vec<&'a Expr>, expr: &'a Option<Expr>) -> Result<(), OutOfMemory>
-    ensures { OnOk result (map lent to.new.items ≡ map lent to.old.items
-        ++ maybe_parts (maybe (option_map tree expr.now))) }
-{
-    match expr {
-        Some(expr) => {
-            to.push(expr)?;
-            Ok(())
-        }
-        None => Ok(()),
-    }
 }
 
 fn add_keys<'a>(to: &mut Vec<&'a Expr>, keys: &'a [Key]) -> Result<(), OutOfMemory>
@@ -336,25 +324,6 @@ fn over_last(alloc: Global, queue: &mut VecDeque<Expr>, old: &Last) -> Result<La
     }
 }
 
-fn copy_colls(alloc: Global, colls: &[CollNo]) -> Result<CollNos, OutOfMemory>
-    ensures { IfOk result (λ cs. cs ≡ colls.now) }
-{
-    let mut all = Seq::new(alloc);
-    for coll in colls {
-        all.push(*coll)?;
-    }
-    Ok(all)
-}
-
-fn copy_attrs(alloc: Global, attrs: &Option<Names>) -> Result<Option<Names>, OutOfMemory>
-    ensures { IfOk result (λ a. a ≡ attrs.now) }
-{
-    match attrs {
-        Some(names) => Ok(Some(copy_texts(alloc, names.as_slice())?)),
-        None => Ok(None),
-    }
-}
-
 pub(crate) fn boxed(alloc: Global, plan: Plan) -> Result<Box<Plan>, OutOfMemory>
     ensures { IfOk result (λ b. plan_tree b.value ≡ plan_tree plan) }
 {
@@ -385,7 +354,7 @@ pub fn over_exprs(
             var: *var,
             coll: *coll,
             filter: over_maybe(alloc, queue, filter)?,
-            attrs: copy_attrs(alloc, attrs)?,
+            attrs: copy_maybe_texts(alloc, attrs)?,
             shard: *shard,
         }),
         Plan::Index {
@@ -407,7 +376,7 @@ pub fn over_exprs(
                 var: *var,
                 coll: *coll,
                 filter: over_maybe(alloc, queue, filter)?,
-                attrs: copy_attrs(alloc, attrs)?,
+                attrs: copy_maybe_texts(alloc, attrs)?,
                 shard: *shard,
                 index: *index,
                 equal,

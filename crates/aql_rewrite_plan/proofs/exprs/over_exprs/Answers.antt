@@ -32,11 +32,11 @@ returns-in_ok-over_list-in-Distribute c =
     (rw c.as_slice-in-Distribute.ensures (ap plan_tree c.in-Distribute.is)) c.in_ok-boxed-in-Distribute.ensures
     c.in_ok-over_list-in-Distribute.ensures.exprs
 
-pub returns-in_ok-copy_attrs-in-Index : goal.returns-in_ok-copy_attrs-in-Index
-returns-in_ok-copy_attrs-in-Index c =
+pub returns-in_ok-copy_maybe_texts-in-Index : goal.returns-in_ok-copy_maybe_texts-in-Index
+returns-in_ok-copy_maybe_texts-in-Index c =
     index_form (plan_tree c.args.node.now) _ (plan_tree c.args.below) (plan_tree c.in-Index.below.value)
     (Num c.in-Index.var) c.in-Index.coll.0 (option_map tree c.in-Index.filter)
-    (option_map tree c.in_ok-over_maybe-in-Index.field-0) c.in-Index.attrs c.in_ok-copy_attrs-in-Index.field-0
+    (option_map tree c.in_ok-over_maybe-in-Index.field-0) c.in-Index.attrs c.in_ok-copy_maybe_texts-in-Index.field-0
     c.in-Index.shard c.in-Index.index (map tree c.as_slice.result.now) (map tree c.in_ok-equal-in-Index.equal)
     (last_tree c.in-Index.last) (last_tree c.in_ok-last-in-Index.last) c.in-Index.ordered
     (map tree c.args.queue.now.items) (rw c.as_slice.ensures (ap plan_tree c.in-Index.is))
@@ -46,7 +46,7 @@ returns-in_ok-copy_attrs-in-Index c =
     (c.in_ok-over_maybe-in-Index.ensures.expr ∙ ap (option_over (option_map tree c.in-Index.filter))
     (c.in_ok-last-in-Index.ensures.left
     ∙ ap (after_last (last_tree c.in-Index.last)) c.in_ok-equal-in-Index.ensures.left))
-    c.in_ok-copy_attrs-in-Index.ensures
+    c.in_ok-copy_maybe_texts-in-Index.ensures
 
 pub returns-in_ok-over_into-in-Collect : goal.returns-in_ok-over_into-in-Collect
 returns-in_ok-over_into-in-Collect c =
