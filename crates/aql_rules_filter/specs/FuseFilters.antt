@@ -9,5 +9,5 @@ use Rattle.aql_rules_filter.specs.Conditions.{joined}
 
 pub data Fuses : Uses → Plan → Plan → Option Rename → Type 0 where
   fused : {us : Uses} {b : Plan} {lower upper : ExprTree}
-      → Fuses us (Over (Over b (Filter lower)) (Filter upper)) (Over b (Filter (joined (one_expr lower) upper)))
-      None
+      → Fuses us (Over (Over b (Filter lower)) (Filter upper))
+      (Over b (Filter (joined (one_expr lower) upper))) None

@@ -42,74 +42,14 @@ pub(crate) fn own_filter(node: &Plan) -> Option<&Option<Expr>>
 pub(crate) fn with_filter(node: Plan, cond: Expr) -> Plan
     ensures { plan_tree result ≡ plan_filtered (plan_tree node) (tree cond) }
 {
-    match node {
-        Plan::EnumerateCollection {
-            below,
-            var,
-            coll,
-            attrs,
-            shard,
-            ..
-        } => Plan::EnumerateCollection {
-            below,
-            var,
-            coll,
-            filter: Some(cond),
-            attrs,
-            shard,
-        },
-        Plan::Index {
-            below,
-            var,
-            coll,
-            attrs,
-            shard,
-            index,
-            equal,
-            last,
-            ordered,
-            ..
-        } => Plan::Index {
-            below,
-            var,
-            coll,
-            filter: Some(cond),
-            attrs,
-            shard,
-            index,
-            equal,
-            last,
-            ordered,
-        },
-        Plan::Traversal {
-            below,
-            vertex,
-            edge,
-            path,
-            min,
-            max,
-            direction,
-            start,
-            collections,
-            prune,
-            options,
-            ..
-        } => Plan::Traversal {
-            below,
-            vertex,
-            edge,
-            path,
-            min,
-            max,
-            direction,
-            start,
-            collections,
-            prune,
-            options,
-            filter: Some(cond),
-        },
-        other => other,
+    let mut node = node;
+    match &mut node {
+        Plan::EnumerateCollection { filter, .. } => *filter = Some(cond),
+        Plan::Index { filter, .. } => *filter = Some(cond),
+        Plan::Traversal { filter, .. } => *filter = Some(cond),
+        _ => {}
     }
+    node
 }
 
 /// The input and the condition of a Filter; `None` exactly at every other node.
@@ -136,72 +76,22 @@ pub(crate) fn filter_over(alloc: Global, below: Plan, cond: Expr) -> Result<Plan
 pub(crate) fn without_edge(node: Plan) -> Plan
     ensures { plan_tree result ≡ plan_without_edge (plan_tree node) }
 {
-    match node {
-        Plan::Traversal {
-            below,
-            vertex,
-            path,
-            min,
-            max,
-            direction,
-            start,
-            collections,
-            prune,
-            options,
-            filter,
-            ..
-        } => Plan::Traversal {
-            below,
-            vertex,
-            edge: None,
-            path,
-            min,
-            max,
-            direction,
-            start,
-            collections,
-            prune,
-            options,
-            filter,
-        },
-        other => other,
+    let mut node = node;
+    if let Plan::Traversal { edge, .. } = &mut node {
+        *edge = None;
     }
+    node
 }
 
 /// A Traversal without a variable for its paths.
 pub(crate) fn without_path(node: Plan) -> Plan
     ensures { plan_tree result ≡ plan_without_path (plan_tree node) }
 {
-    match node {
-        Plan::Traversal {
-            below,
-            vertex,
-            edge,
-            min,
-            max,
-            direction,
-            start,
-            collections,
-            prune,
-            options,
-            filter,
-            ..
-        } => Plan::Traversal {
-            below,
-            vertex,
-            edge,
-            path: None,
-            min,
-            max,
-            direction,
-            start,
-            collections,
-            prune,
-            options,
-            filter,
-        },
-        other => other,
+    let mut node = node;
+    if let Plan::Traversal { path, .. } = &mut node {
+        *path = None;
     }
+    node
 }
 
 /// The variable of the paths of a Traversal without a filter; `None` exactly where the node is

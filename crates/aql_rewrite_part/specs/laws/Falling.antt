@@ -46,5 +46,8 @@ module _ (size : Node → ℕ) (same : (f : ExprTree → ExprTree) (n : Node) �
       → total size q < total size p
   total_falls facts R law p q r whole h =
       (first_lowers false facts R (total size) (total size) total_lifts
-      (λ outer away us p q r placed g. record { falls = law us p q r g; stays = omega (arith, law us p q r g) })
+      (λ outer away us p q r placed g. record {
+        falls = law us p q r g;
+        stays = omega (arith, law us p q r g);
+      })
       h [] [] (whole_placed false facts p whole)).falls

@@ -55,7 +55,8 @@ from_same : (w : TraversalShape) (edge path : Option Ident) (es : List Datum) (p
     (id : Option (List ℕ)) (paths : List Path) → TraversesFrom (with_vars w edge path) es pruned id paths
     → TraversesFrom w es pruned id paths
 from_same w edge path es pruned None paths h = h
-from_same w edge path es pruned (Some id) paths h = by_same w edge path es pruned id w.options.vertices paths h
+from_same w edge path es pruned (Some id) paths h =
+    by_same w edge path es pruned id w.options.vertices paths h
 
 -- ---- what is tested
 
@@ -104,11 +105,12 @@ module _ (us : Uses) (prune keep : MaybeExpr) (w : TraversalShape) (edge path : 
           (zip rows starts) paths h
 
       rows_alike : (rows : List Row) (paths : List (List Path))
-          → AllZip (Agree all_uses) (with_paths db (with_vars w edge path) rows paths) (with_paths db w rows paths)
+          → AllZip (Agree all_uses) (with_paths db (with_vars w edge path) rows paths)
+          (with_paths db w rows paths)
       rows_alike rows paths = each_related (λ (r s : Row). r ≡ s) (Agree all_uses)
           (path_row db (with_vars w edge path)) (path_row db w)
-          (λ r s t e. subst (λ (q : Row). Agree all_uses (path_row db (with_vars w edge path) r t) (path_row db w q t))
-          e (agree r t))
+          (λ r s t e. subst (λ (q : Row). Agree all_uses (path_row db (with_vars w edge path) r t)
+          (path_row db w q t)) e (agree r t))
           rows rows (map (long_paths w) paths) (related_self (λ (r s : Row). r ≡ s) (λ r. refl) rows)
 
       pub traverses_alike : (rows out : List Row) (starts : List Datum)

@@ -49,22 +49,23 @@ fuses_refine facts _ _ _ _ (fused {us = us} {lower = lower} {upper = upper}) = �
 pub fuses_keep : (facts : Facts) (outer away : List Ident) (us : Uses) (p q : Plan) (r : Option Rename)
     → Placed false false facts outer away us p → Fuses us p q r
     → KeepsPlaced false false facts outer us p q r
-fuses_keep facts outer away _ _ _ _ placed (fused {us = us} {b = b} {lower = lower} {upper = upper}) = record {
-  suits = (placed.suits.0.0, tt);
-  shape = λ s out h.
-      let k = filter_shaped facts (Over b (Filter lower)) upper s out h in
-      let l = filter_shaped facts b lower (Rows false) refl k.2 in
-      subst (λ (t : Shape). Shaped facts (Over b (Filter (joined (one_expr lower) upper))) t) (sym k.0)
-      (plain_rows tt (joined_plain (one_expr lower) upper l.1 k.1) l.2);
-  found = (
-    placed.found.0.0,
-    joined_found (vars_of outer b) (one_expr lower) upper placed.found.0.1 placed.found.1,
-    refl,
-    tt,
-  );
-  vars = λ x used h. h;
-  fewer = λ x. omega arith;
-}
+fuses_keep facts outer away _ _ _ _ placed
+    (fused {us = us} {b = b} {lower = lower} {upper = upper}) = record {
+      suits = (placed.suits.0.0, tt);
+      shape = λ s out h.
+          let k = filter_shaped facts (Over b (Filter lower)) upper s out h in
+          let l = filter_shaped facts b lower (Rows false) refl k.2 in
+          subst (λ (t : Shape). Shaped facts (Over b (Filter (joined (one_expr lower) upper))) t) (sym k.0)
+          (plain_rows tt (joined_plain (one_expr lower) upper l.1 k.1) l.2);
+      found = (
+        placed.found.0.0,
+        joined_found (vars_of outer b) (one_expr lower) upper placed.found.0.1 placed.found.1,
+        refl,
+        tt,
+      );
+      vars = λ x used h. h;
+      fewer = λ x. omega arith;
+    }
 
 fuses_lower : (us : Uses) (p q : Plan) (r : Option Rename) → Fuses us p q r → filters q < filters p
 fuses_lower _ _ _ _ fused = omega arith

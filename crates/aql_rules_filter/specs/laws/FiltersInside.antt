@@ -158,7 +158,8 @@ moves_in_refine facts _ _ _ _ (into_enumerate {us = us} {x = x} {c = c} e) = λ 
       rows_agree us out,
     )
 moves_in_refine facts _ _ _ _
-    (into_index {us = us} {x = x} {index = index} {equal = equal} {last = last} {ordered = ordered} {c = c} e) =
+    (into_index {us = us} {x = x} {index = index} {equal = equal} {last = last} {ordered = ordered}
+    {c = c} e) =
     λ db meets start out g.
     let k = indexed_kept (world facts db) x index equal last ordered c g.0 out e g.2 in
     (out, (k.0, (g.0, g.1, k.1), k.2 ∙ sym (filtered c k.0)), rows_agree us out)

@@ -1,7 +1,8 @@
--- What a node gives for the rows at which a condition holds is what it gives for all rows, where the condition
--- holds: for nodes with which a Filter may swap places.
-use Rattle.std.proofs.Common.{◌≡◌, ◌∙◌, List, [], ◌∷◌, ◌++◌, map, Bool, true, false, true≢false, cond, refl, ap, sym, subst}
-use Rattle.std.specs.Prelude.{None, filter, zip, option_to_list, IsPermutation}
+-- What a node gives for the rows at which a condition holds is what it gives for all rows, where the
+-- condition holds: for nodes with which a Filter may swap places.
+use Rattle.std.proofs.Common.{◌≡◌, ◌∙◌, List, [], ◌∷◌, ◌++◌, map, Bool, true, false, true≢false, cond, refl, ap, sym, subst, ap₂}
+use Rattle.std.specs.Prelude.{None, filter, zip, option_to_list, IsPermutation, Option, Some, flat_map}
+use Rattle.std.specs.Ordering.{is_lt}
 use Rattle.std.specs.List.{AllZip}
 use Rattle.std.proofs.lemmas.List.Elements.{filter-append}
 use Rattle.aql_value.specs.Database.{Database}
@@ -43,7 +44,8 @@ module _ (c : ExprTree) where
   map_filter g same (row ∷ rows) =
       by (holds c row) (same row) ∙ ap (λ ys. cond (holds c (g row)) (g row ∷ ys) ys) (map_filter g same rows)
     where
-      by : (b : Bool) → holds c (g row) ≡ b → map g (cond b (row ∷ filter (holds c) rows) (filter (holds c) rows))
+      by : (b : Bool) → holds c (g row) ≡ b
+          → map g (cond b (row ∷ filter (holds c) rows) (filter (holds c) rows))
           ≡ cond (holds c (g row)) (g row ∷ map g (filter (holds c) rows)) (map g (filter (holds c) rows))
       by true e =
           ap (λ t. cond t (g row ∷ map g (filter (holds c) rows)) (map g (filter (holds c) rows))) (sym e)
@@ -76,7 +78,8 @@ module _ (c : ExprTree) where
       → (mid : List Row) × AllZip G rows mid × (out ≡ filter (holds c) mid)
   lifted G some same [] [] g = ([], tt, refl)
   lifted G some same [] (y ∷ out) g = absurd g
-  lifted G some same (row ∷ rows) out g = by (holds c row) refl out g (λ more k. lifted G some same rows more k)
+  lifted G some same (row ∷ rows) out g =
+      by (holds c row) refl out g (λ more k. lifted G some same rows more k)
     where
       by : (b : Bool) → holds c row ≡ b → (out : List Row)
           → AllZip G (cond b (row ∷ filter (holds c) rows) (filter (holds c) rows)) out
@@ -102,7 +105,8 @@ module _ (c : ExprTree) where
 
   -- ---- rows with paths
 
-  module _ (db : Database) (w : TraversalShape) (es : List Datum) (prune : Row → Bool) (start : ExprTree) where
+  module _ (db : Database) (w : TraversalShape) (es : List Datum) (prune : Row → Bool)
+      (start : ExprTree) where
     abbrev Walked : Row × Datum → List Path → Type 0
     Walked from paths = TraversesFrom w es (λ t. prune (path_row db w from.0 t)) (id_text from.1) paths
 
@@ -120,7 +124,8 @@ module _ (c : ExprTree) where
     path_holds u row t =
         let v = first_unused w.vertex (option_to_list w.edge ++ option_to_list w.path) (uses c) u in
         let s = unused_split (option_to_list w.edge) (option_to_list w.path) (uses c) v.1 in
-        holds_maybe c w.path (bind_maybe w.edge (bind w.vertex row (vertex_of db (end_of t))) (last_edge t.steps))
+        holds_maybe c w.path
+        (bind_maybe w.edge (bind w.vertex row (vertex_of db (end_of t))) (last_edge t.steps))
         (path_value db t) s.1
         ∙ holds_maybe c w.edge (bind w.vertex row (vertex_of db (end_of t))) (last_edge t.steps) s.0
         ∙ holds_still c w.vertex row (vertex_of db (end_of t)) v.0
@@ -193,7 +198,8 @@ module _ (c : ExprTree) where
           ≡ filter (λ (k : KeyedRow). holds c k.1) (zip (map (keys_of es) rows) rows)
           → zip (map (keys_of es) (cond b (row ∷ filter (holds c) rows) (filter (holds c) rows)))
           (cond b (row ∷ filter (holds c) rows) (filter (holds c) rows))
-          ≡ cond b ((keys_of es row, row) ∷ filter (λ (k : KeyedRow). holds c k.1) (zip (map (keys_of es) rows) rows))
+          ≡ cond b ((keys_of es row, row)
+          ∷ filter (λ (k : KeyedRow). holds c k.1) (zip (map (keys_of es) rows) rows))
           (filter (λ (k : KeyedRow). holds c k.1) (zip (map (keys_of es) rows) rows))
       by true e = ap (λ ks. (keys_of es row, row) ∷ ks) e
       by false e = e
@@ -218,7 +224,8 @@ pub filter_after : (n : Node) (c : ExprTree) (w : World) (start : Row) (rows out
     → Gives n w Outside start (filter (holds c) rows) out
     → (mid : List Row) × Gives n w Outside start rows mid × (out ≡ filter (holds c) mid)
 filter_after (EnumerateCollection x) c w start rows out l u g =
-    let f = λ (row : Row). documents_kept x.var (passes x.filter) x.attrs row (read w x.coll x.shard Outside) in
+    let f = λ (row : Row).
+    documents_kept x.var (passes x.filter) x.attrs row (read w x.coll x.shard Outside) in
     let v = first_unused x.var [] (uses c) u in
     filter_of (holds c) (with_each (bind x.var) rows (map f rows)) out
     (subst (λ (xs : List Row). IsPermutation xs out)
@@ -228,7 +235,8 @@ filter_after (EnumerateList x e) c w start rows out l u g =
       with_elements x rows (values_of e rows),
       refl,
       g ∙ elements_each c x e (filter (holds c) rows)
-          ∙ each_filter c (bind x) (λ row. elements (value_of e row)) (λ row d. holds_still c x row d v.0) rows
+          ∙ each_filter c (bind x) (λ row. elements (value_of e row))
+          (λ row d. holds_still c x row d v.0) rows
           ∙ ap (filter (holds c)) (sym (elements_each c x e rows)),
     )
 filter_after (Traversal shape e colls prune keep) c w start rows out l u g =
@@ -244,7 +252,8 @@ filter_after (Calculation x e) c w start rows out l u g =
       with_values x rows (values_of e rows),
       refl,
       g ∙ values_map c x e (filter (holds c) rows)
-          ∙ map_filter c (λ row. bind x row (value_of e row)) (λ row. holds_still c x row (value_of e row) v.0) rows
+          ∙ map_filter c (λ row. bind x row (value_of e row))
+          (λ row. holds_still c x row (value_of e row) v.0) rows
           ∙ ap (filter (holds c)) (sym (values_map c x e rows)),
     )
 filter_after (Subquery x s) c w start rows out l u g =

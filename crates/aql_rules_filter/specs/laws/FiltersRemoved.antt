@@ -37,7 +37,11 @@ removes_refine facts _ _ _ _ (passing {us = us} {v = v} e) = λ db meets start o
 removes_refine facts _ _ _ _ (failing {us = us} {b = b} {v = v} e) = λ db meets start out g.
     let some = some_run b (world facts db) Outside start in (
       out,
-      (some.0, some.1, g ∙ sym (filtered (literal v) some.0 ∙ none_pass (holds (literal v)) (λ row. e) some.0)),
+      (
+        some.0,
+        some.1,
+        g ∙ sym (filtered (literal v) some.0 ∙ none_pass (holds (literal v)) (λ row. e) some.0),
+      ),
       rows_agree us out,
     )
 

@@ -1,14 +1,12 @@
 -- A Filter that swaps places with the node below it.
-use Rattle.std.proofs.Common.{◌≡◌, ◌∙◌, ◌<◌, ◌+◌, List, [], ◌∷◌, true, false, true≢false, refl, ap, sym, subst, subst₂, arith}
-use Rattle.std.specs.Prelude.{◌&&◌, Option, Some, None}
+use Rattle.std.proofs.Common.{◌≡◌, ◌∙◌, ◌<◌, ◌+◌, List, [], ◌∷◌, true, false, true≢false, refl, ap, sym, subst, subst₂, arith, ℕ, ◌++◌, Bool}
+use Rattle.std.specs.Prelude.{◌&&◌, Option, Some, None, filter}
 use Rattle.std.specs.List.{list_any, AllZip}
 use Rattle.std.proofs.lemmas.Bool.{and_parts, and_from}
 use Rattle.aql_tree.specs.declared.syntax.Ident.{Ident}
-use Rattle.aql_tree.specs.declared.syntax.Ident.TheVariants.{Num}
-use Rattle.aql_tree.specs.Tree.{ExprTree, variable}
+use Rattle.aql_tree.specs.Tree.{ExprTree}
 use Rattle.aql_meaning.specs.AtRows.{values_of}
 use Rattle.aql_meaning.specs.Clauses.{filter_true}
-use Rattle.aql_meaning.specs.Places.{put}
 use Rattle.aql_meaning.specs.Plain.{IsPlain}
 use Rattle.aql_meaning.specs.Row.{Row, same_ident}
 use Rattle.aql_meaning.specs.Uses.{Uses, Agree, uses}
@@ -25,10 +23,10 @@ use Rattle.aql_plan.specs.Shapes.{Shape, Rows, Shaped, calculated, with_subquery
 use Rattle.aql_plan.specs.Variables.{vars_of, FindsAll}
 use Rattle.aql_plan.specs.laws.Agreement.{rows_agree}
 use Rattle.aql_rewrite_plan.specs.declared.swap.Rename.{Rename}
-use Rattle.aql_rewrite_plan.specs.Places.{renamed_by, First}
+use Rattle.aql_rewrite_plan.specs.Places.{First}
 use Rattle.aql_rewrite_plan.specs.Placed.{Placed, IsWhole}
-use Rattle.aql_rewrite_plan.specs.Swaps.{Replaced, KeepsPlaced}
-use Rattle.aql_rewrite_plan.specs.laws.Carried.{Lowers, Lifts, first_lowers}
+use Rattle.aql_rewrite_plan.specs.Swaps.{Replaced, KeepsPlaced, Kept, SetsNoMore}
+use Rattle.aql_rewrite_plan.specs.laws.Carried.{Lowers, Lifts, first_lowers, renamed_lowers}
 use Rattle.aql_rewrite_plan.specs.laws.PlacedBelow.{whole_placed}
 use Rattle.aql_rules_filter.specs.MoveFiltersUp.{may_swap, none_used, MovesUp, swapped, others_below, height}
 use Rattle.aql_rules_filter.specs.Readers.{filter_in}
@@ -72,7 +70,8 @@ swap_refines us facts b c n l u = absurd (true≢false (sym l))
 
 pub moves_up_refine : (facts : Facts) (us : Uses) (p q : Plan) (r : Option Rename) → MovesUp us p q r
     → Replaced false facts us p q r
-moves_up_refine facts _ _ _ _ (swapped {us = us} {b = b} {n = n} {c = c} l u) = swap_refines us facts b c n l u
+moves_up_refine facts _ _ _ _ (swapped {us = us} {b = b} {n = n} {c = c} l u) =
+    swap_refines us facts b c n l u
 
 -- ---- a well-formed plan stays so
 
@@ -89,12 +88,15 @@ swap_shaped facts b n c l plain (finishing f h) = absurd (true≢false (sym l))
 pub moves_up_keep : (facts : Facts) (outer away : List Ident) (us : Uses) (p q : Plan) (r : Option Rename)
     → Placed false false facts outer away us p → MovesUp us p q r
     → KeepsPlaced false false facts outer us p q r
-moves_up_keep facts outer away _ _ _ _ placed (swapped {us = us} {b = b} {n = n} {c = c} l u) = by n l u placed
+moves_up_keep facts outer away _ _ _ _ placed (swapped {us = us} {b = b} {n = n} {c = c} l u) =
+    by n l u placed
   where
-    kept_by : (n : Node) → may_swap n ≡ true → Placed false false facts outer away us (Over (Over b n) (Filter c))
+    kept_by : (n : Node) → may_swap n ≡ true
+        → Placed false false facts outer away us (Over (Over b n) (Filter c))
         → FindsAll outer (Over (Over b (Filter c)) n)
         → vars_of outer (Over (Over b (Filter c)) n) ≡ vars_of outer (Over b n)
-        → KeepsPlaced false false facts outer us (Over (Over b n) (Filter c)) (Over (Over b (Filter c)) n) None
+        → KeepsPlaced false false facts outer us (Over (Over b n) (Filter c))
+        (Over (Over b (Filter c)) n) None
     kept_by n l placed found e = record {
       suits = ((placed.suits.0.0, tt), placed.suits.0.1);
       shape = λ s out h.
@@ -108,7 +110,8 @@ moves_up_keep facts outer away _ _ _ _ placed (swapped {us = us} {b = b} {n = n}
 
     by : (n : Node) → may_swap n ≡ true → none_used (sets n) (uses c) ≡ true
         → Placed false false facts outer away us (Over (Over b n) (Filter c))
-        → KeepsPlaced false false facts outer us (Over (Over b n) (Filter c)) (Over (Over b (Filter c)) n) None
+        → KeepsPlaced false false facts outer us (Over (Over b n) (Filter c))
+        (Over (Over b (Filter c)) n) None
     by (EnumerateCollection x) l u placed =
         let f = placed.found in kept_by (EnumerateCollection x) l placed (
           (f.0.0, among_others (uses c) (x.var ∷ []) (vars_of outer b) u f.1, refl, tt),
@@ -125,7 +128,12 @@ moves_up_keep facts outer away _ _ _ _ placed (swapped {us = us} {b = b} {n = n}
         ) refl
     by (Traversal w e colls prune keep) l u placed =
         let f = placed.found in kept_by (Traversal w e colls prune keep) l placed (
-          (f.0.0, among_others (uses c) (sets (Traversal w e colls prune keep)) (vars_of outer b) u f.1, refl, tt),
+          (
+            f.0.0,
+            among_others (uses c) (sets (Traversal w e colls prune keep)) (vars_of outer b) u f.1,
+            refl,
+            tt,
+          ),
           f.0.1,
           f.0.2,
           f.0.3,
@@ -182,17 +190,9 @@ over_mapped : (f : ExprTree → ExprTree) (d : Plan) (n : Node)
 over_mapped f d (Subquery x s) = (omega (arith, height_mapped f s), refl)
 over_mapped f d n = (refl, refl)
 
-renamed_lowers : (b d : Plan) (n : Node) (r : Option Rename) → Lowers height others_below b d
-    → Lowers height others_below (Over b n) (Over d (renamed_by r n))
-renamed_lowers b d n None h = over_lowers b d n h
-renamed_lowers b d n (Some r) h =
-    let k = over_lowers b d n h in
-    let e = over_mapped (put (Num r.from) (variable (Num r.to))) d n in
-    record { falls = omega (arith, k.falls, e.0); stays = omega (arith, k.stays, e.1) }
-
 height_lifts : Lifts height others_below
 height_lifts = record {
-  over = renamed_lowers;
+  over = renamed_lowers height others_below over_lowers over_mapped;
   with = λ b s t x h. record { falls = omega (arith, h.falls); stays = omega arith };
 }
 

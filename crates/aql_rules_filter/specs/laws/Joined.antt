@@ -170,7 +170,8 @@ module _ (xs : List Ident) where
   links_found (link_then op e ls) h =
       let k = among_split (uses e) (link_uses ls) xs h in (k.0, links_found ls k.1)
 
-  and_found : (es : List ExprTree) → AllByRecursion IsFound es → are_among (link_uses (and_links es)) xs ≡ true
+  and_found : (es : List ExprTree) → AllByRecursion IsFound es
+      → are_among (link_uses (and_links es)) xs ≡ true
   and_found [] h = refl
   and_found (e ∷ es) h = among_join (uses e) (link_uses (and_links es)) xs h.0 (and_found es h.1)
 

@@ -56,7 +56,8 @@ optimizes_refine facts _ _ _ _
       subst (λ (rows : List Row). AllZip (Agree us) rows (filter (passes keep) l.0)) (sym g.2.2) l.2,
     )
 optimizes_refine facts _ _ _ _
-    (path_goes {us = us} w {x = x} {edge = edge} {e = e} {colls = colls} {prune = prune} {keep = keep} i h k) =
+    (path_goes {us = us} w {x = x} {edge = edge} {e = e} {colls = colls} {prune = prune} {keep = keep}
+    i h k) =
     λ db meets start out g.
     let l = traverses_alike us prune keep (with_vars w edge (Some x)) edge None db (edges_in db colls)
     (without_path_agrees us prune keep w x edge db (neither_used x us (tests_use prune keep) h k))
@@ -165,8 +166,8 @@ optimizes_keep facts outer away _ _ _ _ placed
         subst (λ (ys : List Ident). are_among (tests_use prune keep) ys ≡ true)
             (sym (without (vars_of outer b)))
             (among_left (tests_use prune keep) x first (vars_of outer b) k
-            (subst (λ (ys : List Ident). are_among (tests_use prune keep) ys ≡ true) (together (vars_of outer b))
-            placed.found.2)),
+            (subst (λ (ys : List Ident). are_among (tests_use prune keep) ys ≡ true)
+            (together (vars_of outer b)) placed.found.2)),
         tt,
       );
       vars = λ z used m. subst (λ (ys : List Ident). has z ys ≡ true) (sym (without (vars_of outer b)))

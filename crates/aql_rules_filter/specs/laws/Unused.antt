@@ -37,7 +37,8 @@ agree_unused (u ∷ us) x row v h =
 -- a condition does not look at what it does not use
 pub holds_still : (c : ExprTree) (x : Ident) (row : Row) (v : Datum) → is_used x (uses c) ≡ false
     → holds c (bind x row v) ≡ holds c row
-holds_still c x row v h = ap truth (sym (value_same c null row (bind x row v) (agree_unused (uses c) x row v h)))
+holds_still c x row v h =
+    ap truth (sym (value_same c null row (bind x row v) (agree_unused (uses c) x row v h)))
 
 pub first_unused : (x : Ident) (xs : List Ident) (us : Uses) → none_used (x ∷ xs) us ≡ true
     → (is_used x us ≡ false) × (none_used xs us ≡ true)
