@@ -1,17 +1,15 @@
 -- A Calculation or a Subquery that swaps places with the node below it.
 use Rattle.std.proofs.Common.{◌≡◌, ◌∙◌, ℕ, ◌+◌, ◌<◌, ◌≤◌, List, [], ◌∷◌, ◌++◌, map, append-nil, Bool, true, false, true≢false, refl, ap, ap₂, sym, subst, subst₂, arith}
-use Rattle.std.specs.Prelude.{Option, Some, None, ◌||◌, not}
+use Rattle.std.specs.Prelude.{Option, None, ◌||◌, not}
 use Rattle.std.specs.List.{AllZip, AllByRecursion}
 use Rattle.std.proofs.lemmas.Bool.{or_right, and_parts, not-true}
 use Rattle.std.proofs.lemmas.List.Folds.{list_any-append}
 use Rattle.aql_value.specs.Datum.{Datum, null}
 use Rattle.aql_value.specs.Parts.{list}
 use Rattle.aql_tree.specs.declared.syntax.Ident.{Ident}
-use Rattle.aql_tree.specs.declared.syntax.Ident.TheVariants.{Num}
 use Rattle.aql_tree.specs.Tree.{TraversalShape, ExprTree, variable, ExprTrees, MaybeExpr}
 use Rattle.aql_meaning.specs.AtRows.{value_of, values_of}
 use Rattle.aql_meaning.specs.Clauses.{with_values}
-use Rattle.aql_meaning.specs.Places.{put}
 use Rattle.aql_meaning.specs.Row.{Row, bind, same_ident}
 use Rattle.aql_meaning.specs.Uses.{Uses, uses, maybe_uses, all_uses}
 use Rattle.aql_meaning.specs.laws.Agrees.{value_same}
@@ -31,11 +29,11 @@ use Rattle.aql_plan.specs.laws.FoundMapped.{NodeFinds, node_still}
 use Rattle.aql_plan.specs.laws.ShapesKept.{KeepsShape}
 use Rattle.aql_rewrite_plan.specs.declared.swap.Rename.{Rename}
 use Rattle.aql_rewrite_plan.specs.Nodes.{uses_alone}
-use Rattle.aql_rewrite_plan.specs.Places.{renamed_by, First}
+use Rattle.aql_rewrite_plan.specs.Places.{First}
 use Rattle.aql_rewrite_plan.specs.Placed.{IsWhole, Placed}
 use Rattle.aql_rewrite_plan.specs.Swaps.{is_used, Replaced, Kept, KeepsPlaced}
 use Rattle.aql_rewrite_plan.specs.laws.Among.{has}
-use Rattle.aql_rewrite_plan.specs.laws.Carried.{Lowers, Lifts, first_lowers}
+use Rattle.aql_rewrite_plan.specs.laws.Carried.{Lowers, Lifts, renamed_lowers, first_lowers}
 use Rattle.aql_rewrite_plan.specs.laws.Levels.{used_either}
 use Rattle.aql_rewrite_plan.specs.laws.PlacedBelow.{whole_placed}
 use Rattle.aql_rules_calc.specs.MoveCalculationsUp.{enumerates, enumerates_or_sorts, may_pass, none_used, Moves, swapped, others_below, height}
@@ -377,17 +375,9 @@ over_lowers b d (Calculation x e) h = record { falls = omega (arith, h.falls, h.
 over_lowers b d (Subquery x s) h = record { falls = omega (arith, h.falls, h.stays); stays = h.stays }
 over_lowers b d n h = record { falls = h.falls; stays = omega (arith, h.stays) }
 
-renamed_lowers : (b d : Plan) (n : Node) (r : Option Rename) → Lowers height others_below b d
-    → Lowers height others_below (Over b n) (Over d (renamed_by r n))
-renamed_lowers b d n None h = over_lowers b d n h
-renamed_lowers b d n (Some r) h =
-    let k = over_lowers b d n h in
-    let e = over_mapped (put (Num r.from) (variable (Num r.to))) d n in
-    record { falls = omega (arith, k.falls, e.0); stays = omega (arith, k.stays, e.1) }
-
 height_lifts : Lifts height others_below
 height_lifts = record {
-  over = renamed_lowers;
+  over = renamed_lowers height others_below over_lowers over_mapped;
   with = λ b s t x h. record { falls = omega (arith, h.falls); stays = omega arith };
 }
 

@@ -52,8 +52,8 @@ same_needs (Over b n) us vs h = same_needs b (under n us) (under n vs) (same_und
 same_over : (b c : Plan) (n : Node) (us : Uses) → SameUsed (needs b (under n us)) (needs c (under n us))
     → SameUsed (needs (Over b n) us) (needs (Over c n) us)
 same_over b c (Collect xs es gs i s) us h =
-    same_append (needs b (under (Collect xs es gs i s) us)) (needs c (under (Collect xs es gs i s) us)) us us h
-    (λ x. refl)
+    same_append (needs b (under (Collect xs es gs i s) us))
+    (needs c (under (Collect xs es gs i s) us)) us us h (λ x. refl)
 same_over b c n us h = h
 
 -- ---- two nodes that swap places
@@ -86,7 +86,8 @@ swap_needs : (b : Plan) (upper lower : Node) (us : Uses) → may_pass upper lowe
 swap_needs b upper lower us h x =
     ap (is_used x) (plain_needs (Over b lower) upper us (old_upper upper lower h)
     ∙ plain_needs b lower (uses_alone upper ++ us) (old_lower upper lower h))
-    ∙ same_needs b (uses_alone lower ++ (uses_alone upper ++ us)) (uses_alone upper ++ (uses_alone lower ++ us))
+    ∙ same_needs b (uses_alone lower ++ (uses_alone upper ++ us))
+    (uses_alone upper ++ (uses_alone lower ++ us))
     (same_turned (uses_alone lower) (uses_alone upper) us) x
     ∙ sym (ap (is_used x) (plain_needs (Over b upper) lower us (old_lower upper lower h)
     ∙ plain_needs b upper (uses_alone lower ++ us) (old_upper upper lower h)))
