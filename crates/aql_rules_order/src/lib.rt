@@ -1,4 +1,5 @@
-//! Rules on sorts, subqueries and what COLLECT sets: each stands in the file of the name that plans print.
+//! Rules on sorts, subqueries and what COLLECT sets: each stands in the file of the name that
+//! plans print.
 #![tactic(auto)]
 
 mod inline_subqueries;

@@ -20,7 +20,8 @@ use aql_value::OutOfMemory;
 use std::alloc::Global;
 
 fn are_constant(alloc: Global, keys: &[Key]) -> Result<bool, OutOfMemory>
-    ensures { IfOk result (λ answer. IsTrue answer ↔ AreConstant (list_parts (key_trees keys.now))) }
+    ensures { IfOk result
+        (λ answer. IsTrue answer ↔ AreConstant (list_parts (key_trees keys.now))) }
 {
     for key in keys {
         if !is_constant(alloc, &key.expr)? {

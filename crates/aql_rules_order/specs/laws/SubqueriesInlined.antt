@@ -173,7 +173,8 @@ module _ (us : Uses) (r : Row) where
       (rows_agree_with facts w h l lone.0 (back_unused (x ∷ vars_set s) (vars_set b) u)) rows g
   rows_agree_with facts w (plain_rows {b = b} {n = n} i f h) l lone u rows g =
       over_agrees facts w b n (no_new_rows b n i l) lone.1 u
-      (rows_agree_with facts w h (collect_below b n l) lone.0 (back_unused (set_once n) (vars_set b) u)) rows g
+      (rows_agree_with facts w h (collect_below b n l) lone.0
+      (back_unused (set_once n) (vars_set b) u)) rows g
   rows_agree_with facts w (ordered_rows {b = b} {x = x} {index = index} {equal = equal} {last = last}
       {descending = descending} i f h) l lone u rows g =
       over_agrees facts w b (Index x index equal last (Some descending)) refl lone.1 u
@@ -201,9 +202,11 @@ module _ {facts : Facts} {outer away : List Ident} {us : Uses} {p b : Plan} {s x
       (none_in y (away ++ (x ∷ s ∷ vars_of outer p)) (omega (arith, h, c, d, o, m, k, v))) placed.used
 
 each_agrees : (us : Uses) (r given : Row) (rows : List Row) → Agree us r given
-    → AllByRecursion (λ (row : Row). Agree us row r) rows → AllByRecursion (λ (row : Row). Agree us row given) rows
+    → AllByRecursion (λ (row : Row). Agree us row r) rows
+    → AllByRecursion (λ (row : Row). Agree us row given) rows
 each_agrees us r given [] h k = tt
-each_agrees us r given (row ∷ rows) h k = (agree_through us row r given k.0 h, each_agrees us r given rows h k.1)
+each_agrees us r given (row ∷ rows) h k =
+    (agree_through us row r given k.0 h, each_agrees us r given rows h k.1)
 
 -- the body has rows below its Return
 body_rows : (facts : Facts) (p b : Plan) (s x : Ident) (e : ExprTree) (t : Shape) → is_inside t ≡ false
@@ -257,7 +260,8 @@ single_shaped : (facts : Facts) (p : Plan) → is_single p ≡ true → Shaped f
 single_shaped facts Singleton h k = one_row
 single_shaped facts (Over b (Calculation x e)) h (calculated f k) = calculated f (single_shaped facts b h k)
 single_shaped facts (Over b (Calculation x e)) h (plain_rows i f k) = absurd i
-single_shaped facts (Over b (Subquery x s)) h (with_subquery g k) = with_subquery g (single_shaped facts b h k)
+single_shaped facts (Over b (Subquery x s)) h (with_subquery g k) =
+    with_subquery g (single_shaped facts b h k)
 single_shaped facts (Over b (Subquery x s)) h (plain_rows i f k) = absurd i
 single_shaped facts (Over b n) h k = absurd (true≢false (sym h))
 
@@ -306,7 +310,8 @@ found_from outer p (Over b n) l h k =
     let m = subst (λ (xs : List Ident). NodeFinds xs n) (sym (vars_from outer p b c)) (k.1, k.2, k.3) in
     (found_from outer p b c h k.0, m.0, m.1, m.2)
 
-set_from : (z : Ident) (p b : Plan) → count z (vars_set (started_from p b)) ≡ count z (vars_set b) + count z (vars_set p)
+set_from : (z : Ident) (p b : Plan)
+    → count z (vars_set (started_from p b)) ≡ count z (vars_set b) + count z (vars_set p)
 set_from z p Singleton = omega arith
 set_from z p (Over b n) = omega (
   arith,
