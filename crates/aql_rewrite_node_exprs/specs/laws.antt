@@ -13,4 +13,4 @@ pub mod Rewritten
 pub mod StepByStep
 pub mod Ended
 pub mod PlansEnded
-pub mod PassEnded
+pub mod PassSteps

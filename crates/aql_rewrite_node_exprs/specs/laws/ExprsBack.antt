@@ -12,7 +12,8 @@ use Rattle.aql_rewrite_plan.specs.NodeExprs.{end_exprs, last_exprs, aggregate_ex
 
 -- ---- the expressions of a part over others, with those that come later
 
-each_append : (es fs gs ps : List ExprTree) → each_over ((es ++ fs) ++ gs) ps ≡ each_over (es ++ (fs ++ gs)) ps
+each_append : (es fs gs ps : List ExprTree)
+    → each_over ((es ++ fs) ++ gs) ps ≡ each_over (es ++ (fs ++ gs)) ps
 each_append es fs gs ps = ap (λ ds. each_over ds ps) (append_assoc es fs gs)
 
 list_back : (es : ExprTrees) (fs ds ps : List ExprTree) → ds ≡ each_over fs (after_list es ps)
@@ -40,18 +41,21 @@ last_back (between low high) fs ds ps h =
     (end_back high fs ds (after_end low ps) h)
     ∙ sym (each_append (end_exprs low) (end_exprs high) fs ps)
 
-aggregates_back : (gs : AggregateTrees) (fs ds ps : List ExprTree) → ds ≡ each_over fs (after_aggregates gs ps)
+aggregates_back : (gs : AggregateTrees) (fs ds ps : List ExprTree)
+    → ds ≡ each_over fs (after_aggregates gs ps)
     → aggregate_exprs (over_aggregates gs ps) ++ ds ≡ each_over (aggregate_exprs gs ++ fs) ps
 aggregates_back no_aggregates fs ds ps h = h
 aggregates_back (aggregate_then x name e rest) fs ds ps h =
-    append_assoc (maybe_parts (over_maybe e ps)) (aggregate_exprs (over_aggregates rest (after_maybe e ps))) ds
+    append_assoc (maybe_parts (over_maybe e ps))
+    (aggregate_exprs (over_aggregates rest (after_maybe e ps))) ds
     ∙ maybe_back e (aggregate_exprs rest ++ fs)
     (aggregate_exprs (over_aggregates rest (after_maybe e ps)) ++ ds) ps
     (aggregates_back rest fs ds (after_maybe e ps) h)
     ∙ sym (each_append (maybe_parts e) (aggregate_exprs rest) fs ps)
 
 -- where none come later
-list_alone : (es : ExprTrees) (ps : List ExprTree) → list_parts (over_list es ps) ≡ each_over (list_parts es) ps
+list_alone : (es : ExprTrees) (ps : List ExprTree)
+    → list_parts (over_list es ps) ≡ each_over (list_parts es) ps
 list_alone no_exprs ps = refl
 list_alone (expr_then e es) ps = ap (λ xs. first_or e ps ∷ xs) (list_alone es (after_first ps))
 
@@ -73,7 +77,8 @@ exprs_back (Index x index equal last ordered) ps =
     let rs = after_last last qs in
     list_back equal (last_exprs last ++ maybe_parts x.filter)
     (last_exprs (over_last last qs) ++ maybe_parts (over_maybe x.filter rs)) ps
-    (last_back last (maybe_parts x.filter) (maybe_parts (over_maybe x.filter rs)) qs (maybe_alone x.filter rs))
+    (last_back last (maybe_parts x.filter) (maybe_parts (over_maybe x.filter rs)) qs
+    (maybe_alone x.filter rs))
 exprs_back (EnumerateList x e) ps = refl
 exprs_back (Traversal w e colls prune keep) ps =
     let qs = after_first ps in

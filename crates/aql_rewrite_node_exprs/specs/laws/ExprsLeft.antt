@@ -35,5 +35,6 @@ module _ (P : ExprTree → ExprTree → Type 0) where
       → AllZip P (aggregate_exprs gs ++ fs) ps → AllZip P fs (after_aggregates gs ps)
   after_aggregates_left no_aggregates fs ps h = h
   after_aggregates_left (aggregate_then x name e rest) fs ps h =
-      after_aggregates_left rest fs (after_maybe e ps) (after_maybe_related P e (aggregate_exprs rest ++ fs) ps
+      after_aggregates_left rest fs (after_maybe e ps)
+      (after_maybe_related P e (aggregate_exprs rest ++ fs) ps
       (regrouped P (maybe_parts e) (aggregate_exprs rest) fs ps h))

@@ -53,8 +53,8 @@ keys_equal es fs ps h = fun_ext (same_list es fs ps h)
 
 -- ---- an index
 
-bounds_equal : (w : World) (place : Place) (x : Reading) (index : ℕ) (equal : ExprTrees) (last : Last ExprTree)
-    (ps qs : List ExprTree)
+bounds_equal : (w : World) (place : Place) (x : Reading) (index : ℕ) (equal : ExprTrees)
+    (last : Last ExprTree) (ps qs : List ExprTree)
     → ((row : Row) → keys_of (over_list equal ps) row ≡ keys_of equal row)
     → ((row : Row) → last_map (λ d. value_of d row) (over_last last qs) ≡ last_map (λ d. value_of d row) last)
     → read_in_bounds w place x index (over_list equal ps) (over_last last qs)
@@ -92,8 +92,8 @@ grouped_same xs es gs i ps h start rows out g =
       arguments = same_arguments gs (into_exprs i) qs k row j;
       into_value = same_taken i [] rs l row j;
     }) in
-    subst (λ (f : Row → GroupedRow). Collects xs (aggregate_vars gs) (functions_by aggregate_of gs) (into_var i)
-    start (map f rows) out) at_row
+    subst (λ (f : Row → GroupedRow). Collects xs (aggregate_vars gs) (functions_by aggregate_of gs)
+    (into_var i) start (map f rows) out) at_row
     (subst (λ (o : Option Ident). Collects xs (aggregate_vars gs) (functions_by aggregate_of gs) o start
     (map (grouped_row_at stage.Whole xs (over_list es ps) (over_aggregates gs qs) (over_into i rs)) rows) out)
     into
@@ -115,7 +115,8 @@ module _ (w : World) (place : Place) (start : Row) (rows out : List Row) where
       → Scanned x.var (passes x.filter) x.attrs documents rows out
   scan_same x qs documents others e d g = subst
       (λ (f : Row → Bool). Scanned x.var f x.attrs documents rows out) e
-      (subst (λ (f : Row → List Datum). Scanned x.var (passes (over_maybe x.filter qs)) x.attrs f rows out) d g)
+      (subst (λ (f : Row → List Datum). Scanned x.var (passes (over_maybe x.filter qs)) x.attrs f rows out)
+      d g)
 
   order_same : (x : Reading) (names : List (List ℕ)) (descending : Bool) (qs : List ExprTree)
       (documents others : Row → List Datum)

@@ -34,7 +34,8 @@ module _ (P : ExprTree → ExprTree → Type 0) where
   pub alone : (es ps : List ExprTree) → AllZip P es ps → AllZip P (es ++ []) ps
   alone es ps h = subst (λ (ds : List ExprTree). AllZip P ds ps) (sym (append-nil es)) h
 
-  pub regrouped : (es fs gs ps : List ExprTree) → AllZip P ((es ++ fs) ++ gs) ps → AllZip P (es ++ (fs ++ gs)) ps
+  pub regrouped : (es fs gs ps : List ExprTree) → AllZip P ((es ++ fs) ++ gs) ps
+      → AllZip P (es ++ (fs ++ gs)) ps
   regrouped [] fs gs ps h = h
   regrouped (e ∷ es) fs gs [] h = absurd h
   regrouped (e ∷ es) fs gs (p ∷ ps) h = (h.0, regrouped es fs gs ps h.1)
