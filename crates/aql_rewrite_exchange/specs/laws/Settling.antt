@@ -1,5 +1,5 @@
--- Each node as far down as it may go, and then its body, from the lowest node up, is a way of applications each
--- at the first place.
+-- Each node as far down as it may go, and then its body, from the lowest node up, is a way of applications
+-- each at the first place.
 use Rattle.std.proofs.Common.{◌≡◌, ◌∙◌, ℕ, ◌+◌, Bool, true, false, true≢false, [], refl, ap, sym, subst, arith}
 use Rattle.std.specs.Prelude.{Option, None}
 use Rattle.aql_tree.specs.declared.syntax.Ident.{Ident}
