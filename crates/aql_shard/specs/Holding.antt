@@ -17,6 +17,7 @@ coded_tally = code_by (ℕ × (ℕ × ℕ)) (coded× coded_ℕ (coded× coded_�
     (λ p. record { scanned_full = p.0; scanned_index = p.1.0; filtered = p.1.1 }) (λ _. refl)
 
 abbrev pub coded_holding : Coded Holding
-coded_holding = code_by (List Held × (ℕ × Tally)) (coded× (coded_list coded_held) (coded× coded_ℕ coded_tally))
+coded_holding = code_by (List Held × (ℕ × Tally))
+    (coded× (coded_list coded_held) (coded× coded_ℕ coded_tally))
     (λ h. (h.held, (h.servers, h.counts)))
     (λ p. record { held = p.0; servers = p.1.0; counts = p.1.1 }) (λ _. refl)
