@@ -55,8 +55,9 @@ impl FirstResults {
         ensures expr { self.new.expr ≡ self.old.expr }
         ensures closed { self.new.closed ≡ self.old.closed }
         ensures made { OnOk result (self.new.made ≡ true) }
-        ensures rows { OnOk result (rows_of self.new.block ≡ shown (tree self.old.expr) self.old.made
-            (datums_in self.old.seen.keys) (rows_of self.old.block)) }
+        ensures rows { OnOk result (rows_of self.new.block
+            ≡ shown (tree self.old.expr) self.old.made (datums_in self.old.seen.keys)
+            (rows_of self.old.block)) }
         ensures seen { OnOk result (datums_in self.new.seen.keys ≡ seen_after (tree self.old.expr)
             self.old.made (datums_in self.old.seen.keys) (rows_of self.old.block)) }
     {
