@@ -1,6 +1,6 @@
 //! LET of a subquery: each row with the array of what a body gives from it.
 
-ghost use Rattle.std.specs.Prelude.{◌≡◌, ◌+◌, ◌≤◌, ◌++◌, List, [], length, map, cond, option_map};
+ghost use Rattle.std.specs.Prelude.{◌≡◌, ◌+◌, ◌≤◌, ◌++◌, List, length, map, cond, option_map};
 ghost use Rattle.std.specs.Prelude.{slice_get, replicate, IfOk, OnOk};
 ghost use Rattle.aql_value.specs.Datum.{null};
 ghost use Rattle.aql_value.specs.View.{datums_in};
@@ -14,7 +14,7 @@ ghost use Rattle.aql_exec.specs.Steps.{IsCall, InCall, given, told};
 ghost use Rattle.aql_exec.specs.Operators.{WithBody};
 
 use aql_block::{Block, Call, Progress, Row, Step, Tally};
-use aql_exec::{Executor, Place, Turn, Unlinked, take_front};
+use aql_exec::{Executor, Place, Turn, Unlinked, nothing, take_front};
 use aql_value::{Items, OutOfMemory, Value};
 use std::alloc::Global;
 use std::mem;
@@ -144,19 +144,6 @@ fn give(
         block,
         progress: Progress::HasMore,
     })
-}
-
-// A step that tells of nothing.
-fn nothing(alloc: Global, progress: Progress) -> Step
-    ensures skipped { result.skipped ≡ 0 }
-    ensures rows { given result ≡ [] }
-    ensures progress { result.progress ≡ progress }
-{
-    Step {
-        skipped: 0,
-        block: Block::empty(alloc),
-        progress,
-    }
 }
 
 impl<W: Place> Executor<W> for Subquery {
