@@ -1,5 +1,5 @@
--- What a COLLECT is told, as the definitions see it: its stage, the variables and expressions of its criteria,
--- its aggregates and its INTO.
+-- What a COLLECT is told, as the definitions see it: its stage, the variables and expressions of its
+-- criteria, its aggregates and its INTO.
 use Rattle.std.specs.Prelude.{◌≡◌, List, map, Bool, true, false, Option, Some, option_map}
 use Rattle.aql_func.specs.Aggregates.{Aggregate, aggregate_named}
 use Rattle.aql_tree.specs.declared.syntax.Ident.{Ident}

@@ -1,6 +1,6 @@
 //! COLLECT: a row for each group of rows with equal criteria, in ascending order of the criteria.
 
-ghost use Rattle.std.specs.Prelude.{◌≡◌, ◌+◌, ◌≤◌, ◌++◌, List, [], length, map, reverse, cond, IfOk, OnOk};
+ghost use Rattle.std.specs.Prelude.{◌≡◌, ◌+◌, ◌≤◌, ◌++◌, List, length, map, reverse, cond, IfOk, OnOk};
 ghost use Rattle.std.specs.List.{AllByRecursion};
 ghost use Rattle.aql_meaning.specs.Numbered.{IsNumber};
 ghost use Rattle.aql_meaning.specs.Row as meaning;
@@ -19,7 +19,7 @@ use crate::grouping::{Grouping, kinds_of};
 use crate::groups::Groups;
 use aql_aggregate_parts::StagedKind;
 use aql_block::{Block, Call, Progress, Row, Step, Tally};
-use aql_exec::{Executor, Place, Turn, Unlinked};
+use aql_exec::{Executor, Place, Turn, Unlinked, nothing};
 use aql_meaning::Stage;
 use aql_tree::{Aggregates, Into, Lets};
 use aql_value::OutOfMemory;
@@ -124,19 +124,6 @@ fn give(
         block,
         progress: Progress::HasMore,
     })
-}
-
-// A step that tells of nothing.
-fn nothing(alloc: Global, progress: Progress) -> Step
-    ensures skipped { result.skipped ≡ 0 }
-    ensures rows { given result ≡ [] }
-    ensures progress { result.progress ≡ progress }
-{
-    Step {
-        skipped: 0,
-        block: Block::empty(alloc),
-        progress,
-    }
 }
 
 impl<W: Place> Executor<W> for Collect {

@@ -67,8 +67,8 @@ distinct_of (members.CountDistinct set) ts us h k = absurd h
 
 -- ---- states of members
 
-least_later : (a : Accumulator) (ts ts' us : List Datum) → parts.KeepsAlike a min ts → parts.KeepsAlike a min ts'
-    → state min (ts ++ us) ≡ state min (ts' ++ us)
+least_later : (a : Accumulator) (ts ts' us : List Datum) → parts.KeepsAlike a min ts
+    → parts.KeepsAlike a min ts' → state min (ts ++ us) ≡ state min (ts' ++ us)
 least_later a ts ts' us h h' = ap at_most_one (same_least us ts ts'
     (sym (same_option _ _ h.2) ∙ least_of a h.0 h'.0 h.1 h'.1 ∙ same_option _ _ h'.2))
 
@@ -166,8 +166,8 @@ sums_later s ts ts' us h h' =
 
     counts : join_counts (map (part_at (pos 0)) (ts ++ us)) ≡ join_counts (map (part_at (pos 0)) (ts' ++ us))
     counts = ap join_counts (places (pos 0) ts)
-        ∙ counts_later s.counts (map (part_at (pos 0)) ts) (map (part_at (pos 0)) ts') (map (part_at (pos 0)) us)
-        h.counts h'.counts
+        ∙ counts_later s.counts (map (part_at (pos 0)) ts) (map (part_at (pos 0)) ts')
+        (map (part_at (pos 0)) us) h.counts h'.counts
         ∙ sym (ap join_counts (places (pos 0) ts'))
 
     spoilt : is_spoilt (ts ++ us) ≡ is_spoilt (ts' ++ us)
@@ -199,7 +199,8 @@ joined_later (joined.Count s) count ts ts' us h h' = counts_later s ts ts' us h 
 joined_later (joined.Sum s) sum ts ts' us h h' = sums_later s ts ts' us h h'
 joined_later (joined.Min a) min ts ts' us h h' = members_later a min ts ts' us h h'
 joined_later (joined.Max a) max ts ts' us h h' = members_later a max ts ts' us h h'
-joined_later (joined.SortedUnique a) sorted_unique ts ts' us h h' = members_later a sorted_unique ts ts' us h h'
+joined_later (joined.SortedUnique a) sorted_unique ts ts' us h h' =
+    members_later a sorted_unique ts ts' us h h'
 joined_later (joined.CountDistinct a) count_distinct ts ts' us h h' =
     members_later a count_distinct ts ts' us h h'
 joined_later (joined.Count s) sum ts ts' us h h' = absurd h
@@ -239,8 +240,8 @@ pub same_in_stage : (a : StagedAccumulator) (kind : Staged) (ts ts' us : List Da
     → KeepsIn a kind ts' → made kind (ts ++ us) ≡ made kind (ts' ++ us)
 same_in_stage a (s, kind) ts ts' us h h' = by a s ts ts' h h'
   where
-    by : (a : StagedAccumulator) (s : Stage) (ts ts' : List Datum) → KeepsAt a s kind ts → KeepsAt a s kind ts'
-        → made_in s kind (ts ++ us) ≡ made_in s kind (ts' ++ us)
+    by : (a : StagedAccumulator) (s : Stage) (ts ts' : List Datum) → KeepsAt a s kind ts
+        → KeepsAt a s kind ts' → made_in s kind (ts ++ us) ≡ made_in s kind (ts' ++ us)
     by (code.Whole a) stage.Whole ts ts' h h' = same_later a kind ts ts' us h h'
     by (code.Partial a) stage.Partial ts ts' h h' = ap (λ k. state k (ts ++ us)) (sym h.0)
         ∙ part_later a ts ts' us h.1 h'.1 ∙ ap (λ k. state k (ts' ++ us)) h.0

@@ -1,5 +1,5 @@
--- COLLECT may always give something, and it counts more where its input counts more. Whichever rows the groups
--- keep, a COLLECT makes the same of them and of the rows that come.
+-- COLLECT may always give something, and it counts more where its input counts more. Whichever rows the
+-- groups keep, a COLLECT makes the same of them and of the rows that come.
 use Rattle.std.proofs.Common.{◌≡◌, ◌∙◌, ℕ, zero, suc, ◌+◌, List, [], ◌∷◌, ◌++◌, map, reverse, Bool, true, false, ◌||◌, Option, Some, None, refl, sym, ap, ap₂, subst, true≢false, arith}
 use Rattle.std.specs.Prelude.{slice_get, MatchOption, IsPermutation}
 use Rattle.std.specs.List.{AllZip}
@@ -58,7 +58,8 @@ module _ (kinds : List StagedKind) (into : Option Into) where
   -- whatever members come later, the aggregates are the same; and so is what INTO took
   abbrev Alike : List GroupedRow → List GroupedRow → Type 0
   Alike ms ms' = ((us : List GroupedRow)
-      → aggregate_values (functions_of kinds) 0 (ms ++ us) ≡ aggregate_values (functions_of kinds) 0 (ms' ++ us))
+      → aggregate_values (functions_of kinds) 0 (ms ++ us)
+      ≡ aggregate_values (functions_of kinds) 0 (ms' ++ us))
       × (taken_of into ms ≡ taken_of into ms')
 
   alike_kept : (ms ms' : List GroupedRow) (g : Group) → IsGroup kinds ms (taken_of into ms) g
@@ -200,7 +201,10 @@ some_collect s ins v = by s.done refl
     by : (b : Bool) → s.done ≡ b
         → (r : Rest) × GivesOver b s.grouping s.kinds.items s.groups s.frame s.finished.items (ins 0) r
     by true e = (
-      record { rows = map (framed s.frame) (reverse (finished_in s.finished.items)); counts = (ins 0).counts },
+      record {
+        rows = map (framed s.frame) (reverse (finished_in s.finished.items));
+        counts = (ins 0).counts;
+      },
       (refl, λ c. refl),
     )
     by false e =
