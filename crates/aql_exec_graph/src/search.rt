@@ -8,8 +8,8 @@ use aql_tree::{Direction, Expr, UniqueEdges, UniqueVertices};
 use aql_value::{CollNos, OutOfMemory};
 use std::alloc::Global;
 
-/// Under which variables paths are given, and which paths: how long they are, from which start, over
-/// which edges and which way, after which of them the walk stops, and which rows are kept.
+/// Under which variables paths are given, and which paths: how long they are, from which start,
+/// over which edges and which way, after which of them the walk stops, and which rows are kept.
 #[derive(Drop)]
 pub struct Search {
     pub vertex: u32,
