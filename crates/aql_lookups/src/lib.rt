@@ -1,5 +1,5 @@
-//! Lookups of edges by their ends and of documents by their ids: they look through the documents that
-//! servers hold.
+//! Lookups of edges by their ends and of documents by their ids: they look through the documents
+//! that servers hold.
 #![tactic(auto)]
 
 mod counted;
