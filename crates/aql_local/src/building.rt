@@ -18,14 +18,15 @@ use crate::nodes::{
     filter, limit, no_results, results, sort, start_row, subquery, traversal,
 };
 use aql_copy::{
-    copy_aggregates, copy_expr, copy_into, copy_keys, copy_lets, copy_maybe, copy_texts,
+    copy_aggregates, copy_colls, copy_expr, copy_into, copy_keys, copy_lets, copy_maybe,
+    copy_maybe_texts,
 };
 use aql_exec::{Executor, Feed};
 use aql_exec_graph::Search;
 use aql_exec_scan::Reading;
 use aql_exec_tree::Tree;
 use aql_plan::Plan;
-use aql_value::{CollNo, CollNos, Names, OutOfMemory, Seq};
+use aql_value::OutOfMemory;
 use aql_world::World;
 use std::alloc::Global;
 
@@ -111,7 +112,7 @@ fn executor_of(alloc: Global, plan: &Plan) -> Result<NodeExecutor, OutOfMemory>
                 var: *var,
                 coll: *coll,
                 filter: copy_maybe(alloc, filter)?,
-                attrs: copy_attrs(alloc, attrs)?,
+                attrs: copy_maybe_texts(alloc, attrs)?,
                 shard: *shard,
             };
             Ok(enumerate_collection(alloc, reading))
@@ -185,24 +186,5 @@ fn search_of(alloc: Global, plan: &Plan) -> Result<Search, OutOfMemory>
             filter: copy_maybe(alloc, filter)?,
         }),
         _ => unreachable!(),
-    }
-}
-
-fn copy_colls(alloc: Global, colls: &[CollNo]) -> Result<CollNos, OutOfMemory>
-    ensures { IfOk result (λ out. out ≡ colls.now) }
-{
-    let mut out = Seq::new(alloc);
-    for coll in colls {
-        out.push(*coll)?;
-    }
-    Ok(out)
-}
-
-fn copy_attrs(alloc: Global, attrs: &Option<Names>) -> Result<Option<Names>, OutOfMemory>
-    ensures { IfOk result (λ a. a ≡ attrs.now) }
-{
-    match attrs {
-        Some(names) => Ok(Some(copy_texts(alloc, names.as_slice())?)),
-        None => Ok(None),
     }
 }

@@ -52,7 +52,8 @@ fn run_operators<F: Delivers<World>, P: Picker>(
     picker: &mut P,
     batch: u32,
 ) -> Result<Ran, OutOfMemory>
-    requires feed { F.plan feed.old ≡ operators_of (stock world.old.servers).facts (plan_tree plan) }
+    requires feed { F.plan feed.old
+        ≡ operators_of (stock world.old.servers).facts (plan_tree plan) }
     requires plan { CanRun (stock world.old.servers) plan }
     requires batch { (1 ≤ batch) × (batch ≤ 10000) }
     ensures stock { stock world.new.servers ≡ stock world.old.servers }
