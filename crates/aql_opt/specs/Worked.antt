@@ -53,8 +53,8 @@ two = array_literal (expr_then any (expr_then any no_exprs))
 
 abbrev pub WorkedEstimates : Type 0
 WorkedEstimates =
-    (estimate (known 9 1 1) (returned (Over Singleton (Index reading 0 (expr_then any no_exprs) no_last None)))
-    ≡ costs 1 4)
+    (estimate (known 9 1 1)
+    (returned (Over Singleton (Index reading 0 (expr_then any no_exprs) no_last None))) ≡ costs 1 4)
     × (estimate (known 2 2 1) (returned (Over over_shards (Filter any))) ≡ costs 1 13)
     × (estimate (known 9 1 5) (Over Singleton (Index reading 0 no_exprs (one_of two) None)) ≡ costs 9 11)
     × (estimate (known 3 1 1) documents ≡ costs 3 4)
