@@ -166,7 +166,8 @@ pub fn limit(alloc: Global, below: Plan, offset: u64, count: u64) -> Result<Plan
 pub fn collect(alloc: Global, below: Plan, clause: &Collect) -> Result<Plan, OutOfMemory>
     ensures { IfOk result (λ p. plan_tree p
         ≡ spec.Over (plan_tree below) (spec.Collect (map (λ l. l.0) (collect_part clause.now).0)
-        (trees (map (λ l. l.1) (collect_part clause.now).0)) (aggregates (collect_part clause.now).1)
+        (trees (map (λ l. l.1) (collect_part clause.now).0))
+        (aggregates (collect_part clause.now).1)
         (into_tree (collect_part clause.now).2) Whole)) }
 {
     Ok(Plan::Collect {
