@@ -22,7 +22,7 @@ use Rattle.aql_rewrite_plan.specs.laws.Walk.{none_at, weight_below}
 use Rattle.aql_rewrite_plan.specs.laws.Weights.{renamed_weight}
 use Rattle.aql_rewrite_exchange.specs.Settled.{is_start, has_body}
 use Rattle.aql_rewrite_exchange.specs.laws.Forms.{Taken}
-use Rattle.aql_rewrite_exchange.specs.laws.PassSettled.{Sound}
+use Rattle.aql_rewrite_node_exprs.specs.laws.PassSteps.{Sound}
 use Rattle.aql_rewrite_part.specs.Removed.{TakesAway, Way, at_once, next, Removes, NoPlaceUnder}
 use Rattle.aql_rewrite_part.specs.laws.Finishing.{no_place_seen, first_seen}
 use Rattle.aql_rewrite_part.specs.laws.StaysPlaced.{placed_kept}
