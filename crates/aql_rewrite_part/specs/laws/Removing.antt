@@ -132,7 +132,7 @@ module _ (R : Rewriting) (blind : (us vs : Uses) (p q : Plan) (r : Option Rename
 
   module _ (p m b c k : Plan) (rs : List Rename) (x y : Bool) (lone : HasNoFragment p) (t : Taken p m b)
       (made : k ≡ over_each rs m c) (done : Removes R b c rs x y) where
-    new_top : Node
+    abbrev new_top : Node
     new_top = renamed_by_each rs (top m)
 
     over_top : k ≡ Over c new_top
@@ -200,8 +200,7 @@ module _ (R : Rewriting) (blind : (us vs : Uses) (p q : Plan) (r : Option Rename
           reached = way_inside b v input h.reached;
           ended = (
             no_place_seen R blind false [] (under (Subquery v t) []) b input,
-            stays_whole b t v,
-            no_place_seen R blind false [] result_uses t h.ended,
+            (stays_whole b t v, no_place_seen R blind false [] result_uses t h.ended),
           );
         })
 

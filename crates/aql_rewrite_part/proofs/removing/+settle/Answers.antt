@@ -132,8 +132,8 @@ settle-returns-in-None g t c =
     c.settle.new.changed c.requires.placed.2.suits parts made c.in_ok-below.ensures (plan_tree o)
     c.settle_body.new.changed h) c.settle_body.ensures
 
-pub settle-returns-in-Some : goal.settle-returns-in-Some
-settle-returns-in-Some g t c =
+pub settle-returns-in_ok-push-in-Some : goal.settle-returns-in_ok-push-in-Some
+settle-returns-in_ok-push-in-Some g t c =
     let rule = c.args.rule.now in
     let facts = c.args.facts.now in
     let rewrites = g.R.Rule.rewrites rule facts in
@@ -147,7 +147,7 @@ settle-returns-in-Some g t c =
     let parts = taken p m b (sym c.is_start.ensures ∙ c.if-is_start.false) c.replace_below-below.ensures.over
     c.replace_below-below.ensures.input in
     let made = c.in_ok-part.ensures ∙ ap (λ (qs : List Rename). over_each qs m d) c.as_slice.ensures.value in
-    subst (λ (qs : List Rename). Removes rewrites p q qs c.args.changed.now true) (sym c.in_ok-push.ensures.items)
+    subst (λ (qs : List Rename). Removes rewrites p q qs c.args.changed.now true) (sym c.in_ok-push-in-Some.ensures.items)
     (then_gone rewrites (g.met.R.RemovingRule.blind rule facts) (g.met.R.RemovingRule.removes rule facts)
     p m b d k rs c.args.changed.now c.settle.new.changed c.requires.placed.2.suits parts made
     c.in_ok-below.ensures q c.in-Some.rename c.in-Some.ensures c.replace_below.ensures.input)

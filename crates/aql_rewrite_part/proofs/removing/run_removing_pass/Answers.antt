@@ -10,10 +10,11 @@ use Rattle.aql_rewrite_part.proofs.removing.run_removing_pass.Goals as goal
 pub settle-requires : goal.settle-requires
 settle-requires g c =
     let p = plan_tree c.args.plan in
-    let facts = c.args.facts.now in (
-      placed_unseen facts result_uses [] p refl (placed_whole false facts result_uses p refl c.requires),
-      c.new-renames.ensures.items,
-    )
+    let facts = c.args.facts.now in record {
+      placed = placed_unseen facts result_uses [] p refl
+          (placed_whole false facts result_uses p refl c.requires);
+      none = c.new-renames.ensures.items;
+    }
 
 pub returns-clause-passed : goal.returns-clause-passed
 returns-clause-passed g c =
