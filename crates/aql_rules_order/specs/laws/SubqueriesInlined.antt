@@ -339,7 +339,7 @@ abbrev pub nothing : Node → ℕ
 nothing n = 0
 
 total_from : (p b : Plan) → total nothing (started_from p b) ≡ total nothing b + total nothing p
-total_from p Singleton = refl
+total_from p Singleton = omega arith
 total_from p (Over b n) = omega (arith, total_from p b)
 
 pub inlines_nameless : (us : Uses) (p q : Plan) (r : Option Rename) → Inlines us p q r → r ≡ None
