@@ -1,4 +1,5 @@
 pub mod Sums
 pub mod Finished
 pub mod Removed
+pub mod Changed
 pub mod laws

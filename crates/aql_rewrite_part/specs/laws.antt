@@ -2,3 +2,4 @@ pub mod Falling
 pub mod Finishing
 pub mod StaysPlaced
 pub mod Removing
+pub mod Changing

@@ -1,10 +1,12 @@
 //! Passes that go on at the part of the plan that the rule rewrote.
 #![tactic(auto)]
 
+mod changing;
 mod pass;
 mod removing;
 mod rule;
 
+pub use changing::{ChangingRule, run_changing_pass};
 pub use pass::run_part_pass;
 pub use removing::{RemovingRule, run_removing_pass};
 pub use rule::PartRule;

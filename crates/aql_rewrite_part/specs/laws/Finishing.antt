@@ -117,7 +117,7 @@ module _ (R : Rewriting) where
       subst₂ (λ (o l : Plan). Way us o l x y) (sym t.was) (sym (over_top p m b c k t e))
       (way_below (top m) us (subst HasNoFragment t.was lone).1 h.reached)
 
-  input_ended : (us : Uses) (p m b c k : Plan) (x y : Bool) → HasNoFragment p → Taken p m b
+  pub input_ended : (us : Uses) (p m b c k : Plan) (x y : Bool) → HasNoFragment p → Taken p m b
       → k ≡ over m c → Finishes R (under (top m) us) b c x y
       → (k ≡ Over c (top k)) × NoPlaceBelow R false us k c
   input_ended us p m b c k x y lone t e h =
