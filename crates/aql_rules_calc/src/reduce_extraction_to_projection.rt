@@ -10,14 +10,15 @@ ghost use Rattle.aql_plan.specs.Facts.{indexes_in};
 ghost use Rattle.aql_plan.specs.Plan.{top};
 ghost use Rattle.aql_plan.specs.Used.{use_tree, uses_tree};
 ghost use Rattle.aql_plan.specs.View.{plan_tree};
+ghost use Rattle.aql_rewrite_plan.specs.Places.{Stays};
 ghost use Rattle.aql_rewrite_plan.specs.View.{above_uses};
-ghost use Rattle.aql_rules_calc.specs.Projections.{with_attrs as spec_with_attrs, AreAdded};
+ghost use Rattle.aql_rules_calc.specs.Projections.{with_attrs, AreAdded};
 ghost use Rattle.aql_rules_calc.specs.Projections.{read_whole as spec_read_whole};
 ghost use Rattle.aql_rules_calc.specs.Projections.{AreKept, order_of as spec_order_of};
-ghost use Rattle.aql_rules_calc.specs.ReduceExtractionToProjection.{with_name};
+ghost use Rattle.aql_rules_calc.specs.ReduceExtractionToProjection.{with_name, Reduces};
 
 use aql_plan::{Facts, IndexFact, Plan, Use, Uses};
-use aql_rewrite_part::PartRule;
+use aql_rewrite_part::ChangingRule;
 use aql_rewrite_plan::{Rule, Swap};
 use aql_tree::Ident;
 use aql_value::{CollNo, Names, OutOfMemory, Seq, Text};
@@ -186,50 +187,14 @@ fn order_of(facts: &Facts, coll: CollNo, index: u32, ordered: Option<bool>) -> &
     }
 }
 
-// A node that reads, with these attributes kept; any other node as it is.
-fn with_attrs(plan: Plan, names: Names) -> Plan
-    ensures { plan_tree result ≡ spec_with_attrs names (plan_tree plan) }
+// Keeps these attributes alone at a node that reads; any other node stays as it is.
+fn set_attrs(node: &mut Plan, names: Names)
+    ensures { plan_tree node.new ≡ with_attrs names (plan_tree node.old) }
 {
-    match plan {
-        Plan::EnumerateCollection {
-            below,
-            var,
-            coll,
-            filter,
-            attrs: _,
-            shard,
-        } => Plan::EnumerateCollection {
-            below,
-            var,
-            coll,
-            filter,
-            attrs: Some(names),
-            shard,
-        },
-        Plan::Index {
-            below,
-            var,
-            coll,
-            filter,
-            attrs: _,
-            shard,
-            index,
-            equal,
-            last,
-            ordered,
-        } => Plan::Index {
-            below,
-            var,
-            coll,
-            filter,
-            attrs: Some(names),
-            shard,
-            index,
-            equal,
-            last,
-            ordered,
-        },
-        other => other,
+    match node {
+        Plan::EnumerateCollection { attrs, .. } => *attrs = Some(names),
+        Plan::Index { attrs, .. } => *attrs = Some(names),
+        _ => {}
     }
 }
 
@@ -257,13 +222,31 @@ fn read_whole<'a>(node: &Plan, facts: &'a Facts) -> Option<(u32, &'a [Text])>
     }
 }
 
+// The names to keep at the top node of a part; `None` exactly where the rule does not apply there.
+fn names_to_keep(
+    alloc: Global,
+    part: &Plan,
+    above: &[Uses],
+    facts: &Facts,
+) -> Result<Option<Names>, OutOfMemory>
+    ensures { IfOk result (λ kept. MatchOption kept
+        (Stays (Reduces facts.now) (above_uses above.now) (plan_tree part.now))
+        (λ names. Reduces facts.now (above_uses above.now) (plan_tree part.now)
+        (with_attrs names (plan_tree part.now)) None)) }
+{
+    match read_whole(part, facts) {
+        None => Ok(None),
+        Some((var, order)) => kept_names(alloc, var, order, above),
+    }
+}
+
 /// The rule reduce-extraction-to-projection.
 #[derive(Clone, Copy, Drop)]
 pub struct ReduceExtractionToProjection;
 
 impl Rule for ReduceExtractionToProjection {
     ghost use Rattle.std.specs.Prelude.{false};
-    ghost use Rattle.aql_rules_calc.specs.ReduceExtractionToProjection.{Reduces, whole_readers};
+    ghost use Rattle.aql_rules_calc.specs.ReduceExtractionToProjection.{whole_readers};
     ghost use Rattle.aql_rules_calc.specs.laws.Projected.{reduces_refine, reduces_keep};
     ghost use Rattle.aql_rules_calc.specs.laws.Projected.{reduces_fall};
 
@@ -280,18 +263,13 @@ impl Rule for ReduceExtractionToProjection {
         above: &[Uses],
         facts: &Facts,
     ) -> Result<Option<Swap>, OutOfMemory> {
-        match read_whole(part, facts) {
+        match names_to_keep(alloc, part, above, facts)? {
             None => Ok(None),
-            Some((var, order)) => match kept_names(alloc, var, order, above)? {
-                None => Ok(None),
-                Some(names) => {
-                    let whole = part.copy(alloc)?;
-                    Ok(Some(Swap {
-                        part: with_attrs(whole, names),
-                        rename: None,
-                    }))
-                }
-            },
+            Some(names) => {
+                let mut part = part.copy(alloc)?;
+                set_attrs(&mut part, names);
+                Ok(Some(Swap { part, rename: None }))
+            }
         }
     }
 
@@ -303,25 +281,27 @@ impl Rule for ReduceExtractionToProjection {
     ghost falls = { λ _ facts p q r whole h. reduces_fall facts p q r whole h };
 }
 
-impl PartRule for ReduceExtractionToProjection {
-    ghost use Rattle.std.specs.Prelude.{refl, true};
-    ghost use Rattle.std.proofs.Common.{true≢false};
-    ghost use Rattle.aql_rules_calc.specs.laws.Projected.{documents_whole};
-    ghost use Rattle.aql_rules_calc.specs.laws.Projected.{reduces_nameless, reduces_shrink};
+impl ChangingRule for ReduceExtractionToProjection {
+    ghost use Rattle.std.specs.Prelude.{refl};
+    ghost use Rattle.aql_rules_calc.specs.laws.Projected.{reduces_changes};
 
-    ghost looks = { λ _. true };
-
-    fn looks_above(&self) -> bool {
-        true
+    fn change(
+        &self,
+        alloc: Global,
+        part: &mut Plan,
+        above: &[Uses],
+        facts: &Facts,
+    ) -> Result<bool, OutOfMemory> {
+        match names_to_keep(alloc, part, above, facts)? {
+            None => Ok(false),
+            Some(names) => {
+                set_attrs(part, names);
+                Ok(true)
+            }
+        }
     }
-
-    ghost blind = { λ _ e facts us vs p q r h. absurd (true≢false e) };
 
     ghost lone = { λ _. refl };
 
-    ghost nameless = { λ _ facts us p q r h. reduces_nameless facts us p q r h };
-
-    ghost size = { λ _. documents_whole };
-
-    ghost lowers = { λ _ facts us p q r h. reduces_shrink facts us p q r h };
+    ghost changes = { λ _ facts us p q r h. reduces_changes facts us p q r h };
 }

@@ -46,8 +46,7 @@ use Rattle.aql_rules_calc.specs.Projections.{AreAdded, AreKept, order_of, where_
 use Rattle.aql_rules_calc.specs.ReduceExtractionToProjection.{is_whole, used_whole, with_name, with_use, names_used, order_uses, keeping, Reduces, enumeration, by_index, reads_whole, whole_readers, readers_in}
 use Rattle.aql_rules_calc.specs.laws.Unused.{neither}
 use Rattle.aql_rules_calc.specs.laws.Attributes.{named_first}
-use Rattle.aql_plan.specs.Nodes.{weight}
-use Rattle.aql_rewrite_part.specs.Sums.{total}
+use Rattle.aql_rewrite_part.specs.Changed.{Changes}
 
 -- ---- each name that is used is kept
 
@@ -401,22 +400,43 @@ reduces_fall facts p q r whole h =
     (λ outer away us p q r placed k. reduces_lower facts us p q r k) h [] []
     (whole_placed false facts p whole)).falls
 
-abbrev pub documents_whole : Node → ℕ
-documents_whole (EnumerateCollection x) = reads_whole x.attrs
-documents_whole (Index x index equal last ordered) = reads_whole x.attrs
-documents_whole n = 0
+-- ---- the top node alone is changed, once for all
 
-pub reduces_nameless : (facts : Facts) (us : Uses) (p q : Plan) (r : Option Rename) → Reduces facts us p q r → r ≡ None
-reduces_nameless facts _ _ _ _ (enumeration {us = us} {b = b} {x = x} h) = refl
-reduces_nameless facts _ _ _ _ (by_index {us = us} {b = b} {x = x} {index = index} {ordered = ordered} h) = refl
+module _ (facts : Facts) (us : Uses) (b : Plan) (names : List (List ℕ)) where
+  scan_once : (x : Reading) → x.attrs ≡ Some names → Stays (Reduces facts) us (Over b (EnumerateCollection x))
+  scan_once x e _ _ (enumeration g) = let h = g.0 in cc
 
-pub reduces_shrink : (facts : Facts) (us : Uses) (p q : Plan) (r : Option Rename) → Reduces facts us p q r
-    → weight q + total documents_whole q < weight p + total documents_whole p
-reduces_shrink facts _ _ _ _ (enumeration {us = us} {b = b} {x = x} h) =
-    omega (arith, (one_less x.attrs (names_used x.var us) h.0 (total documents_whole b)).0)
-reduces_shrink facts _ _ _ _ (by_index {us = us} {b = b} {x = x} {index = index} {ordered = ordered} h) =
+  index_once : (x : Reading) (index : ℕ) (equal : ExprTrees) (last : Last ExprTree) (ordered : Option Bool)
+      → x.attrs ≡ Some names → Stays (Reduces facts) us (Over b (Index x index equal last ordered))
+  index_once x index equal last ordered e _ _ (by_index g) = let h = g.0 in cc
+
+same_input : (b d : Plan) (n m : Node) → Over b n ≡ Over d n → Over b m ≡ Over d m
+same_input b d n m e = let k : b ≡ d = cc in ap (λ (o : Plan). Over o m) k
+
+pub reduces_changes : (facts : Facts) (us : Uses) (p q : Plan) (r : Option Rename) → Reduces facts us p q r
+    → Changes (Reduces facts) us p q r
+reduces_changes facts _ _ _ _ (enumeration {us = us} {b = b} {x = x} h) =
+    let y = keeping (names_used x.var us) x in record {
+      nameless = refl;
+      input = λ d e. same_input b d (EnumerateCollection x) (EnumerateCollection y) e;
+      bare = (refl, refl);
+      inside = refl;
+      uses = λ vs. refl;
+      needed = λ vs. refl;
+      once = scan_once facts us b (names_used x.var us) y refl;
+    }
+reduces_changes facts _ _ _ _
+    (by_index {us = us} {b = b} {x = x} {index = index} {equal = equal} {last = last} {ordered = ordered} h) =
     let names = names_used x.var (us ++ order_uses facts x index ordered) in
-    omega (arith, (one_less x.attrs names h.0 (total documents_whole b)).0)
+    let y = keeping names x in record {
+      nameless = refl;
+      input = λ d e. same_input b d (Index x index equal last ordered) (Index y index equal last ordered) e;
+      bare = (refl, refl);
+      inside = refl;
+      uses = λ vs. refl;
+      needed = λ vs. refl;
+      once = index_once facts us b names y index equal last ordered refl;
+    }
 
 -- ---- what the rule finds
 
@@ -483,19 +503,10 @@ module _ (facts : Facts) (us : Uses) (b : Plan) where
       (sym l.0) (by_index (e.0, l.1, subst (λ (ns : List (List ℕ)). length ns ≤ 5) l.0 l.2))
   node_reduced n x order names h k = cc
 
-pub reduces_stays : (facts : Facts) (us : Uses) (p : Plan) (x : Ident) (order : List (List ℕ))
+pub kept_reduces : (facts : Facts) (us : Uses) (p : Plan) (x : Ident) (order : List (List ℕ))
     (kept : Option (List (List ℕ))) → read_whole facts (top p) ≡ Some (x, order)
-    → AreKept kept x (us ++ map (λ name. Part x name) order) → kept ≡ None → Stays (Reduces facts) us p
-reduces_stays facts us Singleton x order kept h k e = cc
-reduces_stays facts us (Over b n) x order kept h k e = node_stays facts us b n x order [] h
-    (subst (λ (o : Option (List (List ℕ))). AreKept o x (us ++ map (λ name. Part x name) order)) e k)
-
-pub reduces_at : (facts : Facts) (us : Uses) (p q c : Plan) (x : Ident) (order names : List (List ℕ))
-    (kept : Option (List (List ℕ))) → read_whole facts (top p) ≡ Some (x, order)
-    → AreKept kept x (us ++ map (λ name. Part x name) order) → kept ≡ Some names
-    → c ≡ p → q ≡ with_attrs names c → Reduces facts us p q None
-reduces_at facts us Singleton q c x order names kept h k d e i = cc
-reduces_at facts us (Over b n) q c x order names kept h k d e i =
-    subst (λ (s : Plan). Reduces facts us (Over b n) s None) (sym (i ∙ ap (with_attrs names) e))
-    (node_reduced facts us b n x order names h
-    (subst (λ (o : Option (List (List ℕ))). AreKept o x (us ++ map (λ name. Part x name) order)) d k))
+    → AreKept kept x (us ++ map (λ name. Part x name) order)
+    → MatchOption kept (Stays (Reduces facts) us p) (λ names. Reduces facts us p (with_attrs names p) None)
+kept_reduces facts us Singleton x order kept h k = cc
+kept_reduces facts us (Over b n) x order None h k = node_stays facts us b n x order [] h k
+kept_reduces facts us (Over b n) x order (Some names) h k = node_reduced facts us b n x order names h k
