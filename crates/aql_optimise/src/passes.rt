@@ -10,7 +10,7 @@ ghost use Rattle.aql_optimise.specs.Passes.{IsPassOf};
 use aql_plan::{Facts, Passed, Plan, RuleName};
 use aql_rewrite_exchange::run_exchange_pass;
 use aql_rewrite_node_exprs::run_expr_pass;
-use aql_rewrite_part::{run_part_pass, run_removing_pass};
+use aql_rewrite_part::{run_changing_pass, run_part_pass, run_removing_pass};
 use aql_rules_calc::{
     MoveCalculationsUp, ReduceExtractionToProjection, RemoveRedundantCalculations,
     RemoveUnnecessaryCalculations,
@@ -67,7 +67,7 @@ pub(crate) fn pass_of(
             run_part_pass(alloc, &MoveFiltersIntoEnumerate, plan, facts)
         }
         RuleName::ReduceExtractionToProjection => {
-            run_part_pass(alloc, &ReduceExtractionToProjection, plan, facts)
+            run_changing_pass(alloc, &ReduceExtractionToProjection, plan, facts)
         }
         _ => Ok(Passed {
             plan,
