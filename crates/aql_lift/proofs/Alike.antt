@@ -1,6 +1,6 @@
 -- Rows of the scoped query beside rows of the written one.
 use Rattle.std.proofs.Common.{◌≡◌, ◌∙◌, ℕ, ◌<◌, ◌≤◌, [], ◌∷◌, ◌++◌, Bool, true, false, cond, refl, ap, sym, arith}
-use Rattle.std.specs.Prelude.{Option, Some, None, is_some, ◌==◌, ◌||◌}
+use Rattle.std.specs.Prelude.{Option, Some, None, MatchOption, is_some, ◌==◌, ◌||◌}
 use Rattle.std.specs.Bool.{Decides}
 use Rattle.std.specs.Cmp.{unsigned_Decides}
 use Rattle.std.proofs.lemmas.Slice.Eq.{bytes_eq-Decides}
@@ -21,13 +21,13 @@ AlikeAt s (Some k) o = (v : Datum) × (s (Num k) ≡ Some v) × (o ≡ Some v)
 abbrev pub Alike : Numbering → Row → Row → Type 0
 Alike names s r = (x : Ident) → AlikeAt s (number_of names x) (r x)
 
-abbrev pub BelowAt : ℕ → Option ℕ → Type 0
-BelowAt n None = Unit {0}
-BelowAt n (Some k) = k < n
+-- P holds of the number of each visible name
+abbrev pub NumbersAre : (ℕ → Type 0) → Numbering → Type 0
+NumbersAre P names = (x : Ident) → MatchOption (number_of names x) (Unit {0}) P
 
 -- the numbers of the visible names are below n
 abbrev pub Below : ℕ → Numbering → Type 0
-Below n names = (x : Ident) → BelowAt n (number_of names x)
+Below n names = NumbersAre (λ k. k < n) names
 
 same_answer : (a b : Bool) {P Q : Type 0} → Decides a P → Decides b Q → (P → Q) → (Q → P) → a ≡ b
 same_answer true true h k f g = refl
@@ -51,20 +51,25 @@ same_ident_sym (Name a) (Num k) = refl
 same_ident_sym (Num k) (Name a) = refl
 same_ident_sym (Num k) (Num j) = same_answer _ _ (unsigned_Decides k j) (unsigned_Decides j k) sym sym
 
+pub numbers_bind : (P : ℕ → Type 0) (n : ℕ) (names : Numbering) (x : Ident) → P n → NumbersAre P names
+    → NumbersAre P ((x, n) ∷ names)
+numbers_bind P n names x h b y = by (same_ident x y)
+  where
+    by : (c : Bool) → MatchOption (cond c (Some n) (number_of names y)) (Unit {0}) P
+    by true = h
+    by false = b y
+
 -- a greater bound
 pub below_more : (n m : ℕ) (names : Numbering) → n ≤ m → Below n names → Below m names
 below_more n m names h b x = by (number_of names x) (b x)
   where
-    by : (o : Option ℕ) → BelowAt n o → BelowAt m o
+    by : (o : Option ℕ) → MatchOption o (Unit {0}) (λ k. k < n) → MatchOption o (Unit {0}) (λ k. k < m)
     by None l = tt
     by (Some k) l = omega arith
 
 pub below_bind : (n m : ℕ) (names : Numbering) (x : Ident) → n < m → Below n names → Below m ((x, n) ∷ names)
-below_bind n m names x h b y = by (same_ident x y)
-  where
-    by : (c : Bool) → BelowAt m (cond c (Some n) (number_of names y))
-    by true = h
-    by false = below_more n m names (omega arith) b y
+below_bind n m names x h b =
+    numbers_bind (λ k. k < m) n names x h (below_more n m names (omega arith) b)
 
 pub bind_at : (n k : ℕ) (s : Row) (v : Datum) → k < n → bind (Num n) s v (Num k) ≡ s (Num k)
 bind_at n k s v h = ap (λ (b : Bool). cond b (Some v) (s (Num k))) (num_apart n k h)
@@ -77,7 +82,8 @@ pub alike_more : (names : Numbering) (n : ℕ) (s r : Row) (v : Datum) → Below
     → Alike names (bind (Num n) s v) r
 alike_more names n s r v b h x = by (number_of names x) (b x) (h x)
   where
-    by : (o : Option ℕ) → BelowAt n o → AlikeAt s o (r x) → AlikeAt (bind (Num n) s v) o (r x)
+    by : (o : Option ℕ) → MatchOption o (Unit {0}) (λ k. k < n) → AlikeAt s o (r x)
+        → AlikeAt (bind (Num n) s v) o (r x)
     by None l k = k
     by (Some j) l k = (k.0, bind_at n j s v l ∙ k.1, k.2)
 

@@ -1,5 +1,5 @@
 -- What the LETs of the lifted subqueries do to a row.
-use Rattle.std.proofs.Common.{◌≡◌, ◌∙◌, ℕ, suc, ◌<◌, List, [], ◌∷◌, ◌++◌, refl, ap, sym, subst, arith}
+use Rattle.std.proofs.Common.{◌≡◌, ◌∙◌, ℕ, suc, ◌<◌, ◌≤◌, List, [], ◌∷◌, ◌++◌, refl, ap, sym, subst, arith}
 use Rattle.std.specs.Prelude.{Some}
 use Rattle.std.specs.List.{AllZip}
 use Rattle.aql_value.specs.Datum.{Datum, null}
@@ -14,7 +14,7 @@ use Rattle.aql_meaning.specs.Meaning.{Evaluates, Through, IsAnswer}
 use Rattle.aql_lift.specs.Numbering.{Numbering}
 use Rattle.aql_lift.specs.Lifting.{NumberedSubquery, with_lets, append_clauses}
 use Rattle.aql_lift.proofs.Alike.{Alike, Below, below_more, alike_more, bind_at, bind_self}
-use Rattle.aql_lift.proofs.Within.{Within}
+use Rattle.aql_lift.proofs.Walk.{Within, Walked, walked_le}
 use Rattle.aql_lift.proofs.Lists.{zip_join}
 
 module _ (db : Database) where
@@ -32,18 +32,36 @@ module _ (db : Database) where
   Held [] names t r = Unit {0}
   Held (u ∷ us) names t r = HeldOne u names t r × Held us names t r
 
-  -- t is like r, and has an answer of each
-  abbrev pub Fits : List NumberedSubquery → Numbering → Row → Row → Type 0
-  Fits us names t r = Alike names t r × Held us names t r
-
   held_split : (us ws : List NumberedSubquery) (names : Numbering) (t r : Row) → Held (us ++ ws) names t r
       → Held us names t r × Held ws names t r
   held_split [] ws names t r h = (tt, h)
   held_split (u ∷ us) ws names t r h = let k = held_split us ws names t r h.1 in ((h.0, k.0), k.1)
 
-  pub fits_split : (us ws : List NumberedSubquery) (names : Numbering) (t r : Row) → Fits (us ++ ws) names t r
-      → Fits us names t r × Fits ws names t r
-  fits_split us ws names t r h = let k = held_split us ws names t r h.1 in ((h.0, k.0), (h.0, k.1))
+  -- t is like r and has an answer of each, before the part whose first number is n
+  pub record Here (names : Numbering) (n : ℕ) (us : List NumberedSubquery) (t r : Row) : Type 0 where
+    pub below : Below n names
+    pub alike : Alike names t r
+    pub held : Held us names t r
+
+  -- before a part, and behind it
+  pub here_split : {H R U : Type 0} {names : Numbering} {n m : ℕ} {us ws : List NumberedSubquery}
+      {said : List (List ℕ)} {t r : Row} → Walked H n R U us said m → Here names n (us ++ ws) t r
+      → Here names n us t r × Here names m ws t r
+  here_split {names = names} {n = n} {m = m} {us = us} {ws = ws} {t = t} {r = r} w h =
+      let k = held_split us ws names t r h.held in (
+        record { below = h.below; alike = h.alike; held = k.0 },
+        record { below = below_more n m names (walked_le w) h.below; alike = h.alike; held = k.1 },
+      )
+
+  -- behind declared variables
+  pub here_later : {names : Numbering} {n m : ℕ} {us : List NumberedSubquery} {t r : Row} → n ≤ m
+      → Here names n us t r → Here names m us t r
+  here_later {names} {n} {m} l h =
+      record { below = below_more n m names l h.below; alike = h.alike; held = h.held }
+
+  pub here_next : {names : Numbering} {n : ℕ} {us : List NumberedSubquery} {t r : Row} → Here names n us t r
+      → Here names (suc n) us t r
+  here_next h = here_later (omega arith) h
 
   ran_keeps : (us : List NumberedSubquery) (n m k : ℕ) (s t : Row) → Within n us m → k < n → Ran us s t
       → t (Num k) ≡ s (Num k)
@@ -54,8 +72,7 @@ module _ (db : Database) where
       ∙ bind_at u.0 k s (list h.0) (omega arith)
 
   ran_fits : (us : List NumberedSubquery) (names : Numbering) (n m : ℕ) (s t r : Row) → Below n names
-      → Within n us m
-      → Alike names s r → Ran us s t → Fits us names t r
+      → Within n us m → Alike names s r → Ran us s t → Alike names t r × Held us names t r
   ran_fits [] names n m s t r b w a h = (subst (λ (f : Row). Alike names f r) (sym h) a, tt)
   ran_fits (u ∷ us) names n m s t r b w a h =
       let j = w.0 in
@@ -66,13 +83,14 @@ module _ (db : Database) where
       let kept = ran_keeps us (suc u.0) m u.0 mid t w.1 (omega arith) h.2 in
       (k.0, ((h.0, s, a, h.1, kept ∙ bind_self u.0 s (list h.0)), k.1))
 
-  -- rows after the LETs fit those that the rows before them are like
-  pub rans_fit : (us : List NumberedSubquery) (names : Numbering) (n m : ℕ) (ss ts rs : List Row)
-      → Below n names
-      → Within n us m → AllZip (Ran us) ss ts → AllZip (Alike names) ss rs → AllZip (Fits us names) ts rs
-  rans_fit us names n m ss ts rs b w h a =
-      zip_join (Ran us) (Alike names) (Fits us names) (λ s t r g i. ran_fits us names n m s t r b w i g)
-      ss ts rs h a
+  -- rows after the LETs beside those that the rows before them are like
+  pub rans_fit : {H R U : Type 0} {n m : ℕ} {us : List NumberedSubquery} {said : List (List ℕ)}
+      (names : Numbering) (ss ts rs : List Row) → Below n names → Walked H n R U us said m
+      → AllZip (Ran us) ss ts → AllZip (Alike names) ss rs → AllZip (Here names n us) ts rs
+  rans_fit {n = n} {m = m} {us = us} names ss ts rs b w h a =
+      zip_join (Ran us) (Alike names) (Here names n us) (λ s t r g i.
+      let k = ran_fits us names n m s t r b w.within i g in
+      record { below = b; alike = k.0; held = k.1 }) ss ts rs h a
 
   ran_none : (rows : List Row) → AllZip (Ran []) rows rows
   ran_none [] = tt

@@ -1,13 +1,10 @@
 pub mod Alike
-pub mod Places
-pub mod Within
+pub mod Named
+pub mod Walk
 pub mod Lists
 pub mod Lets
 pub mod Traversals
-pub mod SameValues
 pub mod Rows
 pub mod Groups
 pub mod Answers
 pub mod Computed
-pub mod LiftedIsPlain
-pub mod Numbers

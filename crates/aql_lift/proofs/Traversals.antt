@@ -1,5 +1,5 @@
 -- The paths walked don't depend on the names of a traversal.
-use Rattle.std.proofs.Common.{◌≡◌, ℕ, suc, List, [], ◌∷◌, ◌++◌, map, Bool, subst, arith}
+use Rattle.std.proofs.Common.{◌≡◌, ℕ, suc, List, ◌∷◌, ◌++◌, map, Bool, subst, arith}
 use mathlib.Core.Path.{fun_ext}
 use Rattle.std.specs.Prelude.{Option, Some, None, option_to_list, zip}
 use Rattle.std.specs.List.{AllZip}
@@ -14,8 +14,9 @@ use Rattle.aql_meaning.specs.Row.{Row, bind_maybe}
 use Rattle.aql_meaning.specs.Paths.{Path, TraversesBy, TraversesFrom, Traverses, long_paths, path_row, path_value, vertex_of, end_of, last_edge}
 use Rattle.aql_meaning.specs.laws.Shuffles.{alike_permutation}
 use Rattle.aql_meaning.specs.laws.RowByRow.{each_related}
-use Rattle.aql_lift.specs.Numbering.{Numbering, number_traversal, traversal_names, maybe_number, number_after, after_traversal, enter}
+use Rattle.aql_lift.specs.Numbering.{Numbering, number_traversal, traversal_names, maybe_number, number_after, enter}
 use Rattle.aql_lift.proofs.Alike.{Alike, Below, below_bind, alike_bind}
+use Rattle.aql_lift.proofs.Named.{named_given, below_entered}
 use Rattle.aql_lift.proofs.Lists.{zip_join, zip_starts}
 
 same_traversal_by : (n : ℕ) (w : TraversalShape) (es : List Datum) (pruned : Path → Bool) (id : List ℕ)
@@ -40,12 +41,6 @@ same_traversal n w es pruned (Some id) paths h = same_traversal_by n w es pruned
 
 -- ---- the names of a traversal
 
-below_given : (o : Option Ident) (k : ℕ) (own outer : Numbering) → Below k (own ++ outer)
-    → Below (number_after (option_to_list o) k)
-    (enter (option_to_list o) (option_to_list (maybe_number k o)) own ++ outer)
-below_given None k own outer b = b
-below_given (Some x) k own outer b = below_bind k (suc k) (own ++ outer) x (omega arith) b
-
 alike_given : (o : Option Ident) (k : ℕ) (own outer : Numbering) (s r : Row) (v : Datum)
     → Below k (own ++ outer)
     → Alike (own ++ outer) s r
@@ -54,13 +49,6 @@ alike_given : (o : Option Ident) (k : ℕ) (own outer : Numbering) (s r : Row) (
 alike_given None k own outer s r v b a = a
 alike_given (Some x) k own outer s r v b a = alike_bind (own ++ outer) k x s r v b a
 
-pub below_traversal : (n : ℕ) (w : TraversalShape) (own outer : Numbering) → Below n (own ++ outer)
-    → Below (after_traversal n w) (traversal_names n w own ++ outer)
-below_traversal n w own outer b =
-    below_given w.path (number_after (option_to_list w.edge) (suc n)) _ outer
-    (below_given w.edge (suc n) ((w.vertex, n) ∷ own) outer
-    (below_bind n (suc n) (own ++ outer) w.vertex (omega arith) b))
-
 module _ (db : Database) (n : ℕ) (w : TraversalShape) (own outer : Numbering)
     (b : Below n (own ++ outer)) where
   path_alike : (s r : Row) (t : Path) → Alike (own ++ outer) s r
@@ -68,7 +56,7 @@ module _ (db : Database) (n : ℕ) (w : TraversalShape) (own outer : Numbering)
   path_alike s r t a =
       let b' = below_bind n (suc n) (own ++ outer) w.vertex (omega arith) b in
       alike_given w.path (number_after (option_to_list w.edge) (suc n)) _ outer _ _ (path_value db t)
-      (below_given w.edge (suc n) ((w.vertex, n) ∷ own) outer b')
+      (below_entered ((w.vertex, n) ∷ own) outer (named_given w.edge (suc n)) b')
       (alike_given w.edge (suc n) ((w.vertex, n) ∷ own) outer _ _ (last_edge t.steps) b'
       (alike_bind (own ++ outer) n w.vertex s r (vertex_of db (end_of t)) b a))
 

@@ -10,7 +10,7 @@ use Rattle.aql_meaning.specs.Lifted.{IsLifted}
 use Rattle.aql_doc.specs.Held.{Held, database}
 use Rattle.aql_doc.specs.Limits.{IsWithinLimits}
 use Rattle.aql_script.specs.declared.loading.Loaded.{Loaded}
-use Rattle.aql_lift.proofs.LiftedIsPlain.{scoped_is_lifted}
+use Rattle.aql_lift.proofs.Walk.{scoped_is_lifted}
 use Rattle.aql_plan.specs.declared.facts.Facts.{Facts}
 use Rattle.aql_plan.specs.declared.plan.Plan.{Plan}
 use Rattle.aql_plan.specs.declared.rules.RuleName.{RuleName}
