@@ -1,6 +1,5 @@
 pub mod Words
 pub mod First
-pub mod PlainWhere
 pub mod PrunesPlain
 pub mod Kept
 pub mod Forms
