@@ -1,10 +1,10 @@
 -- A variable is declared before a part, and a clause is lifted.
-use Rattle.std.proofs.Common.{◌≡◌, ◌∙◌, ℕ, suc, List, [], ◌∷◌, ◌++◌, map, refl, sym, ap, ap₂, subst, append_assoc, false}
+use Rattle.std.proofs.Common.{◌≡◌, ◌∙◌, ℕ, suc, List, [], ◌∷◌, ◌++◌, map, refl, ap, subst, append_assoc, false}
 use Rattle.aql_tree.specs.declared.syntax.Clause.{Clause}
 use Rattle.aql_tree.specs.declared.syntax.Ident.{Ident}
 use Rattle.aql_tree.specs.declared.syntax.Ident.TheVariants.{Num}
-use Rattle.aql_tree.specs.Tree.{ExprTree, literal, variable, current, array_literal, object_literal, access, function_call, unary_of, chain, array_comparison, ternary, range_of, subquery, ClauseTree, for_each, let_be, ClauseTrees, no_clauses, clause_then, QueryTree}
-use Rattle.aql_tree.specs.View.{clause_tree, clauses}
+use Rattle.aql_tree.specs.Tree.{ExprTree, variable, subquery, ClauseTree, for_each, let_be, ClauseTrees, no_clauses, clause_then}
+use Rattle.aql_tree.specs.View.{clauses}
 use Rattle.aql_lift.specs.Numbering.{Numbering, text_of}
 use Rattle.aql_lift.specs.Lifting as spec
 use Rattle.aql_lift.specs.Lifting.{NumberedSubquery, Scoped, ScopedClause, over, declares, with_lets, append_clauses}
@@ -37,18 +37,7 @@ for_other outer own n x e = record {
 pub for_is : (outer own : Numbering) (n : ℕ) (x : Ident) (e : ExprTree) → is_variable e ≡ false
     → spec.clause outer own n (for_each x e) ≡ for_other outer own n x e
 for_is outer own n x (variable y) other = absurd (cc)
-for_is outer own n x (literal v) other = refl
-for_is outer own n x current other = refl
-for_is outer own n x (array_literal es) other = refl
-for_is outer own n x (object_literal ms) other = refl
-for_is outer own n x (access e ss) other = refl
-for_is outer own n x (function_call f es) other = refl
-for_is outer own n x (unary_of op e) other = refl
-for_is outer own n x (chain e ls) other = refl
-for_is outer own n x (array_comparison e kind op f) other = refl
-for_is outer own n x (ternary e m f) other = refl
-for_is outer own n x (range_of e f) other = refl
-for_is outer own n x (subquery q) other = refl
+for_is outer own n x e other = refl
 
 abbrev pub let_other : Numbering → Numbering → ℕ → Ident → ExprTree → ScopedClause
 let_other outer own n x e = record {
@@ -59,18 +48,7 @@ let_other outer own n x e = record {
 pub let_is : (outer own : Numbering) (n : ℕ) (x : Ident) (e : ExprTree) → is_subquery e ≡ false
     → spec.clause outer own n (let_be x e) ≡ let_other outer own n x e
 let_is outer own n x (subquery q) other = absurd (cc)
-let_is outer own n x (literal v) other = refl
-let_is outer own n x current other = refl
-let_is outer own n x (variable y) other = refl
-let_is outer own n x (array_literal es) other = refl
-let_is outer own n x (object_literal ms) other = refl
-let_is outer own n x (access e ss) other = refl
-let_is outer own n x (function_call f es) other = refl
-let_is outer own n x (unary_of op e) other = refl
-let_is outer own n x (chain e ls) other = refl
-let_is outer own n x (array_comparison e kind op f) other = refl
-let_is outer own n x (ternary e m f) other = refl
-let_is outer own n x (range_of e f) other = refl
+let_is outer own n x e other = refl
 
 -- ---- the clauses of a query, with their LETs
 

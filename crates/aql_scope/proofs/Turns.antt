@@ -3,8 +3,7 @@ use Rattle.std.proofs.Common.{◌≡◌, ◌∙◌, ℕ, suc, ◌+◌, ◌<◌, 
 use Rattle.std.proofs.Math.Seq.{drop-cons}
 use Rattle.std.proofs.lemmas.List.{map-append, drop_all}
 use Rattle.aql_tree.specs.Tree.{ClauseTree}
-use Rattle.aql_lift.specs.Numbering.{text_of}
-use Rattle.aql_lift.specs.Lifting.{NumberedSubquery, Scoped, as_it_is, over, both, three, declares}
+use Rattle.aql_lift.specs.Lifting.{NumberedSubquery, Scoped, as_it_is, over, both, three}
 use Rattle.aql_scope.specs.Lifts.{Progress, let_of, after}
 
 pub progress_is : (cs ds : List ClauseTree) (said more : List (List ℕ)) (n m : ℕ) → cs ≡ ds → said ≡ more → n ≡ m
@@ -82,9 +81,12 @@ before_more : {A T : Type 0} (cons : A → T → T) (done : List A) (a : A) (t :
 before_more cons [] a t = refl
 before_more cons (b ∷ done) a t = ap (cons b) (before_more cons done a t)
 
--- the whole from its beginning on is what was lifted of it, and the rest from here on
-abbrev pub Goes : {A T : Type 0} → (A → T → T) → Scoped T → Progress → List A → Scoped T → Progress → Type 0
-Goes cons whole from done rest now = (whole.tree ≡ before cons done rest.tree) × (after whole from ≡ after rest now)
+-- The list `all` from its beginning on is what was lifted of it, `done`, and the rest from i on.
+pub record Goes {X A T : Type 0} (part : X → A) (cons : A → T → T) (rest : ℕ → List A → Scoped T)
+    (all : List X) (from : Progress) (i : ℕ) (done : List X) (now : Progress) : Type 0 where
+  pub tree : (rest from.next (map part all)).tree
+      ≡ before cons (map part done) (rest now.next (map part (drop i all))).tree
+  pub left : after (rest from.next (map part all)) from ≡ after (rest now.next (map part (drop i all))) now
 
 pub from_here : {A : Type 0} (all : List A) (i : ℕ) (x : A) → i < length all → x ≡ get_or all i x
     → drop i all ≡ x ∷ drop (i + 1) all
@@ -92,46 +94,41 @@ from_here all i x h e =
     subst (λ n. drop i all ≡ x ∷ drop n all) (sym (add-one i))
     (subst (λ y. drop i all ≡ y ∷ drop (suc i) all) (sym e) (drop-cons all i x h))
 
-module _ {X A T : Type 0} (part : X → A) (cons : A → T → T) (rest : ℕ → List A → Scoped T) (whole : Scoped T)
-    (all : List X) (i : ℕ) (done : List X) (from now : Progress)
-    (goes : Goes cons whole from (map part done) (rest now.next (map part (drop i all))) now)
+module _ {X A T : Type 0} {part : X → A} {cons : A → T → T} {rest : ℕ → List A → Scoped T} {all : List X}
+    {from : Progress} {i : ℕ} {done : List X} {now : Progress}
+    (goes : Goes part cons rest all from i done now)
   where
     -- one more was lifted
-    pub turn : {S : Type 0} (x y : X) (new : List X) (s : Scoped S) (h : S → T → T) (then : Progress)
+    pub turn : {S : Type 0} {x y : X} {new : List X} {then : Progress} (s : Scoped S) (h : S → T → T)
         → i < length all → x ≡ get_or all i x → new ≡ done ++ y ∷ []
         → ((more : List A) → rest now.next (part x ∷ more) ≡ both h s (rest s.next more))
         → ((t : T) → h s.tree t ≡ cons (part y) t) → then ≡ after s now
-        → Goes cons whole from (map part new) (rest then.next (map part (drop (i + 1) all))) then
-    turn x y new s h then lt is more step lifted e = by_then where
-      left : List A
-      left = map part (drop (i + 1) all)
+        → Goes part cons rest all from (i + 1) new then
+    turn {x = x} {y = y} {new = new} s h lt is more step lifted e =
+        subst (λ (p : Progress). Goes part cons rest all from (i + 1) new p) (sym e)
+        (record { tree = tree_is; left = left_is }) where
+          at_s : Scoped T
+          at_s = rest s.next (map part (drop (i + 1) all))
 
-      at_s : Scoped T
-      at_s = rest s.next left
+          is_both : rest now.next (map part (drop i all)) ≡ both h s at_s
+          is_both = ap (λ xs. rest now.next (map part xs)) (from_here all i x lt is) ∙ step _
 
-      is_both : rest now.next (map part (drop i all)) ≡ both h s at_s
-      is_both = ap (λ xs. rest now.next (map part xs)) (from_here all i x lt is) ∙ step left
+          tree_is : (rest from.next (map part all)).tree ≡ before cons (map part new) at_s.tree
+          tree_is = goes.tree ∙ ap (λ r. before cons (map part done) r.tree) is_both
+              ∙ ap (before cons (map part done)) (lifted at_s.tree)
+              ∙ sym (before_more cons (map part done) (part y) at_s.tree)
+              ∙ ap (λ ps. before cons ps at_s.tree) (sym (map-append part done (y ∷ [])))
+              ∙ ap (λ xs. before cons (map part xs) at_s.tree) (sym more)
 
-      tree : whole.tree ≡ before cons (map part new) at_s.tree
-      tree = goes.0 ∙ ap (λ r. before cons (map part done) r.tree) is_both
-          ∙ ap (before cons (map part done)) (lifted at_s.tree)
-          ∙ sym (before_more cons (map part done) (part y) at_s.tree)
-          ∙ ap (λ ps. before cons ps at_s.tree) (sym (map-append part done (y ∷ [])))
-          ∙ ap (λ xs. before cons (map part xs) at_s.tree) (sym more)
-
-      left_by : after whole from ≡ after at_s (after s now)
-      left_by = goes.1 ∙ ap (λ r. after r now) is_both ∙ sym (after_both h s at_s now)
-
-      by_then : Goes cons whole from (map part new) (rest then.next left) then
-      by_then = subst (λ (p : Progress). Goes cons whole from (map part new) (rest p.next left) p) (sym e)
-          (tree, left_by)
+          left_is : after (rest from.next (map part all)) from ≡ after at_s (after s now)
+          left_is = goes.left ∙ ap (λ r. after r now) is_both ∙ sym (after_both h s at_s now)
 
     -- all were lifted
-    pub finish : (e d : T) → length all ≤ i → rest now.next [] ≡ as_it_is e now.next
-        → before cons (map part done) e ≡ d → Given d whole from now
-    finish e d past ends is = (
-      sym (goes.0 ∙ ap (λ r. before cons (map part done) r.tree) none ∙ is),
-      after_none e now ∙ sym (goes.1 ∙ ap (λ r. after r now) none),
+    pub finish : (e : T) {d : T} → length all ≤ i → rest now.next [] ≡ as_it_is e now.next
+        → before cons (map part done) e ≡ d → Given d (rest from.next (map part all)) from now
+    finish e past ends is = (
+      sym (goes.tree ∙ ap (λ r. before cons (map part done) r.tree) none ∙ is),
+      after_none e now ∙ sym (goes.left ∙ ap (λ r. after r now) none),
     ) where
       none : rest now.next (map part (drop i all)) ≡ as_it_is e now.next
       none = ap (λ xs. rest now.next (map part xs)) (drop_all i all past) ∙ ends

@@ -11,6 +11,7 @@ use Rattle.aql_lift.specs.Numbering.{Numbering}
 use Rattle.aql_lift.specs.Lifting.{NumberedSubquery, Scoped, as_it_is, over, both, expr, maybe}
 use Rattle.aql_scope.specs.declared.names.Scope.{Scope}
 use Rattle.aql_scope.specs.declared.numbers.Numbers.{Numbers}
+use Rattle.aql_scope.specs.declared.numbers.Walk.{Walk}
 
 abbrev pub visible : Scope → Numbering
 visible s = s.own ++ s.outer
@@ -68,6 +69,11 @@ after s p = record {
 abbrev pub Lifts : {A T : Type 0} → (A → T) → Scoped T → Progress → Result A OutOfMemory → Progress → Type 0
 Lifts f s before (Ok a) then = (f a ≡ s.tree) × (then ≡ after s before)
 Lifts f s before (Err e) then = Unit {0}
+
+-- the part was lifted that s gives from the next number on
+abbrev pub Walks : {A T : Type 0} → Walk → Result A OutOfMemory → Walk → (A → T) → (ℕ → Scoped T) → Type 0
+Walks before r then f s = Lifts f (s before.numbers.next) (progress before.lets before.numbers) r
+    (progress then.lets then.numbers)
 
 -- a query was lifted, which has its own LETs
 abbrev pub LiftsQuery : {A : Type 0} → (A → QueryTree) → Scoped QueryTree → Numbers

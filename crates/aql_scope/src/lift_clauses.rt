@@ -7,7 +7,7 @@ ghost use Rattle.aql_tree.specs.View.{collect_part, collect_clause, traversal_pa
 ghost use Rattle.aql_tree.specs.declared.syntax.Ident.TheVariants.{Num};
 ghost use Rattle.aql_lift.specs.Numbering.{number_of, from_name};
 ghost use Rattle.aql_lift.specs.Lifting as spec;
-ghost use Rattle.aql_scope.specs.Lifts.{Lifts, LiftsQuery, progress, visible};
+ghost use Rattle.aql_scope.specs.Lifts.{Walks, LiftsQuery, visible};
 
 use crate::Made;
 use crate::lift_collect::lift_collect;
@@ -49,10 +49,8 @@ pub fn lift_query(query: &Query, around: &Scope, walk: &mut Walk) -> Made<Query>
 // A clause; the query's own names are then those after it.
 #[cycle(lift)]
 fn lift_clause(clause: &Clause, scope: &mut Scope, walk: &mut Walk) -> Made<Clause>
-    ensures clause { Lifts clause_tree (spec.clause scope.old.outer scope.old.own walk.old.numbers.next
-        (clause_tree clause.now)).clause
-        (progress walk.old.lets walk.old.numbers) result
-        (progress walk.new.lets walk.new.numbers) }
+    ensures clause { Walks walk.old result walk.new clause_tree
+        (λ n. (spec.clause scope.old.outer scope.old.own n (clause_tree clause.now)).clause) }
     ensures own { OnOk result (scope.new.own
         ≡ (spec.clause scope.old.outer scope.old.own walk.old.numbers.next (clause_tree clause.now)).own) }
     ensures outer { scope.new.outer ≡ scope.old.outer }
@@ -82,10 +80,9 @@ fn lift_clause(clause: &Clause, scope: &mut Scope, walk: &mut Walk) -> Made<Clau
 // FOR over a single name, which is a variable or a collection, or over any other expression.
 #[cycle(lift)]
 fn lift_for(list: &Expr, var: &Ident, scope: &mut Scope, walk: &mut Walk) -> Made<Clause>
-    ensures clause { Lifts clause_tree (spec.clause scope.old.outer scope.old.own walk.old.numbers.next
-        (for_each var.now (tree list.now))).clause
-        (progress walk.old.lets walk.old.numbers) result
-        (progress walk.new.lets walk.new.numbers) }
+    ensures clause { Walks walk.old result walk.new clause_tree
+        (λ n. (spec.clause scope.old.outer scope.old.own n (for_each var.now
+        (tree list.now))).clause) }
     ensures own { OnOk result (scope.new.own ≡ (spec.clause scope.old.outer scope.old.own
         walk.old.numbers.next (for_each var.now (tree list.now))).own) }
     ensures outer { scope.new.outer ≡ scope.old.outer }
@@ -133,10 +130,9 @@ fn source(ident: &Ident, number: u32, scope: &Scope, alloc: Global) -> Made<Clau
 // LET of a subquery, which stays there, or of any other expression.
 #[cycle(lift)]
 fn lift_let(value: &Expr, var: &Ident, scope: &mut Scope, walk: &mut Walk) -> Made<Clause>
-    ensures clause { Lifts clause_tree (spec.clause scope.old.outer scope.old.own walk.old.numbers.next
-        (let_be var.now (tree value.now))).clause
-        (progress walk.old.lets walk.old.numbers) result
-        (progress walk.new.lets walk.new.numbers) }
+    ensures clause { Walks walk.old result walk.new clause_tree
+        (λ n. (spec.clause scope.old.outer scope.old.own n (let_be var.now
+        (tree value.now))).clause) }
     ensures own { OnOk result (scope.new.own ≡ (spec.clause scope.old.outer scope.old.own
         walk.old.numbers.next (let_be var.now (tree value.now))).own) }
     ensures outer { scope.new.outer ≡ scope.old.outer }
@@ -161,20 +157,14 @@ fn lift_let(value: &Expr, var: &Ident, scope: &mut Scope, walk: &mut Walk) -> Ma
 
 #[cycle(lift)]
 fn lift_keys(keys: &[Key], scope: &Scope, walk: &mut Walk) -> Made<Keys>
-    ensures keys { Lifts (λ ks. trees (map (λ k. k.0) (map key_part ks)))
-        (spec.exprs (visible scope.now) walk.old.numbers.next
-        (trees (map (λ k. k.0) (map key_part keys.now))))
-        (progress walk.old.lets walk.old.numbers) result
-        (progress walk.new.lets walk.new.numbers) }
+    ensures keys { Walks walk.old result walk.new (λ ks. trees (map (λ k. k.0) (map key_part ks)))
+        (λ n. spec.exprs (visible scope.now) n (trees (map (λ k. k.0) (map key_part keys.now)))) }
     ensures directions { IfOk result (λ ks. map (λ k. k.1) (map key_part ks)
         ≡ map (λ k. k.1) (map key_part keys.now)) }
 {
     let mut done = Seq::new(walk.numbers.alloc);
     for key in keys {
-        done.push(Key {
-            expr: lift_expr(&key.expr, scope, walk)?,
-            descending: key.descending,
-        })?;
+        done.push(Key::new(lift_expr(&key.expr, scope, walk)?, key.descending))?;
     }
     Ok(done)
 }

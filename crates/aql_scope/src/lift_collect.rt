@@ -10,7 +10,7 @@ ghost use Rattle.aql_meaning.specs.Groups.{into_names};
 ghost use Rattle.aql_meaning.specs.Visible.{aggregate_vars, into_var};
 ghost use Rattle.aql_lift.specs.Numbering.{number_of, numbered_variable, idents, enter, variable_members};
 ghost use Rattle.aql_lift.specs.Lifting as spec;
-ghost use Rattle.aql_scope.specs.Lifts.{Lifts, progress, visible};
+ghost use Rattle.aql_scope.specs.Lifts.{Walks, visible};
 
 use crate::Made;
 use crate::lift_exprs::{lift_expr, lift_maybe, numbered};
@@ -25,10 +25,9 @@ use std::alloc::Global;
 /// COLLECT: after it only its own names are left.
 #[cycle(lift)]
 pub fn lift_collect(collect: &Collect, scope: &mut Scope, walk: &mut Walk) -> Made<Clause>
-    ensures clause { Lifts clause_tree (spec.clause scope.old.outer scope.old.own walk.old.numbers.next
-        (collect_clause (collect_part collect.now))).clause
-        (progress walk.old.lets walk.old.numbers) result
-        (progress walk.new.lets walk.new.numbers) }
+    ensures clause { Walks walk.old result walk.new clause_tree
+        (λ n. (spec.clause scope.old.outer scope.old.own n (collect_clause
+        (collect_part collect.now))).clause) }
     ensures own { OnOk result (scope.new.own ≡ (spec.clause scope.old.outer scope.old.own
         walk.old.numbers.next (collect_clause (collect_part collect.now))).own) }
     ensures outer { scope.new.outer ≡ scope.old.outer }
@@ -43,13 +42,10 @@ pub fn lift_collect(collect: &Collect, scope: &mut Scope, walk: &mut Walk) -> Ma
 
 #[cycle(lift)]
 fn lift_criteria(groups: &[Let], scope: &Scope, own: &mut NameList, walk: &mut Walk) -> Made<Lets>
-    ensures criteria { Lifts
+    ensures criteria { Walks walk.old result walk.new
         (λ ls. (map (λ l. l.0) (map let_part ls), trees (map (λ l. l.1) (map let_part ls))))
-        (spec.criteria (visible scope.now) walk.old.numbers.next
-        (map (λ l. l.0) (map let_part groups.now))
-        (trees (map (λ l. l.1) (map let_part groups.now))))
-        (progress walk.old.lets walk.old.numbers) result
-        (progress walk.new.lets walk.new.numbers) }
+        (λ n. spec.criteria (visible scope.now) n (map (λ l. l.0) (map let_part groups.now))
+        (trees (map (λ l. l.1) (map let_part groups.now)))) }
     ensures own { OnOk result (own.new ≡ enter (map (λ l. l.0) (map let_part groups.now))
         (spec.criteria (visible scope.now) walk.old.numbers.next
         (map (λ l. l.0) (map let_part groups.now))
@@ -74,11 +70,8 @@ fn lift_aggregates(
     own: &mut NameList,
     walk: &mut Walk,
 ) -> Made<Aggregates>
-    ensures aggregates { Lifts (λ gs. aggregates (map aggregate_part gs))
-        (spec.aggregates (visible scope.now) walk.old.numbers.next
-        (aggregates (map aggregate_part all.now)))
-        (progress walk.old.lets walk.old.numbers) result
-        (progress walk.new.lets walk.new.numbers) }
+    ensures aggregates { Walks walk.old result walk.new (λ gs. aggregates (map aggregate_part gs))
+        (λ n. spec.aggregates (visible scope.now) n (aggregates (map aggregate_part all.now))) }
     ensures own { OnOk result
         (own.new ≡ enter (aggregate_vars (aggregates (map aggregate_part all.now)))
         (aggregate_vars (spec.aggregates (visible scope.now) walk.old.numbers.next
@@ -105,11 +98,9 @@ fn lift_into(
     own: &mut NameList,
     walk: &mut Walk,
 ) -> Made<Option<Into>>
-    ensures into { Lifts (λ i. into_tree (option_map into_part i))
-        (spec.into_part scope.now.own (visible scope.now) walk.old.numbers.next
-        (into_tree (option_map into_part into.now)))
-        (progress walk.old.lets walk.old.numbers) result
-        (progress walk.new.lets walk.new.numbers) }
+    ensures into { Walks walk.old result walk.new (λ i. into_tree (option_map into_part i))
+        (λ n. spec.into_part scope.now.own (visible scope.now) n (into_tree
+        (option_map into_part into.now))) }
     ensures own { OnOk result
         (own.new ≡ enter (option_to_list (into_var (into_tree (option_map into_part into.now))))
         (option_to_list (into_var (spec.into_part scope.now.own (visible scope.now)

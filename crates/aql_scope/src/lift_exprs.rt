@@ -7,7 +7,7 @@ ghost use Rattle.aql_tree.specs.View.{clause_tree, step_part, member_part, link_
 ghost use Rattle.aql_tree.specs.declared.syntax.Ident.TheVariants.{Num};
 ghost use Rattle.aql_lift.specs.Numbering.{number_of, numbered_variable};
 ghost use Rattle.aql_lift.specs.Lifting as spec;
-ghost use Rattle.aql_scope.specs.Lifts.{Lifts, progress, visible, one_member, one_step};
+ghost use Rattle.aql_scope.specs.Lifts.{Walks, visible, one_member, one_step};
 
 use crate::Made;
 use crate::lift_clauses::lift_query;
@@ -29,9 +29,8 @@ pub fn numbered(ident: &Ident, scope: &Scope) -> Expr
 
 #[cycle(lift)]
 pub fn lift_expr(expr: &Expr, scope: &Scope, walk: &mut Walk) -> Made<Expr>
-    ensures { Lifts tree (spec.expr (visible scope.now) walk.old.numbers.next (tree expr.now))
-        (progress walk.old.lets walk.old.numbers) result
-        (progress walk.new.lets walk.new.numbers) }
+    ensures { Walks walk.old result walk.new tree
+        (λ n. spec.expr (visible scope.now) n (tree expr.now)) }
 {
     match expr {
         Expr::Lit(value) => Ok(Expr::Lit(copy(walk.numbers.alloc, value)?)),
@@ -81,10 +80,8 @@ pub fn lift_expr(expr: &Expr, scope: &Scope, walk: &mut Walk) -> Made<Expr>
 
 #[cycle(lift)]
 pub fn lift_boxed(expr: &Expr, scope: &Scope, walk: &mut Walk) -> Made<Box<Expr>>
-    ensures { Lifts (λ b. tree b.value)
-        (spec.expr (visible scope.now) walk.old.numbers.next (tree expr.now))
-        (progress walk.old.lets walk.old.numbers) result
-        (progress walk.new.lets walk.new.numbers) }
+    ensures { Walks walk.old result walk.new (λ b. tree b.value)
+        (λ n. spec.expr (visible scope.now) n (tree expr.now)) }
 {
     let lifted = lift_expr(expr, scope, walk)?;
     Ok(Box::new(walk.numbers.alloc, lifted)?)
@@ -93,11 +90,8 @@ pub fn lift_boxed(expr: &Expr, scope: &Scope, walk: &mut Walk) -> Made<Box<Expr>
 // What stands between `?` and `:`.
 #[cycle(lift)]
 fn lift_chosen(expr: &Option<Box<Expr>>, scope: &Scope, walk: &mut Walk) -> Made<Option<Box<Expr>>>
-    ensures { Lifts (λ m. maybe (option_map (λ b. tree b.value) m))
-        (spec.maybe (visible scope.now) walk.old.numbers.next
-        (maybe (option_map (λ b. tree b.value) expr.now)))
-        (progress walk.old.lets walk.old.numbers) result
-        (progress walk.new.lets walk.new.numbers) }
+    ensures { Walks walk.old result walk.new (λ m. maybe (option_map (λ b. tree b.value) m))
+        (λ n. spec.maybe (visible scope.now) n (maybe (option_map (λ b. tree b.value) expr.now))) }
 {
     match expr {
         Some(expr) => Ok(Some(lift_boxed(expr, scope, walk)?)),
@@ -107,10 +101,8 @@ fn lift_chosen(expr: &Option<Box<Expr>>, scope: &Scope, walk: &mut Walk) -> Made
 
 #[cycle(lift)]
 pub fn lift_maybe(expr: &Option<Expr>, scope: &Scope, walk: &mut Walk) -> Made<Option<Expr>>
-    ensures { Lifts (λ m. maybe (option_map tree m))
-        (spec.maybe (visible scope.now) walk.old.numbers.next (maybe (option_map tree expr.now)))
-        (progress walk.old.lets walk.old.numbers) result
-        (progress walk.new.lets walk.new.numbers) }
+    ensures { Walks walk.old result walk.new (λ m. maybe (option_map tree m))
+        (λ n. spec.maybe (visible scope.now) n (maybe (option_map tree expr.now))) }
 {
     match expr {
         Some(expr) => Ok(Some(lift_expr(expr, scope, walk)?)),
@@ -120,10 +112,8 @@ pub fn lift_maybe(expr: &Option<Expr>, scope: &Scope, walk: &mut Walk) -> Made<O
 
 #[cycle(lift)]
 fn lift_all(exprs: &[Expr], scope: &Scope, walk: &mut Walk) -> Made<Exprs>
-    ensures { Lifts (λ es. trees (map tree es))
-        (spec.exprs (visible scope.now) walk.old.numbers.next (trees (map tree exprs.now)))
-        (progress walk.old.lets walk.old.numbers) result
-        (progress walk.new.lets walk.new.numbers) }
+    ensures { Walks walk.old result walk.new (λ es. trees (map tree es))
+        (λ n. spec.exprs (visible scope.now) n (trees (map tree exprs.now))) }
 {
     let mut done = Seq::new(walk.numbers.alloc);
     for expr in exprs {
@@ -134,10 +124,8 @@ fn lift_all(exprs: &[Expr], scope: &Scope, walk: &mut Walk) -> Made<Exprs>
 
 #[cycle(lift)]
 fn lift_members(fields: &[Field], scope: &Scope, walk: &mut Walk) -> Made<Fields>
-    ensures { Lifts (λ ms. members (map member_part ms))
-        (spec.members (visible scope.now) walk.old.numbers.next (members (map member_part fields.now)))
-        (progress walk.old.lets walk.old.numbers) result
-        (progress walk.new.lets walk.new.numbers) }
+    ensures { Walks walk.old result walk.new (λ ms. members (map member_part ms))
+        (λ n. spec.members (visible scope.now) n (members (map member_part fields.now))) }
 {
     let mut done = Seq::new(walk.numbers.alloc);
     for field in fields {
@@ -148,10 +136,8 @@ fn lift_members(fields: &[Field], scope: &Scope, walk: &mut Walk) -> Made<Fields
 
 #[cycle(lift)]
 fn lift_member(field: &Field, scope: &Scope, walk: &mut Walk) -> Made<Field>
-    ensures { Lifts member_part
-        (one_member (visible scope.now) walk.old.numbers.next (member_part field.now))
-        (progress walk.old.lets walk.old.numbers) result
-        (progress walk.new.lets walk.new.numbers) }
+    ensures { Walks walk.old result walk.new member_part
+        (λ n. one_member (visible scope.now) n (member_part field.now)) }
 {
     match field {
         Field::Named { name, value } => Ok(Field::Named {
@@ -167,10 +153,8 @@ fn lift_member(field: &Field, scope: &Scope, walk: &mut Walk) -> Made<Field>
 
 #[cycle(lift)]
 fn lift_steps(all: &[Step], scope: &Scope, walk: &mut Walk) -> Made<Steps>
-    ensures { Lifts (λ ss. steps (map step_part ss))
-        (spec.steps (visible scope.now) walk.old.numbers.next (steps (map step_part all.now)))
-        (progress walk.old.lets walk.old.numbers) result
-        (progress walk.new.lets walk.new.numbers) }
+    ensures { Walks walk.old result walk.new (λ ss. steps (map step_part ss))
+        (λ n. spec.steps (visible scope.now) n (steps (map step_part all.now))) }
 {
     let mut done = Seq::new(walk.numbers.alloc);
     for step in all {
@@ -181,10 +165,8 @@ fn lift_steps(all: &[Step], scope: &Scope, walk: &mut Walk) -> Made<Steps>
 
 #[cycle(lift)]
 fn lift_step(step: &Step, scope: &Scope, walk: &mut Walk) -> Made<Step>
-    ensures { Lifts step_part
-        (one_step (visible scope.now) walk.old.numbers.next (step_part step.now))
-        (progress walk.old.lets walk.old.numbers) result
-        (progress walk.new.lets walk.new.numbers) }
+    ensures { Walks walk.old result walk.new step_part
+        (λ n. one_step (visible scope.now) n (step_part step.now)) }
 {
     match step {
         Step::Name(name) => Ok(Step::Name(name.copy(walk.numbers.alloc)?)),
@@ -198,17 +180,12 @@ fn lift_step(step: &Step, scope: &Scope, walk: &mut Walk) -> Made<Step>
 
 #[cycle(lift)]
 fn lift_links(all: &[Link], scope: &Scope, walk: &mut Walk) -> Made<Links>
-    ensures { Lifts (λ ls. links (map link_part ls))
-        (spec.links (visible scope.now) walk.old.numbers.next (links (map link_part all.now)))
-        (progress walk.old.lets walk.old.numbers) result
-        (progress walk.new.lets walk.new.numbers) }
+    ensures { Walks walk.old result walk.new (λ ls. links (map link_part ls))
+        (λ n. spec.links (visible scope.now) n (links (map link_part all.now))) }
 {
     let mut done = Seq::new(walk.numbers.alloc);
     for link in all {
-        done.push(Link {
-            op: link.op,
-            right: lift_expr(&link.right, scope, walk)?,
-        })?;
+        done.push(Link::new(link.op, lift_expr(&link.right, scope, walk)?))?;
     }
     Ok(done)
 }
@@ -216,10 +193,8 @@ fn lift_links(all: &[Link], scope: &Scope, walk: &mut Walk) -> Made<Links>
 // The variable of a subquery, whose LET then stands before the clause at hand.
 #[cycle(lift)]
 fn lift_subquery(query: &Query, scope: &Scope, walk: &mut Walk) -> Made<Expr>
-    ensures { Lifts tree
-        (spec.expr (visible scope.now) walk.old.numbers.next (subquery (query_tree query.now)))
-        (progress walk.old.lets walk.old.numbers) result
-        (progress walk.new.lets walk.new.numbers) }
+    ensures { Walks walk.old result walk.new tree
+        (λ n. spec.expr (visible scope.now) n (subquery (query_tree query.now))) }
 {
     let name = Text::new(walk.numbers.alloc, "sub")?;
     let number = walk.numbers.take(name)?;

@@ -8,7 +8,7 @@ ghost use Rattle.aql_lift.specs.Numbering.{text_of, maybe_number, enter, number_
 ghost use Rattle.aql_lift.specs.Numbering.{number_after, after_traversal, traversal_names};
 ghost use Rattle.aql_lift.specs.Lifting as spec;
 ghost use Rattle.aql_scope.specs.Faults.{traversal_variables};
-ghost use Rattle.aql_scope.specs.Lifts.{Lifts, progress, visible};
+ghost use Rattle.aql_scope.specs.Lifts.{Walks, visible};
 
 use crate::Made;
 use crate::lift_exprs::{lift_expr, lift_maybe};
@@ -31,10 +31,9 @@ struct Head {
 /// A traversal: its names are visible in its PRUNE.
 #[cycle(lift)]
 pub fn lift_traversal(traversal: &Traversal, scope: &mut Scope, walk: &mut Walk) -> Made<Clause>
-    ensures clause { Lifts clause_tree (spec.clause scope.old.outer scope.old.own walk.old.numbers.next
-        (traversal_clause (traversal_part traversal.now))).clause
-        (progress walk.old.lets walk.old.numbers) result
-        (progress walk.new.lets walk.new.numbers) }
+    ensures clause { Walks walk.old result walk.new clause_tree
+        (λ n. (spec.clause scope.old.outer scope.old.own n (traversal_clause
+        (traversal_part traversal.now))).clause) }
     ensures own { OnOk result (scope.new.own ≡ (spec.clause scope.old.outer scope.old.own
         walk.old.numbers.next (traversal_clause (traversal_part traversal.now))).own) }
     ensures outer { scope.new.outer ≡ scope.old.outer }

@@ -1,190 +1,117 @@
-use Rattle.std.proofs.Common.{◌≡◌, ◌∙◌, ap, ap₂, sym, subst, map, refl, rules, option_map, Option, Some, None, [], ◌∷◌, ◌++◌, ◌+◌, ◌<◌, ◌≤◌, drop, take, length, get_or, suc, codes}
+use Rattle.std.proofs.Common.{◌≡◌, ◌∙◌, ap, ap₂, sym, subst, map, refl, rules, option_map, Some, [], ◌∷◌, ◌++◌, ◌+◌, ◌<◌, ◌≤◌, take, length, get_or}
 use Rattle.aql_tree.specs.declared.syntax.Collect.{out-Collect}
 use Rattle.aql_tree.specs.declared.syntax.Ident.TheVariants.{Num}
 use Rattle.aql_tree.specs.Tree.{expr_then, no_exprs, no_members, no_steps, no_links, no_aggregates, link_then, for_each, let_be, ternary, range_of, subquery, collect, query, into, MaybeExpr, one_expr}
-use Rattle.aql_tree.specs.View.{inline, tree, trees, members, steps, links, aggregates, clauses, maybe, query_tree, clause_tree, into_tree}
-use Rattle.aql_tree.specs.View.{member_part, step_part, link_part, key_part, let_part, aggregate_part, into_part, collect_clause, TraversalPart, traversal_part}
+use Rattle.aql_tree.specs.View.{inline, tree, trees, members, links, aggregates, clauses, maybe, query_tree, clause_tree, into_tree}
+use Rattle.aql_tree.specs.View.{member_part, step_part, key_part, let_part, aggregate_part, into_part, collect_clause, TraversalPart, traversal_part}
 use Rattle.aql_meaning.specs.Options.{with_settings}
-use Rattle.aql_meaning.specs.Visible.{aggregate_vars}
 use Rattle.aql_lift.specs.Numbering.{enter, traversal_names}
 use Rattle.aql_lift.specs.Lifting as spec
-use Rattle.aql_scope.specs.Lifts.{Lifts, Progress, progress, visible, member_then, one_member, step_then, one_step, option_of, after}
+use Rattle.aql_scope.specs.Lifts.{Lifts, progress, visible, member_then, one_member, step_then, one_step, option_of}
 use Rattle.aql_scope.proofs.Turns.{Given, turn, finish, both_given, three_given}
 use Rattle.aql_scope.proofs.Forms.{of_variable, of_query, of_ternary, of_range, of_each, of_for, of_let, query_made, no_variable, no_query, query_parts, collect_parts, traversal_parts}
-use Rattle.aql_scope.proofs.Declared.{for_other, for_is, let_other, let_is}
+use Rattle.aql_scope.proofs.Declared.{for_is, let_is}
 use Rattle.aql_scope.proofs.Queries.{clause_turn, query_given}
-use Rattle.aql_scope.proofs.Parts.{before_trees, before_members, before_steps, before_links, before_keys, before_lets, before_aggregates, Criteria, link_part_then, key_then, let_then, aggregate_part_then}
-use Rattle.aql_scope.proofs.Elements.{link_is, key_is, member_first, step_first, option_back}
+use Rattle.aql_scope.proofs.Parts.{before_trees, before_members, before_steps, before_links, before_keys, before_lets, before_aggregates, Criteria, link_part_then, key_then}
+use Rattle.aql_scope.proofs.Elements.{link_is, key_is, let_is as let_part_is, aggregate_is, member_first, step_first, option_back}
 use Rattle.aql_scope.proofs.Clauses.{QueryGiven, when_ok, pushed, subquery_given, let_query_given, into_some, into_given, declared_over, shape_named, traversal_given}
-use Rattle.aql_scope.proofs.Groups.{taken_more, criteria_of, collect_given, collect_entered, criterion_turn, criterion_entered, aggregate_turn, aggregate_entered}
+use Rattle.aql_scope.proofs.Groups.{taken_more, entered_more, criteria_of, enter_criteria, criterion_turn, aggregates_of, enter_aggregates, aggregate_turn, collect_given, collect_entered}
 use Rattle.aql_scope.proofs.+lift.Goals as goal
 
 pub lift_exprs::lift_all-loop-expr-preserved : goal.lift_exprs::lift_all-loop-expr-preserved
 lift_exprs::lift_all-loop-expr-preserved t c =
-    let names = visible c.args.scope.now in
-    let from = progress c.args.walk.now.lets c.args.walk.now.numbers in
-    let now = progress c.loop-expr.walk.lets c.loop-expr.walk.numbers in
-    let x = c.expr-item.result in
-    turn tree expr_then (λ n es. spec.exprs names n (trees es))
-    (spec.exprs names from.next (trees (map tree c.args.exprs.now)))
-    c.args.exprs.now c.loop-expr.expr-index c.loop-expr.done from now c.loop-expr.invariant
-    x _ _ (spec.expr names now.next (tree x)) expr_then
-    (progress c.lift_expr.new.walk.lets c.lift_expr.new.walk.numbers) c.loop-expr-test.true c.expr-item.is
-    c.in_ok-push.ensures.ok (λ es. refl)
+    let s = spec.expr (visible c.args.scope.now) c.loop-expr.walk.numbers.next (tree c.expr-item.result) in
+    turn c.loop-expr.invariant s expr_then
+    c.loop-expr-test.true c.expr-item.is c.in_ok-push.ensures.ok
+    (λ es. refl)
     (λ es. ap (λ e. expr_then e es) (sym c.in_ok-lift_expr.ensures.0)) c.in_ok-lift_expr.ensures.1
 
 pub lift_exprs::lift_all-returns : goal.lift_exprs::lift_all-returns
 lift_exprs::lift_all-returns t c =
-    let names = visible c.args.scope.now in
-    let from = progress c.args.walk.now.lets c.args.walk.now.numbers in
-    finish tree expr_then (λ n es. spec.exprs names n (trees es))
-    (spec.exprs names from.next (trees (map tree c.args.exprs.now)))
-    c.args.exprs.now c.loop-expr.expr-index c.loop-expr.done from
-    (progress c.loop-expr.walk.lets c.loop-expr.walk.numbers) c.loop-expr.invariant
-    no_exprs (trees (map tree c.loop-expr.done)) c.loop-expr-test.false refl
-    (before_trees (map tree c.loop-expr.done))
+    finish c.loop-expr.invariant no_exprs c.loop-expr-test.false refl (before_trees _)
 
 pub lift_exprs::lift_links-loop-link-preserved : goal.lift_exprs::lift_links-loop-link-preserved
 lift_exprs::lift_links-loop-link-preserved t c =
-    let names = visible c.args.scope.now in
-    let from = progress c.args.walk.now.lets c.args.walk.now.numbers in
-    let now = progress c.loop-link.walk.lets c.loop-link.walk.numbers in
     let x = c.link-item.result in
-    turn link_part link_part_then (λ n ls. spec.links names n (links ls))
-    (spec.links names from.next (links (map link_part c.args.all.now)))
-    c.args.all.now c.loop-link.link-index c.loop-link.done from now c.loop-link.invariant
-    x _ _ (spec.expr names now.next (tree x.right)) (link_then x.op)
-    (progress c.lift_expr.new.walk.lets c.lift_expr.new.walk.numbers) c.loop-link-test.true c.link-item.is
-    c.in_ok-push.ensures.ok (λ ls. ap (λ l. spec.links names now.next (links (l ∷ ls))) (link_is x))
+    let names = visible c.args.scope.now in
+    let n = c.loop-link.walk.numbers.next in
+    turn c.loop-link.invariant (spec.expr names n (tree x.right)) (link_then x.op)
+    c.loop-link-test.true c.link-item.is c.in_ok-push.ensures.ok
+    (λ ls. ap (λ l. spec.links names n (links (l ∷ ls))) (link_is x))
     (λ ls. ap (λ e. link_then x.op e ls) (sym c.in_ok-lift_expr.ensures.0)
-    ∙ ap (λ l. link_part_then l ls) (sym (link_is _))) c.in_ok-lift_expr.ensures.1
+    ∙ ap (λ l. link_part_then l ls) (sym c.new.ensures)) c.in_ok-lift_expr.ensures.1
 
 pub lift_exprs::lift_links-returns : goal.lift_exprs::lift_links-returns
 lift_exprs::lift_links-returns t c =
-    let names = visible c.args.scope.now in
-    let from = progress c.args.walk.now.lets c.args.walk.now.numbers in
-    finish link_part link_part_then (λ n ls. spec.links names n (links ls))
-    (spec.links names from.next (links (map link_part c.args.all.now)))
-    c.args.all.now c.loop-link.link-index c.loop-link.done from
-    (progress c.loop-link.walk.lets c.loop-link.walk.numbers) c.loop-link.invariant
-    no_links (links (map link_part c.loop-link.done)) c.loop-link-test.false refl
-    (before_links (map link_part c.loop-link.done))
+    finish c.loop-link.invariant no_links c.loop-link-test.false refl (before_links _)
 
 pub lift_exprs::lift_members-returns : goal.lift_exprs::lift_members-returns
 lift_exprs::lift_members-returns t c =
-    let names = visible c.args.scope.now in
-    let from = progress c.args.walk.now.lets c.args.walk.now.numbers in
-    finish member_part member_then (λ n ms. spec.members names n (members ms))
-    (spec.members names from.next (members (map member_part c.args.fields.now)))
-    c.args.fields.now c.loop-field.field-index c.loop-field.done from
-    (progress c.loop-field.walk.lets c.loop-field.walk.numbers) c.loop-field.invariant
-    no_members (members (map member_part c.loop-field.done)) c.loop-field-test.false refl
-    (before_members (map member_part c.loop-field.done))
+    finish c.loop-field.invariant no_members c.loop-field-test.false refl (before_members _)
 
 pub lift_exprs::lift_steps-returns : goal.lift_exprs::lift_steps-returns
 lift_exprs::lift_steps-returns t c =
-    let names = visible c.args.scope.now in
-    let from = progress c.args.walk.now.lets c.args.walk.now.numbers in
-    finish step_part step_then (λ n ss. spec.steps names n (steps ss))
-    (spec.steps names from.next (steps (map step_part c.args.all.now)))
-    c.args.all.now c.loop-step.step-index c.loop-step.done from
-    (progress c.loop-step.walk.lets c.loop-step.walk.numbers) c.loop-step.invariant
-    no_steps (steps (map step_part c.loop-step.done)) c.loop-step-test.false refl
-    (before_steps (map step_part c.loop-step.done))
+    finish c.loop-step.invariant no_steps c.loop-step-test.false refl (before_steps _)
 
 pub lift_clauses::lift_keys-loop-key-preserved : goal.lift_clauses::lift_keys-loop-key-preserved
 lift_clauses::lift_keys-loop-key-preserved t c =
+    let x = c.key-item.result in
     let names = visible c.args.scope.now in
-    let from = progress c.args.walk.now.lets c.args.walk.now.numbers in
-    let now = progress c.loop-key.walk.lets c.loop-key.walk.numbers in
-    let x = c.key-item.result in (
-      turn key_part key_then (λ n ks. spec.exprs names n (trees (map (λ k. k.0) ks)))
-          (spec.exprs names from.next (trees (map (λ k. k.0) (map key_part c.args.keys.now))))
-          c.args.keys.now c.loop-key.key-index c.loop-key.done from now c.loop-key.invariant.0
-          x _ _ (spec.expr names now.next (tree x.expr)) expr_then
-          (progress c.lift_expr.new.walk.lets c.lift_expr.new.walk.numbers) c.loop-key-test.true c.key-item.is
-          c.in_ok-push.ensures.ok
-          (λ ks. ap (λ k. spec.exprs names now.next (trees (map (λ k. k.0) (k ∷ ks)))) (key_is x))
+    let n = c.loop-key.walk.numbers.next in (
+      turn c.loop-key.invariant.0 (spec.expr names n (tree x.expr)) expr_then
+          c.loop-key-test.true c.key-item.is c.in_ok-push.ensures.ok
+          (λ ks. ap (λ k. spec.exprs names n (trees (map (λ k. k.0) (k ∷ ks)))) (key_is x))
           (λ es. ap (λ e. expr_then e es) (sym c.in_ok-lift_expr.ensures.0)
-          ∙ ap (λ k. key_then k es) (sym (key_is _))) c.in_ok-lift_expr.ensures.1,
-      taken_more key_part (λ k. k.1) c.args.keys.now c.loop-key.done _ c.loop-key.key-index x _
-          c.loop-key.invariant.1 c.loop-key-test.true c.key-item.is c.in_ok-push.ensures.ok
-          (ap (λ k. k.1) (key_is _) ∙ ap (λ k. k.1) (sym (key_is x))),
+          ∙ ap (λ k. key_then k es) (sym c.new.ensures)) c.in_ok-lift_expr.ensures.1,
+      taken_more key_part (λ k. k.1) c.args.keys.now c.loop-key.done _ c.loop-key.invariant.1
+          c.loop-key-test.true c.key-item.is c.in_ok-push.ensures.ok
+          (ap (λ k. k.1) c.new.ensures ∙ ap (λ k. k.1) (sym (key_is x))),
     )
 
 pub lift_clauses::lift_keys-returns-clause-keys : goal.lift_clauses::lift_keys-returns-clause-keys
 lift_clauses::lift_keys-returns-clause-keys t c =
-    let names = visible c.args.scope.now in
-    let from = progress c.args.walk.now.lets c.args.walk.now.numbers in
-    finish key_part key_then (λ n ks. spec.exprs names n (trees (map (λ k. k.0) ks)))
-    (spec.exprs names from.next (trees (map (λ k. k.0) (map key_part c.args.keys.now))))
-    c.args.keys.now c.loop-key.key-index c.loop-key.done from
-    (progress c.loop-key.walk.lets c.loop-key.walk.numbers) c.loop-key.invariant.0
-    no_exprs (trees (map (λ k. k.0) (map key_part c.loop-key.done))) c.loop-key-test.false refl
-    (before_keys (map key_part c.loop-key.done))
+    finish c.loop-key.invariant.0 no_exprs c.loop-key-test.false refl (before_keys _)
 
 pub lift_collect::lift_criteria-loop-group-preserved : goal.lift_collect::lift_criteria-loop-group-preserved
 lift_collect::lift_criteria-loop-group-preserved t c =
     let names = visible c.args.scope.now in
-    let from = progress c.args.walk.now.lets c.args.walk.now.numbers in
-    let all = c.args.groups.now in
-    let x = c.group-item.result in
-    let then = progress c.lift_expr.new.walk.lets c.lift_expr.new.walk.numbers in
-    let whole = criteria_of names from.next (map let_part all) in (
-      criterion_turn names whole all c.loop-group.group-index c.loop-group.done from c.loop-group.walk.lets
-          c.loop-group.walk.numbers c.loop-group.invariant.0 x _ _ c.declare.new.self then
-          c.loop-group-test.true c.group-item.is c.in_ok-push.ensures.ok
+    let x = c.group-item.result in (
+      criterion_turn c.loop-group.walk.lets c.loop-group.walk.numbers c.loop-group.invariant.0 _
+          c.declare.new.self c.loop-group-test.true c.group-item.is c.in_ok-push.ensures.ok
           (ap Num c.in_ok-number.ensures.number) c.in_ok-number.ensures.said c.in_ok-number.ensures.next
           c.in_ok-lift_expr.ensures,
-      criterion_entered names whole all c.loop-group.group-index c.loop-group.done from c.loop-group.walk.lets
-          c.loop-group.walk.numbers c.loop-group.invariant.0 c.args.own.now c.loop-group.own c.enter.new.self x
-          c.in_ok-number.number c.declare.new.self.next then.next c.loop-group.invariant.1
-          c.loop-group-test.true c.group-item.is c.in_ok-enter.ensures c.in_ok-number.ensures.number
-          c.in_ok-number.ensures.next (ap (λ p. p.next) c.in_ok-lift_expr.ensures.1),
+      entered_more let_part c.args.groups.now (enter_criteria names)
+          (λ n. (spec.expr names n (tree x.expr)).next)
+          c.loop-group.invariant.1 c.loop-group-test.true c.group-item.is
+          (λ ls. ap (λ l. enter_criteria names c.loop-group.walk.numbers.next (l ∷ ls) c.loop-group.own)
+          (let_part_is x)) c.in_ok-enter.ensures c.in_ok-number.ensures.number c.in_ok-number.ensures.next
+          (ap (λ p. p.next) c.in_ok-lift_expr.ensures.1),
     )
 
 pub lift_collect::lift_criteria-returns-clause-criteria
     : goal.lift_collect::lift_criteria-returns-clause-criteria
 lift_collect::lift_criteria-returns-clause-criteria t c =
-    let names = visible c.args.scope.now in
-    let from = progress c.args.walk.now.lets c.args.walk.now.numbers in
-    finish let_part let_then (criteria_of names) (criteria_of names from.next (map let_part c.args.groups.now))
-    c.args.groups.now c.loop-group.group-index c.loop-group.done from
-    (progress c.loop-group.walk.lets c.loop-group.walk.numbers) c.loop-group.invariant.0
-    ([], no_exprs)
-    (map (λ l. l.0) (map let_part c.loop-group.done), trees (map (λ l. l.1) (map let_part c.loop-group.done)))
-    c.loop-group-test.false refl (before_lets (map let_part c.loop-group.done))
+    finish c.loop-group.invariant.0 ([], no_exprs) c.loop-group-test.false refl (before_lets _)
 
 pub lift_collect::lift_aggregates-returns-clause-aggregates
     : goal.lift_collect::lift_aggregates-returns-clause-aggregates
 lift_collect::lift_aggregates-returns-clause-aggregates t c =
-    let names = visible c.args.scope.now in
-    let from = progress c.args.walk.now.lets c.args.walk.now.numbers in
-    finish aggregate_part aggregate_part_then (λ n gs. spec.aggregates names n (aggregates gs))
-    (spec.aggregates names from.next (aggregates (map aggregate_part c.args.all.now)))
-    c.args.all.now c.loop-item.item-index c.loop-item.done from
-    (progress c.loop-item.walk.lets c.loop-item.walk.numbers) c.loop-item.invariant.0
-    no_aggregates (aggregates (map aggregate_part c.loop-item.done)) c.loop-item-test.false refl
-    (before_aggregates (map aggregate_part c.loop-item.done))
+    finish c.loop-item.invariant.0 no_aggregates c.loop-item-test.false refl (before_aggregates _)
 
 pub lift_collect::lift_aggregates-loop-item-preserved : goal.lift_collect::lift_aggregates-loop-item-preserved
 lift_collect::lift_aggregates-loop-item-preserved t c =
     let names = visible c.args.scope.now in
-    let from = progress c.args.walk.now.lets c.args.walk.now.numbers in
-    let all = c.args.all.now in
-    let x = c.item-item.result in
-    let then = progress c.lift_maybe.new.walk.lets c.lift_maybe.new.walk.numbers in
-    let whole = spec.aggregates names from.next (aggregates (map aggregate_part all)) in (
-      aggregate_turn names whole all c.loop-item.item-index c.loop-item.done from c.loop-item.walk.lets
-          c.loop-item.walk.numbers c.loop-item.invariant.0 x _ _ c.declare.new.self then
-          c.loop-item-test.true c.item-item.is c.in_ok-push.ensures.ok
+    let x = c.item-item.result in (
+      aggregate_turn c.loop-item.walk.lets c.loop-item.walk.numbers c.loop-item.invariant.0 _
+          c.declare.new.self c.loop-item-test.true c.item-item.is c.in_ok-push.ensures.ok
           (ap Num c.in_ok-number.ensures.number) c.in_ok-copy.ensures c.in_ok-number.ensures.said
           c.in_ok-number.ensures.next c.in_ok-lift_maybe.ensures,
-      aggregate_entered names whole all c.loop-item.item-index c.loop-item.done from c.loop-item.walk.lets
-          c.loop-item.walk.numbers c.loop-item.invariant.0 c.args.own.now c.loop-item.own c.enter.new.self x
-          c.in_ok-number.number c.declare.new.self.next then.next c.loop-item.invariant.1
-          c.loop-item-test.true c.item-item.is c.in_ok-enter.ensures c.in_ok-number.ensures.number
-          c.in_ok-number.ensures.next (ap (λ p. p.next) c.in_ok-lift_maybe.ensures.1),
+      entered_more aggregate_part c.args.all.now (enter_aggregates names)
+          (λ n. (spec.maybe names n (maybe (option_map tree x.arg))).next)
+          c.loop-item.invariant.1 c.loop-item-test.true c.item-item.is
+          (λ gs. ap (λ g. enter_aggregates names c.loop-item.walk.numbers.next (g ∷ gs) c.loop-item.own)
+          (aggregate_is x)) c.in_ok-enter.ensures c.in_ok-number.ensures.number c.in_ok-number.ensures.next
+          (ap (λ p. p.next) c.in_ok-lift_maybe.ensures.1),
     )
 
 pub lift_exprs::lift_subquery-returns : goal.lift_exprs::lift_subquery-returns
@@ -199,30 +126,18 @@ lift_exprs::lift_subquery-returns t c =
 
 pub lift_exprs::lift_members-loop-field-preserved : goal.lift_exprs::lift_members-loop-field-preserved
 lift_exprs::lift_members-loop-field-preserved t c =
-    let names = visible c.args.scope.now in
-    let from = progress c.args.walk.now.lets c.args.walk.now.numbers in
-    let now = progress c.loop-field.walk.lets c.loop-field.walk.numbers in
-    let x = c.field-item.result in
-    turn member_part member_then (λ n ms. spec.members names n (members ms))
-    (spec.members names from.next (members (map member_part c.args.fields.now)))
-    c.args.fields.now c.loop-field.field-index c.loop-field.done from now c.loop-field.invariant
-    x c.in_ok-lift_member.field-0 _ (one_member names now.next (member_part x)) member_then
-    (progress c.lift_member.new.walk.lets c.lift_member.new.walk.numbers) c.loop-field-test.true c.field-item.is
-    c.in_ok-push.ensures.ok (λ ms. member_first names now.next (member_part x) ms)
+    let x = member_part c.field-item.result in
+    turn c.loop-field.invariant (one_member (visible c.args.scope.now) c.loop-field.walk.numbers.next x) member_then
+    c.loop-field-test.true c.field-item.is c.in_ok-push.ensures.ok
+    (member_first _ _ _)
     (λ ms. ap (λ m. member_then m ms) (sym c.in_ok-lift_member.ensures.0)) c.in_ok-lift_member.ensures.1
 
 pub lift_exprs::lift_steps-loop-step-preserved : goal.lift_exprs::lift_steps-loop-step-preserved
 lift_exprs::lift_steps-loop-step-preserved t c =
-    let names = visible c.args.scope.now in
-    let from = progress c.args.walk.now.lets c.args.walk.now.numbers in
-    let now = progress c.loop-step.walk.lets c.loop-step.walk.numbers in
-    let x = c.step-item.result in
-    turn step_part step_then (λ n ss. spec.steps names n (steps ss))
-    (spec.steps names from.next (steps (map step_part c.args.all.now)))
-    c.args.all.now c.loop-step.step-index c.loop-step.done from now c.loop-step.invariant
-    x c.in_ok-lift_step.field-0 _ (one_step names now.next (step_part x)) step_then
-    (progress c.lift_step.new.walk.lets c.lift_step.new.walk.numbers) c.loop-step-test.true c.step-item.is
-    c.in_ok-push.ensures.ok (λ ss. step_first names now.next (step_part x) ss)
+    let x = step_part c.step-item.result in
+    turn c.loop-step.invariant (one_step (visible c.args.scope.now) c.loop-step.walk.numbers.next x) step_then
+    c.loop-step-test.true c.step-item.is c.in_ok-push.ensures.ok
+    (step_first _ _ _)
     (λ ss. ap (λ s. step_then s ss) (sym c.in_ok-lift_step.ensures.0)) c.in_ok-lift_step.ensures.1
 
 pub lift_clauses::lift_for-returns-in_ok-enter-in_default
@@ -347,8 +262,8 @@ lift_clauses::lift_query-returns-clause-query t c =
       h'.2,
     )
 
-pub lift_collect::lift_collect-returns-clause-clause : goal.lift_collect::lift_collect-returns-clause-clause
-lift_collect::lift_collect-returns-clause-clause t c =
+pub lift_collect::lift_collect-returns : goal.lift_collect::lift_collect-returns
+lift_collect::lift_collect-returns t c =
     let s = c.args.scope.now in
     let k = c.args.collect.now in
     let col = out-Collect k in
@@ -363,45 +278,28 @@ lift_collect::lift_collect-returns-clause-clause t c =
     let d = into_tree (option_map into_part c.in_ok-into.into) in
     let by_criteria = subst (λ xs. Given a (criteria_of names p.next (map let_part xs)) p q)
     c.as_slice.ensures c.in_ok-groups.ensures.criteria in
-    let by_aggregates = subst (λ xs. Given b (spec.aggregates names q.next (aggregates (map aggregate_part xs))) q r)
+    let by_aggregates = subst (λ xs. Given b (aggregates_of names q.next (map aggregate_part xs)) q r)
     c.as_slice-2.ensures c.in_ok-found.ensures.aggregates in
-    let h = collect_given s.outer s.own (map let_part col.groups) (aggregates (map aggregate_part col.aggregates))
-    (into_tree (option_map into_part col.into)) a b d p q r l by_criteria by_aggregates
+    let first = subst (λ xs. c.lift_criteria.new.own ≡ enter_criteria names p.next (map let_part xs)
+    c.new-own.result) c.as_slice.ensures c.in_ok-groups.ensures.own in
+    let second = subst (λ xs. c.lift_aggregates.new.own
+    ≡ enter_aggregates names q.next (map aggregate_part xs) c.lift_criteria.new.own) c.as_slice-2.ensures
+    c.in_ok-found.ensures.own in
+    let gs = aggregates (map aggregate_part col.aggregates) in
+    let i = into_tree (option_map into_part col.into) in
+    let h = collect_given s.outer s.own (map let_part col.groups) gs i a b d p q r l by_criteria by_aggregates
     c.in_ok-into.ensures.into in
     let h' = subst (λ k. Given (collect a.0 a.1 b d)
     (spec.clause s.outer s.own p.next (collect_clause k)).clause p l) (sym (collect_parts k)) h in
-    (c.collect.ensures ∙ h'.0, h'.1)
-
-pub lift_collect::lift_collect-returns-clause-own : goal.lift_collect::lift_collect-returns-clause-own
-lift_collect::lift_collect-returns-clause-own t c =
-    let s = c.args.scope.now in
-    let k = c.args.collect.now in
-    let col = out-Collect k in
-    let names = visible s in
-    let p = progress c.args.walk.now.lets c.args.walk.now.numbers in
-    let q = progress c.lift_criteria.new.walk.lets c.lift_criteria.new.walk.numbers in
-    let r = progress c.lift_aggregates.new.walk.lets c.lift_aggregates.new.walk.numbers in
-    let l = progress c.lift_into.new.walk.lets c.lift_into.new.walk.numbers in
-    let ls = map let_part c.in_ok-groups.groups in
-    let a : Criteria = (map (λ k. k.0) ls, trees (map (λ k. k.1) ls)) in
-    let b = aggregates (map aggregate_part c.in_ok-found.found) in
-    let d = into_tree (option_map into_part c.in_ok-into.into) in
-    let by_criteria = subst (λ xs. Given a (criteria_of names p.next (map let_part xs)) p q)
-    c.as_slice.ensures c.in_ok-groups.ensures.criteria in
-    let by_aggregates = subst (λ xs. Given b (spec.aggregates names q.next (aggregates (map aggregate_part xs))) q r)
-    c.as_slice-2.ensures c.in_ok-found.ensures.aggregates in
-    let first = subst (λ xs. c.lift_criteria.new.own ≡ enter (map (λ k. k.0) (map let_part xs))
-    (criteria_of names p.next (map let_part xs)).tree.0 c.new-own.result) c.as_slice.ensures
-    c.in_ok-groups.ensures.own in
-    let second = subst (λ xs. c.lift_aggregates.new.own
-    ≡ enter (aggregate_vars (aggregates (map aggregate_part xs)))
-    (aggregate_vars (spec.aggregates names q.next (aggregates (map aggregate_part xs))).tree)
-    c.lift_criteria.new.own) c.as_slice-2.ensures c.in_ok-found.ensures.own in
-    collect_entered s.outer s.own (map let_part col.groups) (aggregates (map aggregate_part col.aggregates))
-    (into_tree (option_map into_part col.into)) a b d p q r l by_criteria by_aggregates
-    c.in_ok-into.ensures.into c.new-own.result c.lift_criteria.new.own c.lift_aggregates.new.own
-    c.lift_into.new.own c.new-own.ensures first second c.in_ok-into.ensures.own
-    ∙ ap (λ k. (spec.clause s.outer s.own p.next (collect_clause k)).own) (sym (collect_parts k))
+    record {
+      clause = (c.collect.ensures ∙ h'.0, h'.1);
+      own = collect_entered s.outer s.own (map let_part col.groups) gs i a b d p q r l by_criteria
+          by_aggregates c.in_ok-into.ensures.into c.new-own.result c.lift_criteria.new.own
+          c.lift_aggregates.new.own c.lift_into.new.own c.new-own.ensures first second
+          c.in_ok-into.ensures.own
+          ∙ ap (λ k. (spec.clause s.outer s.own p.next (collect_clause k)).own) (sym (collect_parts k));
+      outer = search rules;
+    }
 
 pub lift_collect::lift_into-returns-in_ok-what-in-Some-what-clause-into
     : goal.lift_collect::lift_into-returns-in_ok-what-in-Some-what-clause-into
