@@ -3,20 +3,4 @@
 #![tactic(auto)]
 
 #[cfg(test)]
-mod aggregates;
-#[cfg(test)]
-mod copies;
-#[cfg(test)]
-mod evaluation;
-#[cfg(test)]
-mod functions;
-#[cfg(test)]
-mod pages;
-#[cfg(test)]
-mod parsing;
-#[cfg(test)]
-mod stages;
-#[cfg(test)]
-mod tokens;
-#[cfg(test)]
-mod values;
+mod tests;

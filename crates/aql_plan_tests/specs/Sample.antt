@@ -26,7 +26,8 @@ pub sample_whole : (facts : Facts) → facts.collections ≡ [] → IsWhole fals
 sample_whole facts e = (
   (
     subst (λ cs. AllByRecursion CollectionFits cs) (sym e) tt,
-    returning (tt, (tt, tt)) (with_subquery (returning tt (plain_rows tt tt one_row)) (plain_rows tt tt one_row)),
+    returning (tt, (tt, tt))
+        (with_subquery (returning tt (plain_rows tt tt one_row)) (plain_rows tt tt one_row)),
     ((((tt, refl, refl, tt)), refl, refl, ((tt, refl, refl, tt), refl, refl, tt)), refl, refl, tt),
     refl,
     (tt, tt),

@@ -2,22 +2,4 @@
 #![tactic(auto)]
 
 #[cfg(test)]
-mod calculations;
-#[cfg(test)]
-mod checked;
-#[cfg(test)]
-mod chosen;
-#[cfg(test)]
-mod conditions;
-#[cfg(test)]
-mod filters;
-#[cfg(test)]
-mod lines;
-#[cfg(test)]
-mod loops;
-#[cfg(test)]
-mod order;
-#[cfg(test)]
-mod texts;
-#[cfg(test)]
-mod traversals;
+mod tests;

@@ -1,0 +1,11 @@
+mod driving;
+mod leaves;
+mod lists;
+mod memory;
+mod rows;
+mod scans;
+mod shelves;
+mod sorts;
+mod sources;
+mod streams;
+mod subqueries;

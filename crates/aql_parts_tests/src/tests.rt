@@ -1,0 +1,9 @@
+mod aggregates;
+mod copies;
+mod evaluation;
+mod functions;
+mod pages;
+mod parsing;
+mod stages;
+mod tokens;
+mod values;

@@ -1,0 +1,11 @@
+mod estimates;
+mod expressions;
+mod exprs;
+mod facts;
+mod nodes;
+mod pages;
+mod passes;
+mod plans;
+mod rule_sets;
+mod rules;
+mod tables;

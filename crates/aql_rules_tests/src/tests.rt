@@ -1,0 +1,10 @@
+mod calculations;
+mod checked;
+mod chosen;
+mod conditions;
+mod filters;
+mod lines;
+mod loops;
+mod order;
+mod texts;
+mod traversals;
