@@ -12,6 +12,6 @@ mod walk;
 pub use constants::is_constant;
 pub use equality::same_expr;
 pub use looking::{add_maybe, parts};
-pub use rebuilding::over_parts;
+pub use rebuilding::{next_part, over_maybe, over_parts};
 pub use rule::ExprRule;
 pub use walk::{first_of, first_part};

@@ -15,7 +15,8 @@ use aql_value::{OutOfMemory, Seq};
 use std::alloc::Global;
 use std::collections::VecDeque;
 
-fn next_part(alloc: Global, queue: &mut VecDeque<Expr>, old: &Expr) -> Result<Expr, OutOfMemory>
+/// The next part of the queue; where it is empty, a copy of the old one.
+pub fn next_part(alloc: Global, queue: &mut VecDeque<Expr>, old: &Expr) -> Result<Expr, OutOfMemory>
     ensures part { IfOk result (λ e. tree e ≡ first_or (tree old.now) (map tree queue.old.items)) }
     ensures left { map tree queue.new.items ≡ after_first (map tree queue.old.items) }
 {
@@ -25,7 +26,8 @@ fn next_part(alloc: Global, queue: &mut VecDeque<Expr>, old: &Expr) -> Result<Ex
     }
 }
 
-fn over_maybe(
+/// The next part of the queue, or a copy of the old one, where there is an old one.
+pub fn over_maybe(
     alloc: Global,
     queue: &mut VecDeque<Expr>,
     old: &Option<Expr>,

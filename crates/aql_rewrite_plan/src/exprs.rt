@@ -9,17 +9,16 @@ ghost use Rattle.aql_plan.specs.Plan as spec;
 ghost use Rattle.aql_plan.specs.Nodes.{over, with_body};
 ghost use Rattle.aql_plan.specs.View.{plan_tree};
 ghost use Rattle.aql_rewrite_expr.specs.Parts.{list_parts};
-ghost use Rattle.aql_rewrite_expr.specs.OverParts.{first_or, after_first};
-ghost use Rattle.aql_rewrite_expr.specs.View.{lent, each_over, option_over, after_option};
+ghost use Rattle.aql_rewrite_expr.specs.View.{lent, each_over};
 ghost use Rattle.aql_rewrite_plan.specs.NodeExprs.{end_exprs, last_exprs, aggregate_exprs, into_exprs};
 ghost use Rattle.aql_rewrite_plan.specs.NodeExprs.{node_exprs as spec_node_exprs, over_end as spec_over_end};
 ghost use Rattle.aql_rewrite_plan.specs.NodeExprs.{after_end, over_last as spec_over_last, after_last};
 ghost use Rattle.aql_rewrite_plan.specs.NodeViews.{after_each, keys_over, lets_over, aggregates_over};
 ghost use Rattle.aql_rewrite_plan.specs.NodeViews.{after_each_aggregate, into_over, plan_over};
 
-use aql_copy::{copy_colls, copy_expr, copy_ident, copy_maybe_texts, copy_texts};
+use aql_copy::{copy_colls, copy_ident, copy_maybe_texts, copy_texts};
 use aql_plan::{Edge, Last, Plan};
-use aql_rewrite_expr::add_maybe;
+use aql_rewrite_expr::{add_maybe, next_part, over_maybe};
 use aql_tree::{AggregateItem, Expr, Into, Key, Let};
 use aql_value::{OutOfMemory, Seq};
 use std::alloc::Global;
@@ -174,32 +173,6 @@ pub fn node_exprs<'a>(alloc: Global, node: &'a Plan) -> Result<Vec<&'a Expr>, Ou
     Ok(all)
 }
 
-fn next_expr(alloc: Global, queue: &mut VecDeque<Expr>, old: &Expr) -> Result<Expr, OutOfMemory>
-    ensures expr { IfOk result (λ e. tree e ≡ first_or (tree old.now) (map tree queue.old.items)) }
-    ensures left { map tree queue.new.items ≡ after_first (map tree queue.old.items) }
-{
-    match queue.pop_front() {
-        Some(expr) => Ok(expr),
-        None => copy_expr(alloc, old),
-    }
-}
-
-fn over_maybe(
-    alloc: Global,
-    queue: &mut VecDeque<Expr>,
-    old: &Option<Expr>,
-) -> Result<Option<Expr>, OutOfMemory>
-    ensures expr { IfOk result (λ o. option_map tree o
-        ≡ option_over (option_map tree old.now) (map tree queue.old.items)) }
-    ensures left { map tree queue.new.items
-        ≡ after_option (option_map tree old.now) (map tree queue.old.items) }
-{
-    match old {
-        Some(old) => Ok(Some(next_expr(alloc, queue, old)?)),
-        None => Ok(None),
-    }
-}
-
 fn over_list(
     alloc: Global,
     queue: &mut VecDeque<Expr>,
@@ -212,7 +185,7 @@ fn over_list(
 {
     let mut out = Seq::new(alloc);
     for old in all {
-        out.push(next_expr(alloc, queue, old)?)?;
+        out.push(next_part(alloc, queue, old)?)?;
     }
     Ok(out)
 }
@@ -227,7 +200,7 @@ fn over_keys(
 {
     let mut out = Seq::new(alloc);
     for old in all {
-        let expr = next_expr(alloc, queue, &old.expr)?;
+        let expr = next_part(alloc, queue, &old.expr)?;
         out.push(Key::new(expr, old.descending))?;
     }
     Ok(out)
@@ -246,7 +219,7 @@ fn over_groups(
     let mut out = Seq::new(alloc);
     for old in all {
         let var = copy_ident(alloc, &old.var)?;
-        out.push(Let::new(var, next_expr(alloc, queue, &old.expr)?))?;
+        out.push(Let::new(var, next_part(alloc, queue, &old.expr)?))?;
     }
     Ok(out)
 }
@@ -300,7 +273,7 @@ fn over_end(
 {
     match old {
         Some(old) => Ok(Some(Edge {
-            expr: next_expr(alloc, queue, &old.expr)?,
+            expr: next_part(alloc, queue, &old.expr)?,
             inclusive: old.inclusive,
         })),
         None => Ok(None),
@@ -315,7 +288,7 @@ fn over_last(alloc: Global, queue: &mut VecDeque<Expr>, old: &Last) -> Result<La
 {
     match old {
         Last::None => Ok(Last::None),
-        Last::OneOf(list) => Ok(Last::OneOf(next_expr(alloc, queue, list)?)),
+        Last::OneOf(list) => Ok(Last::OneOf(next_part(alloc, queue, list)?)),
         Last::Range { low, high } => {
             let low = over_end(alloc, queue, low)?;
             let high = over_end(alloc, queue, high)?;
@@ -387,7 +360,7 @@ pub fn over_exprs(
         Plan::EnumerateList { var, list, .. } => Ok(Plan::EnumerateList {
             below: boxed(alloc, below)?,
             var: *var,
-            list: next_expr(alloc, queue, list)?,
+            list: next_part(alloc, queue, list)?,
         }),
         Plan::Traversal {
             vertex,
@@ -403,7 +376,7 @@ pub fn over_exprs(
             filter,
             ..
         } => {
-            let start = next_expr(alloc, queue, start)?;
+            let start = next_part(alloc, queue, start)?;
             let prune = over_maybe(alloc, queue, prune)?;
             Ok(Plan::Traversal {
                 below: boxed(alloc, below)?,
@@ -423,11 +396,11 @@ pub fn over_exprs(
         Plan::Calculation { var, expr, .. } => Ok(Plan::Calculation {
             below: boxed(alloc, below)?,
             var: *var,
-            expr: next_expr(alloc, queue, expr)?,
+            expr: next_part(alloc, queue, expr)?,
         }),
         Plan::Filter { cond, .. } => Ok(Plan::Filter {
             below: boxed(alloc, below)?,
-            cond: next_expr(alloc, queue, cond)?,
+            cond: next_part(alloc, queue, cond)?,
         }),
         Plan::Sort { keys, limit, .. } => Ok(Plan::Sort {
             below: boxed(alloc, below)?,
@@ -453,7 +426,7 @@ pub fn over_exprs(
         }
         Plan::Return { expr, distinct, .. } => Ok(Plan::Return {
             below: boxed(alloc, below)?,
-            expr: next_expr(alloc, queue, expr)?,
+            expr: next_part(alloc, queue, expr)?,
             distinct: *distinct,
         }),
         Plan::Distribute { coll, exprs, .. } => Ok(Plan::Distribute {

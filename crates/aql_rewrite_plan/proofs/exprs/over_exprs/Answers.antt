@@ -43,7 +43,7 @@ returns-in_ok-copy_maybe_texts-in-Index c =
     c.in_ok-boxed-in-Index.ensures c.in_ok-equal-in-Index.ensures.exprs
     (c.in_ok-last-in-Index.ensures.expr
     ∙ ap (over_last (last_tree c.in-Index.last)) c.in_ok-equal-in-Index.ensures.left)
-    (c.in_ok-over_maybe-in-Index.ensures.expr ∙ ap (option_over (option_map tree c.in-Index.filter))
+    (c.in_ok-over_maybe-in-Index.ensures.part ∙ ap (option_over (option_map tree c.in-Index.filter))
     (c.in_ok-last-in-Index.ensures.left
     ∙ ap (after_last (last_tree c.in-Index.last)) c.in_ok-equal-in-Index.ensures.left))
     c.in_ok-copy_maybe_texts-in-Index.ensures
