@@ -1,5 +1,5 @@
--- Each variable that an expression or a node uses is one of a list, form by form: for the contracts of private
--- functions. Those of aql_plan say the same of the list of uses.
+-- Each variable that an expression or a node uses is one of a list, form by form: for the contracts of
+-- private functions. Those of aql_plan say the same of the list of uses.
 use Rattle.std.specs.Prelude.{◌≡◌, List, true, Option, None, Some}
 use Rattle.std.specs.List.{list_any, AllByRecursion}
 use Rattle.aql_tree.specs.declared.syntax.Ident.{Ident}

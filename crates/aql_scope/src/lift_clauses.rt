@@ -51,8 +51,9 @@ pub fn lift_query(query: &Query, around: &Scope, walk: &mut Walk) -> Made<Query>
 fn lift_clause(clause: &Clause, scope: &mut Scope, walk: &mut Walk) -> Made<Clause>
     ensures clause { Walks walk.old result walk.new clause_tree
         (λ n. (spec.clause scope.old.outer scope.old.own n (clause_tree clause.now)).clause) }
-    ensures own { OnOk result (scope.new.own
-        ≡ (spec.clause scope.old.outer scope.old.own walk.old.numbers.next (clause_tree clause.now)).own) }
+    ensures own { OnOk result (scope.new.own ≡
+        (spec.clause scope.old.outer scope.old.own walk.old.numbers.next
+        (clause_tree clause.now)).own) }
     ensures outer { scope.new.outer ≡ scope.old.outer }
 {
     match clause {

@@ -38,7 +38,8 @@ pub fn chosen_options(options: &Options, alloc: Global) -> Options
 
 fn all_chosen(options: &Options) -> Chosen
     ensures { record { edges = result.edges; vertices = result.vertices; bfs = result.bfs }
-        ≡ spec.options_of (members (map member_part options.now.settings)) (options_part options.now).1 }
+        ≡ spec.options_of (members (map member_part options.now.settings))
+        (options_part options.now).1 }
 {
     if options.settings.len() == 0 {
         return Chosen {

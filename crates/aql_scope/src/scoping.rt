@@ -19,16 +19,11 @@ use aql_value::{Names, OutOfMemory, Seq};
 use std::alloc::Global;
 
 /// A query whose variables are numbers, from 1 on, and whose subqueries stand in LETs.
+#[derive(Drop)]
 pub struct Scoped {
     pub query: Query,
     /// The name of variable n stands at place n - 1; that of a subquery is `sub`.
     pub names: Names,
-}
-
-impl Drop for Scoped {
-    fn drop(self) {
-        let Scoped { query: _, names: _ } = self;
-    }
 }
 
 /// The first fault of a query in the order of the text.

@@ -1,5 +1,5 @@
--- What the engine's list has of a run of the program: one entry, of the plan that the optimiser chooses by the
--- rules for the script's query.
+-- What the engine's list has of a run of the program: one entry, of the plan that the optimiser chooses by
+-- the rules for the script's query.
 use Rattle.std.specs.Prelude.{◌≡◌, ◌⊎◌, ℕ, List, [], ◌∷◌, ◌++◌, None, Option, IfSome}
 use Rattle.std.specs.Io.KnownBytes.{Appends}
 use Rattle.aql_io.specs.Bytes.{AppendsPrefix}

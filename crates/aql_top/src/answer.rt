@@ -51,7 +51,8 @@ pub(crate) fn answer<G: Engine>(
     ensures none { IfErr result (λ fault. HasNoLines script fault) }
     ensures idle { IfErr result (λ fault. fault ≢ Memory → engine.new ≡ engine.old) }
     ensures at_most { (G.entries engine.new ≡ G.entries engine.old)
-        ⊎ ((ran : Ran) × AddsChosen rules.now script (G.entries engine.old) (G.entries engine.new) ran) }
+        ⊎ ((ran : Ran)
+        × AddsChosen rules.now script (G.entries engine.old) (G.entries engine.new) ran) }
 {
     let plan = plan_of(alloc, &script, rules)?;
     let Loaded { catalog, query: _ } = script;

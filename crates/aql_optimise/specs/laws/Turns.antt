@@ -10,8 +10,8 @@ use Rattle.aql_opt.specs.RuleSets.{Has}
 use Rattle.aql_optimise.specs.Passes.{IsPassOf}
 use Rattle.aql_optimise.specs.Chosen.{RunsRule, unchanged, changed, AfterRules, at_first, and_then}
 
-pub one_more : (facts : Facts) (rules : Rules) (p q s : Plan) (told more : List RuleName) (order : List RuleName)
-    (i : ℕ) (r : RuleName) → i < length order → r ≡ get_or order i r
+pub one_more : (facts : Facts) (rules : Rules) (p q s : Plan) (told more : List RuleName)
+    (order : List RuleName) (i : ℕ) (r : RuleName) → i < length order → r ≡ get_or order i r
     → AfterRules facts rules p (take i order) q told → RunsRule facts rules r q told s more
     → AfterRules facts rules p (take (i + 1) order) s more
 one_more facts rules p q s told more order i r within here h k =
@@ -23,7 +23,8 @@ refines_itself facts p db meets start vs a = a
 
 pub first_told : (facts : Facts) (rules : Rules) (p : Plan) (told : List RuleName) → told ≡ []
     → AfterRules facts rules p [] p told
-first_told facts rules p told e = subst (λ (names : List RuleName). AfterRules facts rules p [] p names) (sym e) at_first
+first_told facts rules p told e =
+    subst (λ (names : List RuleName). AfterRules facts rules p [] p names) (sym e) at_first
 
 pub turn_changed : (facts : Facts) (rules : Rules) (r : RuleName) (q s : Plan) (told more : List RuleName)
     (b : Bool) → Has rules r → IsPassOf r facts q s b → b ≡ true → more ≡ told ++ r ∷ []
