@@ -9,7 +9,7 @@ use Rattle.aql_meaning.specs.Numbered.{IsNumber}
 use Rattle.aql_meaning.specs.declared.grouping.Stage.TheVariants as stage
 use Rattle.aql_plan.specs.Fits.{Fits}
 use Rattle.aql_plan.specs.Variables.{vars_set, set_once}
-use Rattle.aql_plan.specs.laws.Carried.{all_parts}
+use Rattle.aql_plan_laws.specs.laws.Carried.{all_parts}
 use Rattle.aql_plan.specs.Shapes.{Shape, IsOuter, ReadsFragment, ReadsShard, KeepsRowOrder, Shaped, one_row, calculated, with_subquery, plain_rows, ordered_rows, scatter, distribute, remote, lowest, lowest_in_order, other_reading, passing, sorting, gather, gather_in_order, partial, joining, finishing, returning}
 use Rattle.aql_exec.specs.Rests.{Counter, scanned_full, scanned_index, filtered, Counts, counts_of, Rises}
 use Rattle.aql_exec.specs.Operators.{IsTree}

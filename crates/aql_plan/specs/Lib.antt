@@ -15,7 +15,5 @@ pub mod Shapes
 pub mod WellFormed
 pub mod FirstPlan
 pub mod RuleNames
-pub mod Theorems
 pub mod Worked
 pub mod ShapesWorked
-pub mod laws

@@ -3,7 +3,6 @@
 #![tactic(auto)]
 
 mod facts;
-pub mod laws;
 mod node_uses;
 mod nodes;
 mod plan;

@@ -1,6 +1,7 @@
 //! Plans made from the nodes of others.
 
 ghost use Rattle.std.specs.Prelude.{◌≡◌, IfOk, MatchOption, Some, None, option_map};
+ghost use Rattle.aql_tree.specs.declared.syntax.Ident.TheVariants.{Num};
 ghost use Rattle.aql_plan.specs.Plan as spec;
 ghost use Rattle.aql_plan.specs.Nodes.{over, body_in, with_body};
 ghost use Rattle.aql_meaning.specs.View.{end_tree, last_tree};
@@ -55,6 +56,152 @@ fn boxed(alloc: Global, plan: Plan) -> Result<Box<Plan>, OutOfMemory>
     Ok(Box::new(alloc, plan)?)
 }
 
+fn subquery(alloc: Global, below: Plan, var: u32, body: Plan) -> Result<Plan, OutOfMemory>
+    ensures { IfOk result (λ p. plan_tree p
+        ≡ spec.Over (plan_tree below) (spec.Subquery (Num var) (plan_tree body))) }
+{
+    Ok(Plan::Subquery {
+        below: boxed(alloc, below)?,
+        var,
+        body: boxed(alloc, body)?,
+    })
+}
+
+// A node without a body over another input.
+fn lone_over(alloc: Global, node: &Plan, below: Plan) -> Result<Plan, OutOfMemory>
+    requires { body_in (spec.top (plan_tree node.now)) ≡ None }
+    ensures { IfOk result (λ p. plan_tree p ≡ over (plan_tree node.now) (plan_tree below)) }
+{
+    let below = boxed(alloc, below)?;
+    match node {
+        Plan::Singleton => Ok(Plan::Singleton),
+        Plan::EnumerateCollection {
+            var,
+            coll,
+            filter,
+            attrs,
+            shard,
+            ..
+        } => Ok(Plan::EnumerateCollection {
+            below,
+            var: *var,
+            coll: *coll,
+            filter: copy_maybe(alloc, filter)?,
+            attrs: copy_maybe_texts(alloc, attrs)?,
+            shard: *shard,
+        }),
+        Plan::Index {
+            var,
+            coll,
+            filter,
+            attrs,
+            shard,
+            index,
+            equal,
+            last,
+            ordered,
+            ..
+        } => Ok(Plan::Index {
+            below,
+            var: *var,
+            coll: *coll,
+            filter: copy_maybe(alloc, filter)?,
+            attrs: copy_maybe_texts(alloc, attrs)?,
+            shard: *shard,
+            index: *index,
+            equal: copy_exprs(alloc, equal.as_slice())?,
+            last: copy_last(alloc, last)?,
+            ordered: *ordered,
+        }),
+        Plan::EnumerateList { var, list, .. } => Ok(Plan::EnumerateList {
+            below,
+            var: *var,
+            list: copy_expr(alloc, list)?,
+        }),
+        Plan::Traversal {
+            vertex,
+            edge,
+            path,
+            min,
+            max,
+            direction,
+            start,
+            collections,
+            prune,
+            options,
+            filter,
+            ..
+        } => Ok(Plan::Traversal {
+            below,
+            vertex: *vertex,
+            edge: *edge,
+            path: *path,
+            min: *min,
+            max: *max,
+            direction: *direction,
+            start: copy_expr(alloc, start)?,
+            collections: copy_colls(alloc, collections.as_slice())?,
+            prune: copy_maybe(alloc, prune)?,
+            options: *options,
+            filter: copy_maybe(alloc, filter)?,
+        }),
+        Plan::Calculation { var, expr, .. } => Ok(Plan::Calculation {
+            below,
+            var: *var,
+            expr: copy_expr(alloc, expr)?,
+        }),
+        Plan::Subquery { .. } => unreachable!(),
+        Plan::Filter { cond, .. } => Ok(Plan::Filter {
+            below,
+            cond: copy_expr(alloc, cond)?,
+        }),
+        Plan::Sort { keys, limit, .. } => Ok(Plan::Sort {
+            below,
+            keys: copy_keys(alloc, keys.as_slice())?,
+            limit: *limit,
+        }),
+        Plan::Limit { offset, count, .. } => Ok(Plan::Limit {
+            below,
+            offset: *offset,
+            count: *count,
+        }),
+        Plan::Collect {
+            groups,
+            aggregates,
+            into,
+            stage,
+            ..
+        } => Ok(Plan::Collect {
+            below,
+            groups: copy_lets(alloc, groups.as_slice())?,
+            aggregates: copy_aggregates(alloc, aggregates.as_slice())?,
+            into: copy_into(alloc, into)?,
+            stage: *stage,
+        }),
+        Plan::Return { expr, distinct, .. } => Ok(Plan::Return {
+            below,
+            expr: copy_expr(alloc, expr)?,
+            distinct: *distinct,
+        }),
+        Plan::NoResults { .. } => Ok(Plan::NoResults { below }),
+        Plan::Scatter { coll, only, .. } => Ok(Plan::Scatter {
+            below,
+            coll: *coll,
+            only: *only,
+        }),
+        Plan::Distribute { coll, exprs, .. } => Ok(Plan::Distribute {
+            below,
+            coll: *coll,
+            exprs: copy_exprs(alloc, exprs.as_slice())?,
+        }),
+        Plan::Remote { .. } => Ok(Plan::Remote { below }),
+        Plan::Gather { order, .. } => Ok(Plan::Gather {
+            below,
+            order: copy_keys(alloc, order.as_slice())?,
+        }),
+    }
+}
+
 impl Plan {
     /// The body of a subquery; `None` exactly at every other node.
     pub fn body(&self) -> Option<&Plan>
@@ -87,142 +234,11 @@ impl Plan {
         ensures { IfOk result (λ p. plan_tree p ≡ over (plan_tree self.now) (plan_tree below)) }
     {
         match self {
-            Plan::Singleton => Ok(Plan::Singleton),
-            Plan::EnumerateCollection {
-                var,
-                coll,
-                filter,
-                attrs,
-                shard,
-                ..
-            } => Ok(Plan::EnumerateCollection {
-                below: boxed(alloc, below)?,
-                var: *var,
-                coll: *coll,
-                filter: copy_maybe(alloc, filter)?,
-                attrs: copy_maybe_texts(alloc, attrs)?,
-                shard: *shard,
-            }),
-            Plan::Index {
-                var,
-                coll,
-                filter,
-                attrs,
-                shard,
-                index,
-                equal,
-                last,
-                ordered,
-                ..
-            } => Ok(Plan::Index {
-                below: boxed(alloc, below)?,
-                var: *var,
-                coll: *coll,
-                filter: copy_maybe(alloc, filter)?,
-                attrs: copy_maybe_texts(alloc, attrs)?,
-                shard: *shard,
-                index: *index,
-                equal: copy_exprs(alloc, equal.as_slice())?,
-                last: copy_last(alloc, last)?,
-                ordered: *ordered,
-            }),
-            Plan::EnumerateList { var, list, .. } => Ok(Plan::EnumerateList {
-                below: boxed(alloc, below)?,
-                var: *var,
-                list: copy_expr(alloc, list)?,
-            }),
-            Plan::Traversal {
-                vertex,
-                edge,
-                path,
-                min,
-                max,
-                direction,
-                start,
-                collections,
-                prune,
-                options,
-                filter,
-                ..
-            } => Ok(Plan::Traversal {
-                below: boxed(alloc, below)?,
-                vertex: *vertex,
-                edge: *edge,
-                path: *path,
-                min: *min,
-                max: *max,
-                direction: *direction,
-                start: copy_expr(alloc, start)?,
-                collections: copy_colls(alloc, collections.as_slice())?,
-                prune: copy_maybe(alloc, prune)?,
-                options: *options,
-                filter: copy_maybe(alloc, filter)?,
-            }),
-            Plan::Calculation { var, expr, .. } => Ok(Plan::Calculation {
-                below: boxed(alloc, below)?,
-                var: *var,
-                expr: copy_expr(alloc, expr)?,
-            }),
             Plan::Subquery { var, body, .. } => {
                 let body = body.copy(alloc)?;
-                Ok(Plan::Subquery {
-                    below: boxed(alloc, below)?,
-                    var: *var,
-                    body: boxed(alloc, body)?,
-                })
+                subquery(alloc, below, *var, body)
             }
-            Plan::Filter { cond, .. } => Ok(Plan::Filter {
-                below: boxed(alloc, below)?,
-                cond: copy_expr(alloc, cond)?,
-            }),
-            Plan::Sort { keys, limit, .. } => Ok(Plan::Sort {
-                below: boxed(alloc, below)?,
-                keys: copy_keys(alloc, keys.as_slice())?,
-                limit: *limit,
-            }),
-            Plan::Limit { offset, count, .. } => Ok(Plan::Limit {
-                below: boxed(alloc, below)?,
-                offset: *offset,
-                count: *count,
-            }),
-            Plan::Collect {
-                groups,
-                aggregates,
-                into,
-                stage,
-                ..
-            } => Ok(Plan::Collect {
-                below: boxed(alloc, below)?,
-                groups: copy_lets(alloc, groups.as_slice())?,
-                aggregates: copy_aggregates(alloc, aggregates.as_slice())?,
-                into: copy_into(alloc, into)?,
-                stage: *stage,
-            }),
-            Plan::Return { expr, distinct, .. } => Ok(Plan::Return {
-                below: boxed(alloc, below)?,
-                expr: copy_expr(alloc, expr)?,
-                distinct: *distinct,
-            }),
-            Plan::NoResults { .. } => Ok(Plan::NoResults {
-                below: boxed(alloc, below)?,
-            }),
-            Plan::Scatter { coll, only, .. } => Ok(Plan::Scatter {
-                below: boxed(alloc, below)?,
-                coll: *coll,
-                only: *only,
-            }),
-            Plan::Distribute { coll, exprs, .. } => Ok(Plan::Distribute {
-                below: boxed(alloc, below)?,
-                coll: *coll,
-                exprs: copy_exprs(alloc, exprs.as_slice())?,
-            }),
-            Plan::Remote { .. } => Ok(Plan::Remote {
-                below: boxed(alloc, below)?,
-            }),
-            Plan::Gather { order, .. } => Ok(Plan::Gather {
-                below: boxed(alloc, below)?,
-                order: copy_keys(alloc, order.as_slice())?,
-            }),
+            _ => lone_over(alloc, self, below),
         }
     }
 
@@ -233,11 +249,7 @@ impl Plan {
         match self {
             Plan::Subquery { below, var, .. } => {
                 let below = below.copy(alloc)?;
-                Ok(Plan::Subquery {
-                    below: boxed(alloc, below)?,
-                    var: *var,
-                    body: boxed(alloc, body)?,
-                })
+                subquery(alloc, below, *var, body)
             }
             _ => self.copy(alloc),
         }

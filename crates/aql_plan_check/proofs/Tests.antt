@@ -6,7 +6,7 @@ use Rattle.std.proofs.lemmas.List.{drop_more}
 use Rattle.aql_meaning.specs.Numbered.{IsNumber}
 use Rattle.aql_plan.specs.Plan.{Plan, Over, top}
 use Rattle.aql_plan.specs.Variables.{vars_set, set_once}
-use Rattle.aql_plan.specs.laws.Carried.{all_parts}
+use Rattle.aql_plan_laws.specs.laws.Carried.{all_parts}
 
 -- what is left of a list, from one place on
 pub left : {X : Type 0} (xs : List X) (i : ℕ) (x : X) → i < length xs → x ≡ get_or xs i x

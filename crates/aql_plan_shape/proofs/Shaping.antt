@@ -8,9 +8,9 @@ use Rattle.aql_plan.specs.declared.facts.Facts.{Facts}
 use Rattle.aql_plan.specs.Fits.{Fits}
 use Rattle.aql_plan.specs.Plan.{Reading, Plan, Singleton, Over, Node, EnumerateCollection, Index, EnumerateList, Traversal, Calculation, Subquery, Filter, Sort, Limit, Collect, Return, NoResults, Scatter, Distribute, Remote, Gather}
 use Rattle.aql_plan.specs.Shapes.{Order, unordered, by_keys, index_order, Shape, Rows, Foot, Fragment, States, AllStates, Sent, Result, IsOuter, ReadsFragment, ReadsShard, KeepsRowOrder, IsSent, Shaped, one_row, calculated, with_subquery, plain_rows, ordered_rows, scatter, distribute, remote, lowest, lowest_in_order, other_reading, passing, sorting, gather, gather_in_order, partial, joining, finishing, returning}
-use Rattle.aql_plan.specs.laws.ShapeOnce.{AtMost, shape_once}
-use Rattle.aql_plan.specs.laws.ShapeOnce as once
-use Rattle.aql_plan.specs.laws.ShapesKept.{any_rows, under_top}
+use Rattle.aql_plan_laws.specs.laws.ShapeOnce.{AtMost, shape_once}
+use Rattle.aql_plan_laws.specs.laws.ShapeOnce as once
+use Rattle.aql_plan_laws.specs.laws.ShapesKept.{any_rows, under_top}
 use Rattle.aql_plan_shape.specs.Standing.{IsRows, IsFragment, HasRows, MayRead, MayReadInOrder, IsKeyless, MayGather, MayStand, next, BodyFits}
 use Rattle.aql_plan_shape.specs.declared.shapes.Shape.{Shape as Code}
 use Rattle.aql_plan_shape.specs.View.{shape_of}

@@ -6,7 +6,7 @@ use Rattle.aql_meaning.specs.declared.grouping.Stage.TheVariants as stage
 use Rattle.aql_plan.specs.declared.facts.Facts.{Facts}
 use Rattle.aql_plan.specs.Plan.{Reading, Plan, Singleton, Over, Node, EnumerateCollection, Index, Calculation, Subquery, Filter, Sort, Collect, Return, Scatter, Distribute, Remote, Gather}
 use Rattle.aql_plan.specs.Shapes.{Order, by_keys, index_order, Shape, Rows, Foot, Fragment, States, AllStates, Sent, Result, IsSent, Shaped}
-use Rattle.aql_plan.specs.laws.ShapeOnce.{is_one, reading_over, ordering_over, filter_over, gather_over}
+use Rattle.aql_plan_laws.specs.laws.ShapeOnce.{is_one, reading_over, ordering_over, filter_over, gather_over}
 
 -- rows outside fragments
 abbrev pub IsRows : Shape → Type 0

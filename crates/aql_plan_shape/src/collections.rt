@@ -13,7 +13,8 @@ use aql_value::{CollNo, Text};
 
 fn widths_fit(indexes: &[IndexFact]) -> bool
     ensures { IsTrue result
-        ↔ AllByRecursion (λ (i : IndexFact). length i.widths ≡ length i.attributes + 1) indexes.now }
+        ↔ AllByRecursion (λ (i : IndexFact). length i.widths ≡ length i.attributes + 1)
+        indexes.now }
 {
     for index in indexes {
         if index.widths.len() == 0 || index.widths.len() - 1 != index.attributes.len() {

@@ -79,7 +79,8 @@ fn same_argument(a: &Option<Expr>, b: &Option<Expr>) -> bool
 }
 
 fn same_aggregate(a: &AggregateItem, b: &AggregateItem) -> bool
-    ensures { IsTrue result ↔ AggregatesSame (aggregate_part a.now ∷ []) (aggregate_part b.now ∷ []) }
+    ensures { IsTrue result
+        ↔ AggregatesSame (aggregate_part a.now ∷ []) (aggregate_part b.now ∷ []) }
 {
     same_ident(&a.var, &b.var)
         && a.name.as_str() == b.name.as_str()

@@ -44,7 +44,8 @@ fn index_is_usable(
 }
 
 fn traversal_is_plain(start: &Expr, prune: &Option<Expr>, filter: &Option<Expr>) -> bool
-    ensures { IsTrue result ↔ (IsPlain (tree start.now) × MaybePlain (maybe (option_map tree prune.now))
+    ensures { IsTrue result ↔ (IsPlain (tree start.now)
+        × MaybePlain (maybe (option_map tree prune.now))
         × MaybePlain (maybe (option_map tree filter.now))) }
 {
     is_plain(start) && maybe_plain(prune) && maybe_plain(filter)
@@ -75,7 +76,8 @@ fn index_node_fits(
     last: &Last,
     ordered: Option<bool>,
 ) -> bool
-    ensures { IsTrue result ↔ (AllPlain (trees (map tree equal.now)) × LastPlain (last_tree last.now)
+    ensures { IsTrue result ↔ (AllPlain (trees (map tree equal.now))
+        × LastPlain (last_tree last.now)
         × MatchOption (option_copied known.entry) ⊥
         (λ i. BoundsFit (length i.attributes) (exprs_in (trees (map tree equal.now)))
         (last_tree last.now) × KindFits i.kind (exprs_in (trees (map tree equal.now)))

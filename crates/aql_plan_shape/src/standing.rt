@@ -8,7 +8,7 @@ ghost use Rattle.aql_plan.specs.Fits.{AllKnown, Fits};
 ghost use Rattle.aql_plan.specs.Plan.{top};
 ghost use Rattle.aql_plan.specs.Shapes.{Rows, Foot, Sent, IsSent};
 ghost use Rattle.aql_plan.specs.View.{plan_tree, directions, key_trees};
-ghost use Rattle.aql_plan.specs.laws.ShapeOnce.{is_one, reading_over, ordering_over, filter_over, gather_over};
+ghost use Rattle.aql_plan_laws.specs.laws.ShapeOnce.{is_one, reading_over, ordering_over, filter_over, gather_over};
 ghost use Rattle.aql_plan_shape.specs.Standing.{IsRows, HasRows, MayRead, MayReadInOrder, MayGather, MayStand, next};
 ghost use Rattle.aql_plan_shape.specs.Sameness.{LetsSame, AggregatesSame};
 ghost use Rattle.aql_plan_shape.specs.View.{all_states_of, collect_of, order_of, shape_of};

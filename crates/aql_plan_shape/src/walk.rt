@@ -5,7 +5,7 @@ ghost use Rattle.aql_plan.specs.Plan.{Over, top};
 ghost use Rattle.aql_plan.specs.Shapes as spec;
 ghost use Rattle.aql_plan.specs.Shapes.{Shaped};
 ghost use Rattle.aql_plan.specs.View.{plan_tree};
-ghost use Rattle.aql_plan.specs.laws.ShapeOnce as once;
+ghost use Rattle.aql_plan_laws.specs.laws.ShapeOnce as once;
 ghost use Rattle.aql_plan_shape.specs.Standing.{BodyFits};
 ghost use Rattle.aql_plan_shape.specs.View.{shape_of};
 

@@ -1,6 +1,6 @@
-//! The pass of a rule that renames nothing: the plan from its lowest node up. Where the rule rewrote
-//! a part, the pass goes on with what stands there now. What the nodes above use is found only for a
-//! rule that looks at it.
+//! The pass of a rule that renames nothing: the plan from its lowest node up. Where the rule
+//! rewrote a part, the pass goes on with what stands there now. What the nodes above use is found
+//! only for a rule that looks at it.
 
 ghost use Rattle.std.specs.Prelude.{◌≡◌, false, OnOk, IfOk};
 ghost use Rattle.aql_plan.specs.Needs.{under};

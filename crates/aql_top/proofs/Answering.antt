@@ -21,7 +21,7 @@ use Rattle.aql_plan.specs.FirstPlan.{first_plan}
 use Rattle.aql_plan.specs.Refines.{world, Refines, Answers as PlanAnswers}
 use Rattle.aql_plan.specs.Runs.{World}
 use Rattle.aql_plan.specs.WellFormed.{IsWellFormed}
-use Rattle.aql_plan.proofs.FirstAnswers.{first_answers}
+use Rattle.aql_plan_laws.proofs.FirstAnswers.{first_answers}
 use Rattle.aql_exec_plan.specs.Runnable.{HasExecutors}
 use Rattle.aql_shard.specs.Holding.{Holding}
 use Rattle.aql_shard.specs.Held.{stock, nothing_counted}

@@ -11,7 +11,7 @@ use Rattle.aql_plan.specs.declared.facts.Facts.{Facts}
 use Rattle.aql_plan.specs.Plan.{Plan, Singleton, Over, Node, Subquery}
 use Rattle.aql_plan.specs.Refines.{RefinesFor}
 use Rattle.aql_plan.specs.Variables.{vars_of, vars_set}
-use Rattle.aql_plan.specs.laws.Among.{count}
+use Rattle.aql_plan_laws.specs.laws.Among.{count}
 use Rattle.aql_rewrite_expr.specs.FirstPart.{FirstOf}
 use Rattle.aql_rewrite_expr.specs.Keeps.{Keeps}
 use Rattle.aql_rewrite_expr.specs.laws.FirstKept.{first_of_keeps}

@@ -23,7 +23,7 @@ use Rattle.aql_plan.specs.Plan.{Reading, Plan, Over, Node, EnumerateCollection, 
 use Rattle.aql_plan.specs.Refines.{world, RefinesFor}
 use Rattle.aql_plan.specs.Runs.{World, Place, Outside, read, read_in_bounds, edges_in, result_row, Gives}
 use Rattle.aql_plan.specs.Shapes.{IsNoFragment}
-use Rattle.aql_plan.specs.laws.Agreement.{rows_agree}
+use Rattle.aql_plan_laws.specs.laws.Agreement.{rows_agree}
 use Rattle.aql_rewrite_expr.specs.Parts.{list_parts, maybe_parts}
 use Rattle.aql_rewrite_expr.specs.OverParts.{first_or, after_first, over_list, over_maybe, after_maybe}
 use Rattle.aql_rewrite_expr.specs.laws.Related.{rest_related, after_maybe_related}

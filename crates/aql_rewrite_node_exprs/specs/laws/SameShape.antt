@@ -6,7 +6,7 @@ use Rattle.aql_meaning.specs.declared.grouping.Stage.TheVariants as stage
 use Rattle.aql_plan.specs.declared.facts.Facts.{Facts}
 use Rattle.aql_plan.specs.Plan.{Plan, Over, Node, EnumerateCollection, Index, EnumerateList, Traversal, Calculation, Filter, Sort, Limit, Collect, Return, NoResults}
 use Rattle.aql_plan.specs.Shapes.{IsOuter, calculated, with_subquery, plain_rows, ordered_rows, scatter, distribute, remote, lowest, lowest_in_order, other_reading, passing, sorting, gather, gather_in_order, partial, joining, finishing, returning, HasNoFragment, IsNoFragment}
-use Rattle.aql_plan.specs.laws.ShapesKept.{KeepsShape}
+use Rattle.aql_plan_laws.specs.laws.ShapesKept.{KeepsShape}
 use Rattle.aql_rewrite_plan.specs.NodeExprs.{node_exprs, over_exprs}
 use Rattle.aql_rewrite_node_exprs.specs.laws.Standing.{AllStand}
 use Rattle.aql_rewrite_node_exprs.specs.laws.StillFits.{still_fits}

@@ -15,7 +15,7 @@ use Rattle.aql_plan.specs.Plan.{Plan, Over, Node, EnumerateCollection, Index, En
 use Rattle.aql_plan.specs.Needs.{sets, end_uses, last_uses}
 use Rattle.aql_plan.specs.Shapes.{IsNoFragment}
 use Rattle.aql_plan.specs.Variables.{filter_uses, input_uses, vars_of, are_among, FindsAll, FindsInside, set_once}
-use Rattle.aql_plan.specs.laws.Idents.{same_is, same_self}
+use Rattle.aql_plan_laws.specs.laws.Idents.{same_is, same_self}
 use Rattle.aql_rewrite_expr.specs.Parts.{list_parts, maybe_parts}
 use Rattle.aql_rewrite_expr.specs.OverParts.{first_or, after_first, over_list, over_maybe, after_maybe}
 use Rattle.aql_rewrite_expr.specs.laws.Related.{rest_related, after_maybe_related}

@@ -79,7 +79,8 @@ module _ (R : Rewriting) where
     stays_seen us vs p h q r k = h q r (blind vs us p q r k)
 
     mutual
-      pub no_place_seen : (inside : Bool) (us vs : Uses) (p : Plan) → NoPlace R inside us p → NoPlace R inside vs p
+      pub no_place_seen : (inside : Bool) (us vs : Uses) (p : Plan)
+          → NoPlace R inside us p → NoPlace R inside vs p
       no_place_seen inside us vs Singleton h = tt
       no_place_seen inside us vs (Over b n) h = (
         no_place_seen (input_inside n inside) (under n us) (under n vs) b h.0,
@@ -109,7 +110,7 @@ module _ (R : Rewriting) where
       ended = no_place_seen false us vs q h.ended;
     }
 
-  -- ---- as the program holds them: b was the input of p and m is left, c is what b came to, and k is m over c
+  -- ---- as the program holds them: b was the input of p and m is left, c is what b came to, k is m over c
 
   pub input_reached : (us : Uses) (p m b c k : Plan) (x y : Bool) → HasNoFragment p → Taken p m b
       → k ≡ over m c → Finishes R (under (top m) us) b c x y → Way us p k x y

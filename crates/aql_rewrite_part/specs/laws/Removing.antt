@@ -10,7 +10,7 @@ use Rattle.aql_plan.specs.Needs.{under, result_uses}
 use Rattle.aql_plan.specs.Nodes.{over, body_in, with_body, weight, weight_in}
 use Rattle.aql_plan.specs.Plan.{Plan, Singleton, Over, Node, Subquery, top}
 use Rattle.aql_plan.specs.Shapes.{HasNoFragment, IsNoFragment}
-use Rattle.aql_plan.specs.laws.UsesMapped.{lone_node}
+use Rattle.aql_plan_laws.specs.laws.UsesMapped.{lone_node}
 use Rattle.aql_rewrite_plan.specs.declared.swap.Rename.{Rename}
 use Rattle.aql_rewrite_plan.specs.Placed.{Placed, IsPlaced, IsWhole}
 use Rattle.aql_rewrite_plan.specs.Places.{renamed_by, Rewriting, Stays, NoPlace, First, below, here, body, Reaches, at_once as reached_at_once, next as then_next, IsPass}
@@ -66,7 +66,8 @@ body_within k s d = (
 
 body_made : (k m s t q : Plan) (d : BodyOf k s) → m ≡ with_body k Singleton → q ≡ with_body m t
     → q ≡ Over d.input (Subquery d.var t)
-body_made k m s t q d e f = f ∙ ap (λ (o : Plan). with_body o t) (e ∙ ap (λ (o : Plan). with_body o Singleton) d.was)
+body_made k m s t q d e f =
+    f ∙ ap (λ (o : Plan). with_body o t) (e ∙ ap (λ (o : Plan). with_body o Singleton) d.was)
 
 module _ (R : Rewriting) (blind : (us vs : Uses) (p q : Plan) (r : Option Rename) → R us p q r → R vs p q r)
     (removes : (us : Uses) (p q : Plan) (r : Option Rename) → R us p q r
@@ -162,13 +163,15 @@ module _ (R : Rewriting) (blind : (us vs : Uses) (p q : Plan) (r : Option Rename
     then_gone q r takes e =
         let n = new_top in
         let same : c ≡ q = input_is c q n (subst (λ (o : Plan). o ≡ over o q) over_top e) in
-        let none = subst (λ (w : Bool). NoPlace R w (under n []) c) (sym (outside n (lone_each rs (top m) lone_top)))
+        let none = subst (λ (w : Bool). NoPlace R w (under n []) c)
+        (sym (outside n (lone_each rs (top m) lone_top)))
         (no_place_seen R blind false [] (under n []) c done.ended) in
         let rewritten = subst (λ (o : Plan). R [] o c (Some r)) over_top
         (takes c (over_top ∙ ap (Over c) (sym (ap top over_top)))) in
         record {
           reached = next input_reached
-              (subst₂ (λ (o l : Plan). First R false [] o l (Some r)) (sym over_top) same (here none rewritten));
+              (subst₂ (λ (o l : Plan). First R false [] o l (Some r)) (sym over_top) same
+              (here none rewritten));
           ended = subst (λ (o : Plan). NoPlace R false [] o) same done.ended;
         }
       where
@@ -190,8 +193,9 @@ module _ (R : Rewriting) (blind : (us vs : Uses) (p q : Plan) (r : Option Rename
           none_at R [] (Over b n) s (no_body n h),
         )
 
-    pub body_removes : (m s t q : Plan) (rs : List Rename) (x y : Bool) → BodyOf k s → m ≡ with_body k Singleton
-        → q ≡ with_body m t → Removes R s t rs x y → Removes R k q [] x y
+    pub body_removes : (m s t q : Plan) (rs : List Rename) (x y : Bool)
+        → BodyOf k s → m ≡ with_body k Singleton → q ≡ with_body m t
+        → Removes R s t rs x y → Removes R k q [] x y
     body_removes m s t q rs x y d e f h =
         let v = d.var in
         let b = d.input in

@@ -9,8 +9,8 @@ use Rattle.aql_plan.specs.declared.facts.Facts.{Facts}
 use Rattle.aql_plan.specs.Needs.{under}
 use Rattle.aql_plan.specs.Plan.{Plan, Over, Node}
 use Rattle.aql_plan.specs.Variables.{vars_of, vars_set, are_among}
-use Rattle.aql_plan.specs.laws.Among.{fewer_have}
-use Rattle.aql_plan.specs.laws.Idents.{same_self}
+use Rattle.aql_plan_laws.specs.laws.Among.{fewer_have}
+use Rattle.aql_plan_laws.specs.laws.Idents.{same_self}
 use Rattle.aql_rewrite_plan.specs.declared.swap.Rename.{Rename}
 use Rattle.aql_rewrite_plan.specs.Placed.{Placed, IsPlaced}
 use Rattle.aql_rewrite_plan.specs.Places.{Rewriting}
@@ -51,7 +51,8 @@ placed_kept facts outer away us p q r placed kept used = record {
   numbers = fewer_have IsNumber (vars_set q) (vars_set p) kept.fewer placed.numbers;
 }
 
-module _ (R : Rewriting) (facts : Facts) (refines : Refining false facts R) (keeps : Keeping false facts R) where
+module _ (R : Rewriting) (facts : Facts)
+    (refines : Refining false facts R) (keeps : Keeping false facts R) where
   steps_placed : (outer away : List Ident) (us : Uses) {p q : Plan} {x y : Bool}
       → Placed false false facts outer away us p → Steps Plan (PlanStep R us) p q x y
       → Placed false false facts outer away us q

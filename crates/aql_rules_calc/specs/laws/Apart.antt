@@ -12,9 +12,9 @@ use Rattle.aql_plan.specs.Plan.{Plan, Singleton, Over, Node, Subquery, Collect, 
 use Rattle.aql_plan.specs.Needs.{sets}
 use Rattle.aql_plan.specs.Shapes.{HasNoFragment}
 use Rattle.aql_plan.specs.Variables.{vars_of, vars_set, set_once}
-use Rattle.aql_plan.specs.laws.Among.{count, count_append, counted_has, none_in}
-use Rattle.aql_plan.specs.laws.Idents.{same_self}
-use Rattle.aql_plan.specs.laws.RenamedPlaces.{number_is_no_result}
+use Rattle.aql_plan_laws.specs.laws.Among.{count, count_append, counted_has, none_in}
+use Rattle.aql_plan_laws.specs.laws.Idents.{same_self}
+use Rattle.aql_plan_laws.specs.laws.RenamedPlaces.{number_is_no_result}
 use Rattle.aql_rewrite_plan.specs.Placed.{Placed}
 use Rattle.aql_rewrite_plan.specs.laws.Among.{has}
 

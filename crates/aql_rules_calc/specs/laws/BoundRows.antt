@@ -24,11 +24,11 @@ use Rattle.aql_meaning.specs.laws.Shuffles.{alike_permutation}
 use Rattle.aql_plan.specs.Plan.{Node, EnumerateCollection, EnumerateList, Traversal, Sort}
 use Rattle.aql_plan.specs.Needs.{sets, own_uses}
 use Rattle.aql_plan.specs.Runs.{World, Outside, read, edges_in, Gives}
-use Rattle.aql_plan.specs.laws.Carried.{all_parts}
-use Rattle.aql_plan.specs.laws.Idents.{same_is}
-use Rattle.aql_plan.specs.laws.Lists.{map_equal, filter_related}
-use Rattle.aql_plan.specs.laws.NodesAlike.{first_related}
-use Rattle.aql_plan.specs.laws.SortsAlike.{sorted_alike}
+use Rattle.aql_plan_laws.specs.laws.Carried.{all_parts}
+use Rattle.aql_plan_laws.specs.laws.Idents.{same_is}
+use Rattle.aql_plan_laws.specs.laws.Lists.{map_equal, filter_related}
+use Rattle.aql_plan_laws.specs.laws.NodesAlike.{first_related}
+use Rattle.aql_plan_laws.specs.laws.SortsAlike.{sorted_alike}
 use Rattle.aql_rewrite_plan.specs.Swaps.{is_used}
 use Rattle.aql_rules_calc.specs.MoveCalculationsUp.{enumerates_or_sorts}
 use Rattle.aql_rules_calc.specs.laws.Unused.{neither, agree_unused}

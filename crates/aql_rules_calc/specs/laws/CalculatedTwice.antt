@@ -21,9 +21,9 @@ use Rattle.aql_plan.specs.Renaming.{renamed}
 use Rattle.aql_plan.specs.Runs.{World, Outside, Runs}
 use Rattle.aql_plan.specs.Shapes.{HasNoFragment}
 use Rattle.aql_plan.specs.Variables.{vars_of, FindsAll, vars_set, set_once}
-use Rattle.aql_plan.specs.laws.Agreement.{agree_self}
-use Rattle.aql_plan.specs.laws.Among.{any_back, count, count_append, none_in}
-use Rattle.aql_plan.specs.laws.Idents.{same_self, same_swapped}
+use Rattle.aql_plan_laws.specs.laws.Agreement.{agree_self}
+use Rattle.aql_plan_laws.specs.laws.Among.{any_back, count, count_append, none_in}
+use Rattle.aql_plan_laws.specs.laws.Idents.{same_self, same_swapped}
 use Rattle.aql_rewrite_plan.specs.declared.swap.Rename.{Rename}
 use Rattle.aql_rewrite_plan.specs.Nodes.{gives_new_rows}
 use Rattle.aql_rewrite_plan.specs.Places.{First}

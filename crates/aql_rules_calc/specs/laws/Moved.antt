@@ -22,11 +22,11 @@ use Rattle.aql_plan.specs.Refines.{world, RefinesFor}
 use Rattle.aql_plan.specs.Runs.{World, Outside, Runs, Gives, result_of}
 use Rattle.aql_plan.specs.Shapes.{Rows, Shaped, calculated, with_subquery, plain_rows, lowest, other_reading, passing}
 use Rattle.aql_plan.specs.Variables.{vars_of, FindsAll, vars_set, set_once}
-use Rattle.aql_plan.specs.laws.Agreement.{rows_agree, runs_agree}
-use Rattle.aql_plan.specs.laws.Among.{count, count_append}
-use Rattle.aql_plan.specs.laws.Congruence.{results_agree}
-use Rattle.aql_plan.specs.laws.FoundMapped.{NodeFinds, node_still}
-use Rattle.aql_plan.specs.laws.ShapesKept.{KeepsShape}
+use Rattle.aql_plan_laws.specs.laws.Agreement.{rows_agree, runs_agree}
+use Rattle.aql_plan_laws.specs.laws.Among.{count, count_append}
+use Rattle.aql_plan_laws.specs.laws.Congruence.{results_agree}
+use Rattle.aql_plan_laws.specs.laws.FoundMapped.{NodeFinds, node_still}
+use Rattle.aql_plan_laws.specs.laws.ShapesKept.{KeepsShape}
 use Rattle.aql_rewrite_plan.specs.declared.swap.Rename.{Rename}
 use Rattle.aql_rewrite_plan.specs.Nodes.{uses_alone}
 use Rattle.aql_rewrite_plan.specs.Places.{First}

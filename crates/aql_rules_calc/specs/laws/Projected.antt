@@ -33,9 +33,9 @@ use Rattle.aql_plan.specs.Plan.{Reading, Plan, Singleton, Over, Node, EnumerateC
 use Rattle.aql_plan.specs.Refines.{world}
 use Rattle.aql_plan.specs.Runs.{World, Outside, read, read_in_bounds, Indexed}
 use Rattle.aql_plan.specs.Shapes.{plain_rows, ordered_rows, lowest, lowest_in_order, other_reading, passing}
-use Rattle.aql_plan.specs.laws.Idents.{same_self}
-use Rattle.aql_plan.specs.laws.Lists.{append_related}
-use Rattle.aql_plan.specs.laws.ShapesKept.{KeepsShape}
+use Rattle.aql_plan_laws.specs.laws.Idents.{same_self}
+use Rattle.aql_plan_laws.specs.laws.Lists.{append_related}
+use Rattle.aql_plan_laws.specs.laws.ShapesKept.{KeepsShape}
 use Rattle.aql_rewrite_plan.specs.declared.swap.Rename.{Rename}
 use Rattle.aql_rewrite_plan.specs.Places.{renamed_by, Stays, First}
 use Rattle.aql_rewrite_plan.specs.Placed.{IsWhole, Placed}

@@ -18,10 +18,10 @@ use Rattle.aql_plan.specs.Plan.{Reading, Plan, Over, Node, EnumerateCollection, 
 use Rattle.aql_plan.specs.Needs.{sets}
 use Rattle.aql_plan.specs.Runs.{World, Outside, read, read_in_bounds, Indexed, Runs, result_of}
 use Rattle.aql_plan.specs.Shapes.{IsNoFragment}
-use Rattle.aql_plan.specs.laws.Carried.{all_parts}
-use Rattle.aql_plan.specs.laws.Lists.{take_related, drop_related, filter_related}
-use Rattle.aql_plan.specs.laws.NodesAlike.{kept_related, first_related}
-use Rattle.aql_plan.specs.laws.SortsAlike.{sorted_alike}
+use Rattle.aql_plan_laws.specs.laws.Carried.{all_parts}
+use Rattle.aql_plan_laws.specs.laws.Lists.{take_related, drop_related, filter_related}
+use Rattle.aql_plan_laws.specs.laws.NodesAlike.{kept_related, first_related}
+use Rattle.aql_plan_laws.specs.laws.SortsAlike.{sorted_alike}
 use Rattle.aql_rewrite_plan.specs.Nodes.{gives_new_rows}
 
 module _ (P : Row → Type 0) where

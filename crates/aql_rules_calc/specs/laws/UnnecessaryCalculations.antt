@@ -17,8 +17,8 @@ use Rattle.aql_plan.specs.Refines.{world}
 use Rattle.aql_plan.specs.Runs.{Outside, Runs, result_of}
 use Rattle.aql_plan.specs.Shapes.{calculated, with_subquery as subquery_shaped, plain_rows, lowest, other_reading, passing}
 use Rattle.aql_plan.specs.Variables.{vars_of, vars_set}
-use Rattle.aql_plan.specs.laws.Among.{count, count_append}
-use Rattle.aql_plan.specs.laws.ShapesKept.{KeepsShape}
+use Rattle.aql_plan_laws.specs.laws.Among.{count, count_append}
+use Rattle.aql_plan_laws.specs.laws.ShapesKept.{KeepsShape}
 use Rattle.aql_plan.proofs.SomeRun.{some_run}
 use Rattle.aql_rewrite_plan.specs.declared.swap.Rename.{Rename}
 use Rattle.aql_rewrite_plan.specs.Places.{Stays, First}

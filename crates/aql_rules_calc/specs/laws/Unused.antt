@@ -7,7 +7,7 @@ use Rattle.aql_tree.specs.declared.syntax.Ident.{Ident}
 use Rattle.aql_meaning.specs.Row.{Row, bind, same_ident}
 use Rattle.aql_meaning.specs.Uses.{Use, Whole, Part, Uses, used_variable, AgreeAt, Agree}
 use Rattle.aql_plan.specs.Variables.{are_among}
-use Rattle.aql_plan.specs.laws.Idents.{same_is}
+use Rattle.aql_plan_laws.specs.laws.Idents.{same_is}
 use Rattle.aql_rewrite_plan.specs.Swaps.{is_used, Kept}
 use Rattle.aql_rewrite_plan.specs.laws.Among.{has, both}
 

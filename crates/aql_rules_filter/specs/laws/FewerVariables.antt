@@ -18,8 +18,8 @@ use Rattle.aql_meaning.specs.Uses.{Uses, Agree, maybe_uses}
 use Rattle.aql_meaning.specs.laws.Agrees.{agree_split, value_same}
 use Rattle.aql_meaning.specs.laws.RowByRow.{each_related}
 use Rattle.aql_meaning.specs.laws.Shuffles.{alike_permutation}
-use Rattle.aql_plan.specs.laws.Agreement.{agree_bind}
-use Rattle.aql_plan.specs.laws.Lists.{weaker, filter_related, related_self}
+use Rattle.aql_plan_laws.specs.laws.Agreement.{agree_bind}
+use Rattle.aql_plan_laws.specs.laws.Lists.{weaker, filter_related, related_self}
 use Rattle.aql_rewrite_plan.specs.Swaps.{is_used}
 use Rattle.aql_rules_filter.specs.OptimizeTraversals.{with_vars, tests_use}
 use Rattle.aql_rules_filter.specs.laws.Unused.{agree_unused}

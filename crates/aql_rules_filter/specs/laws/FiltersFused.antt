@@ -11,7 +11,7 @@ use Rattle.aql_plan.specs.Plan.{Plan, Over, Filter}
 use Rattle.aql_plan.specs.Needs.{result_uses}
 use Rattle.aql_plan.specs.Shapes.{Shape, Rows, Shaped, plain_rows}
 use Rattle.aql_plan.specs.Variables.{vars_of}
-use Rattle.aql_plan.specs.laws.Agreement.{rows_agree}
+use Rattle.aql_plan_laws.specs.laws.Agreement.{rows_agree}
 use Rattle.aql_rewrite_plan.specs.declared.swap.Rename.{Rename}
 use Rattle.aql_rewrite_plan.specs.Places.{First}
 use Rattle.aql_rewrite_plan.specs.Placed.{Placed, IsWhole}

@@ -21,7 +21,7 @@ use Rattle.aql_plan.specs.Runs.{World, Outside, read, read_in_bounds, Indexed}
 use Rattle.aql_plan.specs.Refines.{world}
 use Rattle.aql_plan.specs.Shapes.{Shape, Rows, Shaped, plain_rows, ordered_rows}
 use Rattle.aql_plan.specs.Variables.{vars_of}
-use Rattle.aql_plan.specs.laws.Agreement.{rows_agree}
+use Rattle.aql_plan_laws.specs.laws.Agreement.{rows_agree}
 use Rattle.aql_rewrite_plan.specs.declared.swap.Rename.{Rename}
 use Rattle.aql_rewrite_plan.specs.Places.{First}
 use Rattle.aql_rewrite_plan.specs.Placed.{Placed, IsWhole}

@@ -12,7 +12,7 @@ use Rattle.aql_plan.specs.Needs.{result_uses}
 use Rattle.aql_plan.specs.Runs.{Outside}
 use Rattle.aql_plan.specs.Refines.{world}
 use Rattle.aql_plan.specs.Shapes.{Shape, Shaped, plain_rows}
-use Rattle.aql_plan.specs.laws.Agreement.{rows_agree}
+use Rattle.aql_plan_laws.specs.laws.Agreement.{rows_agree}
 use Rattle.aql_plan.proofs.SomeRun.{some_run}
 use Rattle.aql_rewrite_plan.specs.declared.swap.Rename.{Rename}
 use Rattle.aql_rewrite_plan.specs.Places.{First}

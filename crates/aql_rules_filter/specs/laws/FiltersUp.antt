@@ -21,7 +21,7 @@ use Rattle.aql_plan.specs.Runs.{Outside, Runs, Gives}
 use Rattle.aql_plan.specs.Refines.{world, RefinesFor}
 use Rattle.aql_plan.specs.Shapes.{Shape, Rows, Shaped, calculated, with_subquery, plain_rows, ordered_rows, gather, gather_in_order, finishing}
 use Rattle.aql_plan.specs.Variables.{vars_of, FindsAll}
-use Rattle.aql_plan.specs.laws.Agreement.{rows_agree}
+use Rattle.aql_plan_laws.specs.laws.Agreement.{rows_agree}
 use Rattle.aql_rewrite_plan.specs.declared.swap.Rename.{Rename}
 use Rattle.aql_rewrite_plan.specs.Places.{First}
 use Rattle.aql_rewrite_plan.specs.Placed.{Placed, IsWhole}

@@ -18,9 +18,9 @@ use Rattle.aql_plan.specs.Plan.{Plan, Singleton, Over, Node, Traversal, Filter, 
 use Rattle.aql_plan.specs.Runs.{edges_in}
 use Rattle.aql_plan.specs.Shapes.{Shape, Rows, Shaped, is_inside, plain_rows, lowest, other_reading, passing}
 use Rattle.aql_plan.specs.Variables.{vars_of, vars_set, are_among}
-use Rattle.aql_plan.specs.laws.Agreement.{rows_agree}
-use Rattle.aql_plan.specs.laws.Among.{count, count_append}
-use Rattle.aql_plan.specs.laws.Idents.{same_is, same_swapped}
+use Rattle.aql_plan_laws.specs.laws.Agreement.{rows_agree}
+use Rattle.aql_plan_laws.specs.laws.Among.{count, count_append}
+use Rattle.aql_plan_laws.specs.laws.Idents.{same_is, same_swapped}
 use Rattle.aql_rewrite_plan.specs.declared.swap.Rename.{Rename}
 use Rattle.aql_rewrite_plan.specs.Places.{First}
 use Rattle.aql_rewrite_plan.specs.Placed.{Placed, IsWhole}

@@ -25,7 +25,7 @@ use Rattle.aql_value.specs.Truth.{truth}
 use Rattle.aql_plan.specs.Plan.{Node, EnumerateCollection, EnumerateList, Traversal, Calculation, Subquery, Filter, Sort, Collect}
 use Rattle.aql_plan.specs.Runs.{World, Outside, read, edges_in, result_of, Runs, Gives}
 use Rattle.aql_plan.specs.Shapes.{IsNoFragment}
-use Rattle.aql_plan.specs.laws.Lists.{weaker}
+use Rattle.aql_plan_laws.specs.laws.Lists.{weaker}
 use Rattle.aql_aggregate_join.proofs.Members.{distinct_alike}
 use Rattle.aql_aggregate_join.proofs.Order.{same_any, in_any_order}
 use Rattle.aql_rules_filter.specs.laws.Flat.{each_flat}

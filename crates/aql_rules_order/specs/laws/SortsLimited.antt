@@ -19,8 +19,8 @@ use Rattle.aql_plan.specs.Plan.{Plan, Over, Node, NoResults, Scatter, Distribute
 use Rattle.aql_plan.specs.Refines.{world}
 use Rattle.aql_plan.specs.Runs.{World, Outside, Runs, Gives, result_of}
 use Rattle.aql_plan.specs.Shapes.{Shape, Shaped, is_inside, plain_rows, lowest, other_reading, passing, sorting}
-use Rattle.aql_plan.specs.laws.Agreement.{rows_agree}
-use Rattle.aql_plan.specs.laws.ShapesKept.{KeepsShape}
+use Rattle.aql_plan_laws.specs.laws.Agreement.{rows_agree}
+use Rattle.aql_plan_laws.specs.laws.ShapesKept.{KeepsShape}
 use Rattle.aql_plan.proofs.SomeRun.{some_run}
 use Rattle.aql_rewrite_plan.specs.declared.swap.Rename.{Rename}
 use Rattle.aql_rewrite_plan.specs.Places.{Stays, First}

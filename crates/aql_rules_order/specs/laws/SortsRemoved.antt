@@ -19,8 +19,8 @@ use Rattle.aql_plan.specs.Plan.{Plan, Over, Node, NoResults, Scatter, Distribute
 use Rattle.aql_plan.specs.Refines.{world, RefinesFor}
 use Rattle.aql_plan.specs.Runs.{World, Outside, Runs}
 use Rattle.aql_plan.specs.Shapes.{plain_rows, lowest, other_reading, passing, sorting}
-use Rattle.aql_plan.specs.laws.Agreement.{rows_agree}
-use Rattle.aql_plan.specs.laws.ShapesKept.{KeepsShape}
+use Rattle.aql_plan_laws.specs.laws.Agreement.{rows_agree}
+use Rattle.aql_plan_laws.specs.laws.ShapesKept.{KeepsShape}
 use Rattle.aql_rewrite_expr.specs.Constant.{AreConstant, constant_then}
 use Rattle.aql_rewrite_expr.specs.Parts.{list_parts}
 use Rattle.aql_rewrite_expr.specs.laws.Constants.{constant_value}

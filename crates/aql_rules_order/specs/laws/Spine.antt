@@ -12,9 +12,9 @@ use Rattle.aql_plan.specs.Plan.{Plan, Over, Node, Collect, Return, NoResults, Sc
 use Rattle.aql_plan.specs.Runs.{World, Outside, Runs, Gives}
 use Rattle.aql_plan.specs.Shapes.{HasNoFragment}
 use Rattle.aql_plan.specs.Variables.{vars_of, FindsAll, vars_set, set_once}
-use Rattle.aql_plan.specs.laws.Among.{count}
-use Rattle.aql_plan.specs.laws.FoundMapped.{NodeFinds}
-use Rattle.aql_plan.specs.laws.ShapesKept.{KeepsShape, kept_over}
+use Rattle.aql_plan_laws.specs.laws.Among.{count}
+use Rattle.aql_plan_laws.specs.laws.FoundMapped.{NodeFinds}
+use Rattle.aql_plan_laws.specs.laws.ShapesKept.{KeepsShape, kept_over}
 use Rattle.aql_rewrite_plan.specs.Swaps.{KeepsPlaced}
 
 -- nodes that make their rows of those of their input

@@ -22,12 +22,12 @@ use Rattle.aql_plan.specs.Refines.{world}
 use Rattle.aql_plan.specs.Runs.{World, Outside, Runs, result_row, result_of}
 use Rattle.aql_plan.specs.Shapes.{Shape, Rows, Shaped, IsOuter, HasNoFragment, IsNoFragment, is_inside, one_row, calculated, with_subquery, plain_rows, ordered_rows, lowest, other_reading, passing, gather, gather_in_order, finishing, returning}
 use Rattle.aql_plan.specs.Variables.{vars_of, vars_set, set_once, are_among, FindsAll}
-use Rattle.aql_plan.specs.laws.Agreement.{agree_self, agree_bind, agree_through}
-use Rattle.aql_plan.specs.laws.Among.{count, count_append, none_in, counted_has}
-use Rattle.aql_plan.specs.laws.FoundMapped.{NodeFinds}
-use Rattle.aql_plan.specs.laws.Idents.{same_self, same_is}
-use Rattle.aql_plan.specs.laws.RenamedPlaces.{number_is_no_result}
-use Rattle.aql_plan.specs.laws.ShapesKept.{KeepsShape, one_is_rows}
+use Rattle.aql_plan_laws.specs.laws.Agreement.{agree_self, agree_bind, agree_through}
+use Rattle.aql_plan_laws.specs.laws.Among.{count, count_append, none_in, counted_has}
+use Rattle.aql_plan_laws.specs.laws.FoundMapped.{NodeFinds}
+use Rattle.aql_plan_laws.specs.laws.Idents.{same_self, same_is}
+use Rattle.aql_plan_laws.specs.laws.RenamedPlaces.{number_is_no_result}
+use Rattle.aql_plan_laws.specs.laws.ShapesKept.{KeepsShape, one_is_rows}
 use Rattle.aql_plan.proofs.SomeRun.{some_run}
 use Rattle.aql_rewrite_plan.specs.declared.swap.Rename.{Rename}
 use Rattle.aql_rewrite_plan.specs.Nodes.{gives_new_rows, is_collect}

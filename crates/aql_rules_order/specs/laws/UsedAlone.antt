@@ -16,10 +16,10 @@ use Rattle.aql_meaning.specs.Uses.{Uses, Agree, maybe_uses, aggregate_uses, into
 use Rattle.aql_meaning.specs.Visible.{aggregate_vars, into_var}
 use Rattle.aql_plan.specs.Fits.{AllKnown}
 use Rattle.aql_plan.specs.Variables.{are_among}
-use Rattle.aql_plan.specs.laws.Agreement.{agree_self, agree_bind, agree_through}
-use Rattle.aql_plan.specs.laws.Among.{count, count_append}
-use Rattle.aql_plan.specs.laws.Idents.{same_is}
-use Rattle.aql_plan.specs.laws.Lists.{chosen}
+use Rattle.aql_plan_laws.specs.laws.Agreement.{agree_self, agree_bind, agree_through}
+use Rattle.aql_plan_laws.specs.laws.Among.{count, count_append}
+use Rattle.aql_plan_laws.specs.laws.Idents.{same_is}
+use Rattle.aql_plan_laws.specs.laws.Lists.{chosen}
 use Rattle.aql_rewrite_plan.specs.Swaps.{is_used}
 use Rattle.aql_rewrite_plan.specs.laws.Among.{has, has_front, has_back, has_either, among_join, among_split}
 use Rattle.aql_rules_filter.specs.laws.Unused.{agree_unused}

@@ -18,10 +18,10 @@ use Rattle.aql_plan.specs.Plan.{Plan, Over, Node, Collect}
 use Rattle.aql_plan.specs.Refines.{RefinesFor}
 use Rattle.aql_plan.specs.Shapes.{HasNoFragment, plain_rows, lowest, other_reading, passing}
 use Rattle.aql_plan.specs.Variables.{vars_of, vars_set}
-use Rattle.aql_plan.specs.laws.Among.{count_append}
-use Rattle.aql_plan.specs.laws.Carried.{all_parts}
-use Rattle.aql_plan.specs.laws.Mapped.{vars_kept, into_kept}
-use Rattle.aql_plan.specs.laws.ShapesKept.{KeepsShape}
+use Rattle.aql_plan_laws.specs.laws.Among.{count_append}
+use Rattle.aql_plan_laws.specs.laws.Carried.{all_parts}
+use Rattle.aql_plan_laws.specs.laws.Mapped.{vars_kept, into_kept}
+use Rattle.aql_plan_laws.specs.laws.ShapesKept.{KeepsShape}
 use Rattle.aql_rewrite_plan.specs.declared.swap.Rename.{Rename}
 use Rattle.aql_rewrite_plan.specs.Places.{Stays, First}
 use Rattle.aql_rewrite_plan.specs.Placed.{IsWhole, Placed, IsPlaced}

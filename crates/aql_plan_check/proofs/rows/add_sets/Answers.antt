@@ -8,7 +8,7 @@ use Rattle.aql_plan.specs.declared.plan.Plan.{Plan}
 use Rattle.aql_plan.specs.Plan.{top}
 use Rattle.aql_plan.specs.Needs.{sets}
 use Rattle.aql_plan.specs.View.{plan_tree}
-use Rattle.aql_plan.specs.laws.Carried.{all_parts}
+use Rattle.aql_plan_laws.specs.laws.Carried.{all_parts}
 use Rattle.aql_plan_check.specs.Rows.{AreNumbers, IsNum}
 use Rattle.aql_plan_check.proofs.rows.add_sets.Goals as goal
 

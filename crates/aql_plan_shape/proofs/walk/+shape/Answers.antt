@@ -3,8 +3,8 @@ use Rattle.std.proofs.Common.{◌≡◌, ◌∙◌, sym, subst, refl, true, true
 use Rattle.aql_plan.specs.Plan.{Plan, top}
 use Rattle.aql_plan.specs.Shapes.{Shape, Rows, Result, Shaped, one_row}
 use Rattle.aql_plan.specs.View.{plan_tree}
-use Rattle.aql_plan.specs.laws.ShapeOnce.{shape_once}
-use Rattle.aql_plan.specs.laws.ShapeOnce as once
+use Rattle.aql_plan_laws.specs.laws.ShapeOnce.{shape_once}
+use Rattle.aql_plan_laws.specs.laws.ShapeOnce as once
 use Rattle.aql_plan_shape.proofs.Shaping.{Tells, none_below, stands_there, tells_over, at_result}
 use Rattle.aql_plan_shape.proofs.walk.+shape.Goals as goal
 

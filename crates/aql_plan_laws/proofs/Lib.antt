@@ -1,0 +1,2 @@
+pub mod MergedOrder
+pub mod FirstAnswers

@@ -1,0 +1,5 @@
+use Rattle.aql_plan_laws.proofs.FirstAnswers.{first_answers}
+use Rattle.aql_plan_laws.proofs.first_plan_answers.Goals as goal
+
+pub returns : goal.returns
+returns c = first_answers
