@@ -2,7 +2,7 @@
 // with the right rows.
 
 use crate::tests::rows::{expect, is_right};
-use crate::{leaves, lists, scans, sorts, streams, subqueries};
+use crate::tests::{leaves, lists, scans, sorts, streams, subqueries};
 
 #[test]
 fn of_start_row(rt: HostRuntime) {
