@@ -7,7 +7,6 @@ mod node_uses;
 mod nodes;
 mod plan;
 mod rules;
-mod uses;
 mod variables;
 pub mod worked;
 
@@ -16,4 +15,3 @@ pub use facts::{CollFact, CollFacts, Facts, IndexFact, IndexFacts, IndexKind, Wi
 pub use node_uses::add_own_uses;
 pub use plan::{Passed, Plan, Plans};
 pub use rules::{RuleName, RuleNames};
-pub use uses::{Use, Uses, add_uses};

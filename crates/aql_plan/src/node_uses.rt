@@ -8,14 +8,14 @@ ghost use Rattle.aql_meaning.specs.View.{end_tree, last_tree};
 ghost use Rattle.aql_meaning.specs.Visible.{aggregate_vars};
 ghost use Rattle.aql_plan.specs.Needs.{end_uses, last_uses, as_wholes, own_uses};
 ghost use Rattle.aql_plan.specs.Plan.{top};
-ghost use Rattle.aql_plan.specs.Used.{uses_tree};
 ghost use Rattle.aql_plan.specs.View.{plan_tree};
+ghost use Rattle.aql_uses.specs.Used.{uses_tree};
 
 use crate::plan::Plan;
-use crate::uses::{Use, Uses, add_all_uses, add_maybe_uses, add_uses};
 use aql_copy::copy_ident;
 use aql_meaning::{Edge, Last, Stage};
 use aql_tree::{AggregateItem, Into, Key, Let};
+use aql_uses::{Use, Uses, add_all_uses, add_maybe_uses, add_uses};
 use aql_value::OutOfMemory;
 use std::alloc::Global;
 

@@ -10,7 +10,6 @@ use aql_value::{CollNo, CollNos, Names, Seq};
 
 /// A plan: a node over its input. It takes the rows of its input and gives rows;
 /// docs/ARCHITECTURE.md says where their meaning stands. Variables are numbers from 1 on.
-#[derive(Drop)]
 pub enum Plan {
     /// The one row that the plan starts from.
     Singleton,
@@ -129,6 +128,102 @@ pub enum Plan {
         below: Box<Plan>,
         order: Keys,
     },
+}
+
+// Written, and not derived: a derived drop is written out in each crate that lets a plan go, at each
+// place, a case for each node.
+impl Drop for Plan {
+    #[cycle(drop)]
+    fn drop(self) {
+        match self {
+            Plan::Singleton
+            | Plan::EnumerateCollection {
+                below: _,
+                var: _,
+                coll: _,
+                filter: _,
+                attrs: _,
+                shard: _,
+            }
+            | Plan::Index {
+                below: _,
+                var: _,
+                coll: _,
+                filter: _,
+                attrs: _,
+                shard: _,
+                index: _,
+                equal: _,
+                last: _,
+                ordered: _,
+            }
+            | Plan::EnumerateList {
+                below: _,
+                var: _,
+                list: _,
+            }
+            | Plan::Traversal {
+                below: _,
+                vertex: _,
+                edge: _,
+                path: _,
+                min: _,
+                max: _,
+                direction: _,
+                start: _,
+                collections: _,
+                prune: _,
+                options: _,
+                filter: _,
+            }
+            | Plan::Calculation {
+                below: _,
+                var: _,
+                expr: _,
+            }
+            | Plan::Subquery {
+                below: _,
+                var: _,
+                body: _,
+            }
+            | Plan::Filter { below: _, cond: _ }
+            | Plan::Sort {
+                below: _,
+                keys: _,
+                limit: _,
+            }
+            | Plan::Limit {
+                below: _,
+                offset: _,
+                count: _,
+            }
+            | Plan::Collect {
+                below: _,
+                groups: _,
+                aggregates: _,
+                into: _,
+                stage: _,
+            }
+            | Plan::Return {
+                below: _,
+                expr: _,
+                distinct: _,
+            }
+            | Plan::NoResults { below: _ }
+            | Plan::Scatter {
+                below: _,
+                coll: _,
+                only: _,
+            }
+            | Plan::Distribute {
+                below: _,
+                coll: _,
+                exprs: _,
+            }
+            | Plan::Remote { below: _ }
+            | Plan::Gather { below: _, order: _ } => {}
+        }
+    }
 }
 
 /// A list of plans.

@@ -7,14 +7,14 @@ ghost use Rattle.aql_meaning.specs.Uses.{used_variable};
 ghost use Rattle.aql_meaning.specs.Visible.{aggregate_vars, into_var};
 ghost use Rattle.aql_plan.specs.Plan.{top};
 ghost use Rattle.aql_plan.specs.Variables.{vars_set, set_once, uses_at, uses_in, vars_used, number_of, numbers};
-ghost use Rattle.aql_plan.specs.Used.{uses_tree};
 ghost use Rattle.aql_plan.specs.View.{plan_tree};
+ghost use Rattle.aql_uses.specs.Used.{uses_tree};
 
 use crate::node_uses::add_own_uses;
 use crate::plan::Plan;
-use crate::uses::{Use, Uses};
 use aql_meaning::Stage;
 use aql_tree::{AggregateItem, Ident, Into, Let};
+use aql_uses::{Use, Uses};
 use aql_value::{OutOfMemory, Seq, Vars};
 use std::alloc::Global;
 

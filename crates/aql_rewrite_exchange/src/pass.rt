@@ -11,11 +11,12 @@ ghost use Rattle.aql_rewrite_plan.specs.Places.{IsPass};
 ghost use Rattle.aql_rewrite_plan.specs.Placed.{IsWhole};
 ghost use Rattle.aql_rewrite_plan.specs.Swaps.{SetsNoMore};
 ghost use Rattle.aql_rewrite_exchange.specs.Settled.{Settled, Settles};
-ghost use Rattle.aql_rewrite_exchange.specs.Settled.{goes_below as spec_goes_below};
+ghost use Rattle.aql_rewrite_kinds.specs.Exchanged.{goes_below as spec_goes_below};
 
-use crate::nodes::{has_body, is_start, replace_below, replace_body, with_below, with_body};
-use crate::rule::ExchangeRule;
 use aql_plan::{Facts, Passed, Plan};
+use aql_rewrite_kinds::{
+    ExchangeRule, has_body, is_start, replace_below, replace_body, with_below, with_body,
+};
 use aql_value::OutOfMemory;
 use std::alloc::Global;
 

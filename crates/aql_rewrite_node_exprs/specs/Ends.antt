@@ -1,20 +1,16 @@
 -- A rule on expressions applied again and again at its first place, until there is none: for the contracts of
 -- private functions alone. Two flags tell whether there was an application before, and whether there is one
 -- by then.
-use Rattle.std.specs.Prelude.{◌≡◌, Bool, true, false, List, None}
+use Rattle.std.specs.Prelude.{◌≡◌, Bool, false, List}
 use Rattle.aql_tree.specs.Tree.{ExprTree}
 use Rattle.aql_meaning.specs.Uses.{Uses}
 use Rattle.aql_plan.specs.Plan.{Plan, top}
 use Rattle.aql_rewrite_expr.specs.FirstPart.{NoneIn, NoneInAll, FirstIn, FirstOf}
 use Rattle.aql_rewrite_plan.specs.NodeExprs.{node_exprs}
 use Rattle.aql_rewrite_plan.specs.NodeViews.{plan_over}
-use Rattle.aql_rewrite_plan.specs.Places.{NoPlace, First}
+use Rattle.aql_rewrite_plan.specs.Places.{NoPlace}
+use Rattle.aql_rewrite_kinds.specs.Steps.{Steps, PlanStep}
 use Rattle.aql_rewrite_node_exprs.specs.AtExprs.{AtExprs}
-
--- steps one after another
-pub data Steps (A : Type 0) (S : A → A → Type 0) : A → A → Bool → Bool → Type 0 where
-  at_once : {a : A} {x : Bool} → Steps A S a a x x
-  next : {a m d : A} {x y : Bool} → Steps A S a m x y → S m d → Steps A S a d x true
 
 module _ (R : ExprTree → ExprTree → Type 0) where
   pub record Ends (e d : ExprTree) (x y : Bool) : Type 0 where
@@ -31,11 +27,7 @@ module _ (R : ExprTree → ExprTree → Type 0) where
   ExprsEnd p c q x y =
       (ds : List ExprTree) × AllEnd (node_exprs (top p)) ds x y × (q ≡ plan_over p c ds)
 
-  -- one application in a plan without fragments
-  abbrev pub PlanStep : Uses → Plan → Plan → Type 0
-  PlanStep us p q = First (AtExprs R) false us p q None
-
   -- the same of a plan, whatever is used above it
   pub record PlanEnds (p q : Plan) (x y : Bool) : Type 0 where
-    pub reached : (us : Uses) → Steps Plan (PlanStep us) p q x y
+    pub reached : (us : Uses) → Steps Plan (PlanStep (AtExprs R) us) p q x y
     pub ended : (us : Uses) → NoPlace (AtExprs R) false us q

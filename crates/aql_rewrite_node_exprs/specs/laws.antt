@@ -10,7 +10,5 @@ pub mod ExprsBack
 pub mod PartsAgain
 pub mod ExprsAgain
 pub mod Rewritten
-pub mod StepByStep
 pub mod Ended
 pub mod PlansEnded
-pub mod PassSteps

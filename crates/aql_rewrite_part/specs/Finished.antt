@@ -3,9 +3,8 @@
 use Rattle.std.specs.Prelude.{Bool, false}
 use Rattle.aql_meaning.specs.Uses.{Uses}
 use Rattle.aql_plan.specs.Plan.{Plan}
-use Rattle.aql_rewrite_node_exprs.specs.Ends.{Steps}
+use Rattle.aql_rewrite_kinds.specs.Steps.{Steps, PlanStep}
 use Rattle.aql_rewrite_plan.specs.Places.{Rewriting, NoPlace}
-use Rattle.aql_rewrite_exchange.specs.Settled.{PlanStep}
 
 -- q is p after such applications, by what is used above; two flags tell whether there was one before, and
 -- whether there is one by then

@@ -1,5 +1,3 @@
-pub mod Sums
 pub mod Finished
 pub mod Removed
-pub mod Changed
 pub mod laws

@@ -1,17 +1,12 @@
--- Rules that take the top node of a part away and let one variable go by another in the nodes above.
-use Rattle.std.specs.Prelude.{◌≡◌, Bool, true, false, List, [], ◌++◌, Option, Some, option_to_list}
+-- A rule that takes nodes away and renames above, applied again and again until it has no place: for the
+-- contracts of private functions alone.
+use Rattle.std.specs.Prelude.{Bool, true, false, List, [], ◌++◌, Option, option_to_list}
 use Rattle.aql_meaning.specs.Uses.{Uses}
-use Rattle.aql_plan.specs.Plan.{Plan, Singleton, Over, top}
+use Rattle.aql_plan.specs.Plan.{Plan, Singleton, Over}
 use Rattle.aql_rewrite_plan.specs.declared.swap.Rename.{Rename}
 use Rattle.aql_rewrite_plan.specs.Places.{Rewriting, First, NoPlace}
 
 module _ (R : Rewriting) where
-  -- the rule puts the input of the top node in the place of p, whatever is used above
-  abbrev pub TakesAway : Plan → Rename → Type 0
-  TakesAway p r = (b : Plan) → p ≡ Over b (top p) → R [] p b (Some r)
-
-  -- ---- for the contracts of private functions alone
-
   -- q is p after applications one after another, each at the first place; the list is what they rename above,
   -- in their order; two flags tell whether there was one before, and whether there is one by then
   pub data Way (us : Uses) : Plan → Plan → List Rename → Bool → Bool → Type 0 where

@@ -1,4 +1,3 @@
-pub mod Falling
 pub mod Finishing
 pub mod StaysPlaced
 pub mod Removing

@@ -1,51 +1,26 @@
 //! The pass of a rule that changes nothing but the top node of a part: the plan from its lowest
 //! node up, each node once. No node is copied, and what the nodes above use is found once.
 
-ghost use Rattle.std.specs.Prelude.{◌≡◌, false, Option, OnOk, IfOk};
-ghost use Rattle.aql_meaning.specs.Uses.{Uses as spec_Uses};
-ghost use Rattle.aql_plan.specs.declared.facts.Facts.{Facts as spec_Facts};
+ghost use Rattle.std.specs.Prelude.{◌≡◌, false, OnOk, IfOk};
 ghost use Rattle.aql_plan.specs.Needs.{under};
-ghost use Rattle.aql_plan.specs.Plan.{Plan as spec_Plan, top};
+ghost use Rattle.aql_plan.specs.Plan.{top};
 ghost use Rattle.aql_plan.specs.Refines.{Refines};
 ghost use Rattle.aql_plan.specs.Shapes.{HasNoFragment};
 ghost use Rattle.aql_plan.specs.View.{plan_tree};
-ghost use Rattle.aql_rewrite_plan.specs.declared.swap.Rename.{Rename as spec_Rename};
 ghost use Rattle.aql_rewrite_plan.specs.Places.{IsPass};
 ghost use Rattle.aql_rewrite_plan.specs.Placed.{IsWhole};
 ghost use Rattle.aql_rewrite_plan.specs.Swaps.{SetsNoMore};
 ghost use Rattle.aql_rewrite_plan.specs.View.{above_uses};
-ghost use Rattle.aql_rewrite_part.specs.Changed.{Changes, IsChanged};
 ghost use Rattle.aql_rewrite_part.specs.Finished.{Finishes};
 
-use aql_plan::{Facts, Passed, Plan, Uses};
-use aql_rewrite_exchange::{
-    has_body, is_start, replace_below, replace_body, with_below, with_body,
+use aql_plan::{Facts, Passed, Plan};
+use aql_rewrite_kinds::{
+    ChangingRule, has_body, is_start, replace_below, replace_body, with_below, with_body,
 };
-use aql_rewrite_plan::{Rule, gives_new_rows, only, result_uses, uses_of};
+use aql_rewrite_plan::{gives_new_rows, only, result_uses, uses_of};
+use aql_uses::Uses;
 use aql_value::OutOfMemory;
 use std::alloc::Global;
-
-/// A rule that changes nothing but the top node of a part, and not what this uses of its input.
-pub trait ChangingRule: Rule {
-    /// Changes the top node of a part; `false` exactly where the rule does not apply there.
-    fn change(
-        &self,
-        alloc: Global,
-        part: &mut Plan,
-        above: &[Uses],
-        facts: &Facts,
-    ) -> Result<bool, OutOfMemory>
-        ensures { IfOk result (IsChanged (Self.rewrites self.now facts.now) (above_uses above.now)
-            (plan_tree part.old) (plan_tree part.new)) };
-
-    /// It is a rule for plans without fragments.
-    ghost lone: { (x : Self) → Self.fragments x ≡ false };
-
-    /// What it makes of a part is this with another top node, to which it does not apply again.
-    ghost changes: { (x : Self) (facts : spec_Facts) (us : spec_Uses) (p q : spec_Plan)
-        (r : Option spec_Rename) → Self.rewrites x facts us p q r
-        → Changes (Self.rewrites x facts) us p q r };
-}
 
 // The part with the rule applied until it has no place.
 #[cycle(settle)]

@@ -4,9 +4,7 @@
 mod changing;
 mod pass;
 mod removing;
-mod rule;
 
-pub use changing::{ChangingRule, run_changing_pass};
+pub use changing::run_changing_pass;
 pub use pass::run_part_pass;
-pub use removing::{RemovingRule, run_removing_pass};
-pub use rule::PartRule;
+pub use removing::run_removing_pass;

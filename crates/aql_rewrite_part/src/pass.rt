@@ -13,10 +13,10 @@ ghost use Rattle.aql_rewrite_plan.specs.Swaps.{SetsNoMore};
 ghost use Rattle.aql_rewrite_plan.specs.View.{above_uses};
 ghost use Rattle.aql_rewrite_part.specs.Finished.{Finishes};
 
-use crate::rule::PartRule;
-use aql_plan::{Facts, Passed, Plan, Uses};
-use aql_rewrite_exchange::{is_start, replace_below, with_below};
+use aql_plan::{Facts, Passed, Plan};
+use aql_rewrite_kinds::{PartRule, is_start, replace_below, with_below};
 use aql_rewrite_plan::{gives_new_rows, only, result_uses, swap_here, uses_of};
+use aql_uses::Uses;
 use aql_value::OutOfMemory;
 use std::alloc::Global;
 

@@ -1,52 +1,24 @@
 //! The pass of a rule that takes nodes away and renames above: the plan from its lowest node up.
 //! Each node is rebuilt once, with all that is renamed below it, before the rule is tried at it.
 
-ghost use Rattle.std.specs.Prelude.{◌≡◌, Bool, false, [], Option, Some, None, IfOk, MatchOption};
-ghost use Rattle.aql_meaning.specs.Uses.{Uses as spec_Uses};
-ghost use Rattle.aql_plan.specs.declared.facts.Facts.{Facts as spec_Facts};
-ghost use Rattle.aql_plan.specs.Nodes.{body_in};
-ghost use Rattle.aql_plan.specs.Plan.{Plan as spec_Plan, Over, top};
+ghost use Rattle.std.specs.Prelude.{◌≡◌, false, [], Some, None, IfOk};
+ghost use Rattle.aql_plan.specs.Plan.{top};
 ghost use Rattle.aql_plan.specs.Refines.{Refines};
 ghost use Rattle.aql_plan.specs.View.{plan_tree};
-ghost use Rattle.aql_rewrite_plan.specs.declared.swap.Rename.{Rename as spec_Rename};
 ghost use Rattle.aql_rewrite_plan.specs.Places.{Stays, IsPass};
 ghost use Rattle.aql_rewrite_plan.specs.Placed.{IsPlaced, IsWhole};
 ghost use Rattle.aql_rewrite_plan.specs.Plain.{NodePlain};
 ghost use Rattle.aql_rewrite_plan.specs.Renames.{over_each};
 ghost use Rattle.aql_rewrite_plan.specs.Swaps.{SetsNoMore};
-ghost use Rattle.aql_rewrite_part.specs.Removed.{TakesAway, Removes, NoPlaceUnder};
+ghost use Rattle.aql_rewrite_part.specs.Removed.{Removes, NoPlaceUnder};
 
 use aql_plan::{Facts, Passed, Plan};
-use aql_rewrite_exchange::{
-    has_body, is_start, replace_below, replace_body, with_below, with_body,
+use aql_rewrite_kinds::{
+    RemovingRule, has_body, is_start, replace_below, replace_body, with_below, with_body,
 };
-use aql_rewrite_plan::{Rename, Rule, over_renamed_by_each};
+use aql_rewrite_plan::{Rename, over_renamed_by_each};
 use aql_value::OutOfMemory;
 use std::alloc::Global;
-
-/// A rule that takes the top node of a part away, and lets one variable go by another in the nodes
-/// above.
-pub trait RemovingRule: Rule {
-    /// What is renamed above where the top node goes; `None` exactly where it stays.
-    fn removed(&self, part: &Plan, facts: &Facts) -> Option<Rename>
-        requires { IsPlaced false false facts.now [] (plan_tree part.now) }
-        ensures { MatchOption result
-            (Stays (Self.rewrites self.now facts.now) [] (plan_tree part.now))
-            (λ r. TakesAway (Self.rewrites self.now facts.now) (plan_tree part.now) r) };
-
-    /// It does not look at what the nodes above use.
-    ghost blind: { (x : Self) (facts : spec_Facts) (us vs : spec_Uses)
-        (p q : spec_Plan) (r : Option spec_Rename) → Self.rewrites x facts us p q r
-        → Self.rewrites x facts vs p q r };
-
-    /// It is a rule for plans without fragments.
-    ghost lone: { (x : Self) → Self.fragments x ≡ false };
-
-    /// What it makes of a part is the input of the top node, which has no body.
-    ghost removes: { (x : Self) (facts : spec_Facts) (us : spec_Uses) (p q : spec_Plan)
-        (r : Option spec_Rename) → Self.rewrites x facts us p q r
-        → (p ≡ Over q (top p)) × (body_in (top p) ≡ None) };
-}
 
 // A node over another input, with renamings one after another in it; where there is none, the node
 // itself.

@@ -4,14 +4,15 @@ ghost use Rattle.std.specs.Prelude.{◌≡◌, ◌++◌, OnOk, IfOk};
 ghost use Rattle.aql_plan.specs.Above.{input_inside as spec_input_inside};
 ghost use Rattle.aql_plan.specs.Needs.{needs, under};
 ghost use Rattle.aql_plan.specs.Plan.{Over, top};
-ghost use Rattle.aql_plan.specs.Used.{uses_tree};
 ghost use Rattle.aql_plan.specs.View.{plan_tree};
+ghost use Rattle.aql_uses.specs.Used.{uses_tree};
 ghost use Rattle.aql_rewrite_plan.specs.Nodes.{uses_alone, gives_new_rows as spec_gives_new_rows};
 ghost use Rattle.aql_rewrite_plan.specs.Nodes.{is_collect as spec_is_collect};
 ghost use Rattle.aql_rewrite_plan.specs.View.{above_uses};
 
 use crate::above::{add_above, only, result_uses};
-use aql_plan::{Plan, Uses, add_own_uses};
+use aql_plan::{Plan, add_own_uses};
+use aql_uses::Uses;
 use aql_value::{OutOfMemory, Seq};
 use std::alloc::Global;
 

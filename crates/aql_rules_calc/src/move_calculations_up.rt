@@ -10,9 +10,10 @@ ghost use Rattle.aql_rules_calc.specs.MoveCalculationsUp.{enumerates as spec_enu
 ghost use Rattle.aql_rules_calc.specs.MoveCalculationsUp.{may_pass as spec_may_pass, none_used};
 
 use crate::needs::node_uses;
-use aql_plan::{Facts, Plan, Uses};
-use aql_rewrite_exchange::ExchangeRule;
+use aql_plan::{Facts, Plan};
+use aql_rewrite_kinds::ExchangeRule;
 use aql_rewrite_plan::{Rule, Swap};
+use aql_uses::Uses;
 use aql_value::OutOfMemory;
 use std::alloc::Global;
 

@@ -8,8 +8,8 @@ ghost use Rattle.aql_meaning.specs.Row.{same_ident};
 ghost use Rattle.aql_meaning.specs.Uses.{Part};
 ghost use Rattle.aql_plan.specs.Facts.{indexes_in};
 ghost use Rattle.aql_plan.specs.Plan.{top};
-ghost use Rattle.aql_plan.specs.Used.{use_tree, uses_tree};
 ghost use Rattle.aql_plan.specs.View.{plan_tree};
+ghost use Rattle.aql_uses.specs.Used.{use_tree, uses_tree};
 ghost use Rattle.aql_rewrite_plan.specs.Places.{Stays};
 ghost use Rattle.aql_rewrite_plan.specs.View.{above_uses};
 ghost use Rattle.aql_rules_calc.specs.Projections.{with_attrs, AreAdded};
@@ -17,10 +17,11 @@ ghost use Rattle.aql_rules_calc.specs.Projections.{read_whole as spec_read_whole
 ghost use Rattle.aql_rules_calc.specs.Projections.{AreKept, order_of as spec_order_of};
 ghost use Rattle.aql_rules_calc.specs.ReduceExtractionToProjection.{with_name, Reduces};
 
-use aql_plan::{Facts, IndexFact, Plan, Use, Uses};
-use aql_rewrite_part::ChangingRule;
+use aql_plan::{Facts, IndexFact, Plan};
+use aql_rewrite_kinds::ChangingRule;
 use aql_rewrite_plan::{Rule, Swap};
 use aql_tree::Ident;
+use aql_uses::{Use, Uses};
 use aql_value::{CollNo, Names, OutOfMemory, Seq, Text};
 use std::alloc::Global;
 use std::cmp::Ordering;

@@ -14,11 +14,12 @@ ghost use Rattle.aql_rules_calc.specs.RemoveRedundantCalculations.{IsNotOf, Calc
 ghost use Rattle.aql_rules_calc.specs.RemoveRedundantCalculations.{IsRedundant, IsNotRedundant};
 
 use crate::needs::gives_new_rows;
-use aql_plan::{Facts, Plan, Uses};
+use aql_plan::{Facts, Plan};
 use aql_rewrite_expr::same_expr;
-use aql_rewrite_part::RemovingRule;
+use aql_rewrite_kinds::RemovingRule;
 use aql_rewrite_plan::{Rename, Rule, Swap};
 use aql_tree::Expr;
+use aql_uses::Uses;
 use aql_value::OutOfMemory;
 use std::alloc::Global;
 

@@ -13,10 +13,11 @@ ghost use Rattle.aql_rules_filter.specs.Readers.{filter_in};
 use crate::readers::{filter_of, open_path, traversal_of, with_filter, without_edge, without_path};
 use crate::swapping::{is_gone, is_unused, test_uses, uses_of};
 use aql_copy::copy_expr;
-use aql_plan::{Facts, Plan, Uses};
-use aql_rewrite_part::PartRule;
+use aql_plan::{Facts, Plan};
+use aql_rewrite_kinds::PartRule;
 use aql_rewrite_plan::{Rule, Swap};
 use aql_tree::Expr;
+use aql_uses::Uses;
 use aql_value::OutOfMemory;
 use std::alloc::Global;
 
@@ -76,7 +77,7 @@ pub struct OptimizeTraversals;
 
 impl Rule for OptimizeTraversals {
     ghost use Rattle.std.specs.Prelude.{false};
-    ghost use Rattle.aql_rewrite_part.specs.Sums.{total};
+    ghost use Rattle.aql_rewrite_kinds.specs.Sums.{total};
     ghost use Rattle.aql_rules_filter.specs.OptimizeTraversals.{parts_to_go};
     ghost use Rattle.aql_rules_filter.specs.laws.TraversalsOptimized.{optimizes_refine, optimizes_keep, optimizes_fall};
 

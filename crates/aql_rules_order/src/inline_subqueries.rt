@@ -17,10 +17,11 @@ ghost use Rattle.aql_rules_order.specs.Readers.{over_variable, over_subquery, ov
 ghost use Rattle.aql_rules_order.specs.Readers.{may_inline as spec_may_inline};
 
 use aql_copy::copy_expr;
-use aql_plan::{Facts, Plan, Uses};
-use aql_rewrite_part::PartRule;
+use aql_plan::{Facts, Plan};
+use aql_rewrite_kinds::PartRule;
 use aql_rewrite_plan::{Rule, Swap, is_used};
 use aql_tree::{Expr, Ident};
+use aql_uses::Uses;
 use aql_value::OutOfMemory;
 use std::alloc::Global;
 

@@ -19,12 +19,9 @@ pub(crate) fn is_open_sort(node: &Plan) -> bool
 pub(crate) fn with_limit(node: Plan, limit: u64) -> Plan
     ensures { plan_tree result ≡ spec_with_limit limit (plan_tree node) }
 {
-    match node {
-        Plan::Sort { below, keys, .. } => Plan::Sort {
-            below,
-            keys,
-            limit: Some(limit),
-        },
-        other => other,
+    let mut node = node;
+    if let Plan::Sort { limit: own, .. } = &mut node {
+        *own = Some(limit);
     }
+    node
 }

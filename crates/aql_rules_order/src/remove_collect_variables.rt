@@ -10,10 +10,11 @@ ghost use Rattle.aql_rewrite_plan.specs.View.{above_uses};
 ghost use Rattle.aql_rules_order.specs.RemoveCollectVariables.{all_used, used_into};
 
 use aql_copy::{copy_ident, copy_into, copy_lets, copy_maybe};
-use aql_plan::{Facts, Plan, Uses};
-use aql_rewrite_part::PartRule;
+use aql_plan::{Facts, Plan};
+use aql_rewrite_kinds::PartRule;
 use aql_rewrite_plan::{Rule, Swap, is_used};
 use aql_tree::{AggregateItem, Aggregates, Ident, Into};
+use aql_uses::Uses;
 use aql_value::{OutOfMemory, Seq};
 use std::alloc::Global;
 
@@ -114,7 +115,7 @@ pub struct RemoveCollectVariables;
 
 impl Rule for RemoveCollectVariables {
     ghost use Rattle.std.specs.Prelude.{false};
-    ghost use Rattle.aql_rewrite_part.specs.Sums.{total};
+    ghost use Rattle.aql_rewrite_kinds.specs.Sums.{total};
     ghost use Rattle.aql_rules_order.specs.RemoveCollectVariables.{Drops, vars_to_go};
     ghost use Rattle.aql_rules_order.specs.laws.VariablesDropped.{drops_refine, drops_keep, drops_fall};
 

@@ -11,11 +11,12 @@ ghost use Rattle.aql_rules_order.specs.RemoveRedundantSorts.{goes_by_row as spec
 ghost use Rattle.aql_rules_order.specs.RemoveRedundantSorts.{ignores_order as spec_ignores_order};
 
 use crate::readers::is_open_sort;
-use aql_plan::{Facts, Plan, Uses};
+use aql_plan::{Facts, Plan};
 use aql_rewrite_expr::is_constant;
-use aql_rewrite_part::PartRule;
+use aql_rewrite_kinds::PartRule;
 use aql_rewrite_plan::{Rule, Swap};
 use aql_tree::Key;
+use aql_uses::Uses;
 use aql_value::OutOfMemory;
 use std::alloc::Global;
 

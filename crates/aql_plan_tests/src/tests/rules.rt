@@ -3,10 +3,11 @@ ghost use Rattle.std.specs.Prelude.{◌≡◌, refl};
 ghost use Rattle.aql_plan_tests.specs.NotFalse.{IsTurned, turned_falls, turned_keeps};
 
 use aql_func::UnaryOp;
-use aql_plan::{Facts, Plan, Uses};
+use aql_plan::{Facts, Plan};
 use aql_rewrite_expr::ExprRule;
 use aql_rewrite_plan::{Rule, Swap};
 use aql_tree::Expr;
+use aql_uses::Uses;
 use aql_value::{OutOfMemory, Value};
 use std::alloc::Global;
 

@@ -1,4 +1,4 @@
--- Nodes that are given another input or another body, as the program holds them.
+-- How the pass goes on at a node whose input or body was taken out.
 use Rattle.std.proofs.Common.{◌≡◌, ◌∙◌, ◌+◌, ◌*◌, ◌<◌, Bool, true, false, true≢false, refl, ap, sym, subst, subst₂, arith}
 use Rattle.std.specs.Prelude.{Option, None}
 use Rattle.aql_tree.specs.declared.syntax.Ident.{Ident}
@@ -9,24 +9,12 @@ use Rattle.aql_plan.specs.Plan.{Plan, Singleton, Over, Node, Subquery, top}
 use Rattle.aql_plan.specs.Shapes.{HasNoFragment, IsNoFragment}
 use Rattle.aql_rewrite_plan.specs.declared.swap.Rename.{Rename}
 use Rattle.aql_rewrite_plan.specs.Places.{Rewriting, First}
-use Rattle.aql_rewrite_node_exprs.specs.Ends.{at_once}
-use Rattle.aql_rewrite_exchange.specs.Settled.{is_start, has_body, goes_below, Swaps, Settled, Settles}
+use Rattle.aql_rewrite_kinds.specs.Apart.{is_start, has_body}
+use Rattle.aql_rewrite_kinds.specs.Steps.{at_once}
+use Rattle.aql_rewrite_kinds.specs.laws.Taken.{Taken, taken, Bodied, lone_input}
+use Rattle.aql_rewrite_kinds.specs.Exchanged.{goes_below, Swaps}
+use Rattle.aql_rewrite_exchange.specs.Settled.{Settled, Settles}
 use Rattle.aql_rewrite_exchange.specs.laws.Settling.{over_settled, stayed, sunk, body_settled}
-
--- ---- parts that were taken out
-
--- b was the input of p, and m is what is left of p without it
-pub record Taken (p m b : Plan) : Type 0 where
-  pub left : m ≡ Over Singleton (top m)
-  pub was : p ≡ Over b (top m)
-
-pub taken : (p m b : Plan) → is_start p ≡ false → m ≡ over p Singleton → p ≡ over p b → Taken p m b
-taken Singleton m b h e f = absurd (true≢false h)
-taken (Over c n) m b h e f =
-    let k : c ≡ b = cc in record {
-      left = e ∙ ap (Over Singleton) (ap top (sym e));
-      was = ap (λ (q : Plan). Over q n) k ∙ ap (Over b) (ap top (sym e));
-    }
 
 pub taken_where : (swaps : Node → Node → Bool) (n : Node) (p m b : Plan) → goes_below swaps p n ≡ true
     → m ≡ over p Singleton → p ≡ over p b → Taken p m b
@@ -35,21 +23,6 @@ taken_where swaps n p m b h e f = taken p m b (by p h) e f
     by : (p : Plan) → goes_below swaps p n ≡ true → is_start p ≡ false
     by Singleton h = absurd (true≢false (sym h))
     by (Over c lower) h = refl
-
--- s was the body of n
-pub record Bodied (n : Node) (s : Plan) : Type 0 where
-  pub var : Ident
-  pub was : n ≡ Subquery var s
-
-pub bodied : (n : Node) (m s : Plan) → has_body n ≡ true → m ≡ Over Singleton n → m ≡ with_body m s
-    → Bodied n s
-bodied (Subquery v r) m s h e f =
-    let k : r ≡ s = by v r s (sym e ∙ f ∙ ap (λ (o : Plan). with_body o s) e) in
-    record { var = v; was = ap (Subquery v) k }
-  where
-    by : (v : Ident) (r s : Plan) → Over Singleton (Subquery v r) ≡ Over Singleton (Subquery v s) → r ≡ s
-    by v r s e = cc
-bodied n m s h e f = absurd (true≢false (sym h))
 
 -- ---- how many nodes
 
@@ -72,15 +45,9 @@ fewer_inside n b s h =
 
 -- ---- without fragments
 
-pub lone_input : (p m b : Plan) → Taken p m b → HasNoFragment p → HasNoFragment b × IsNoFragment (top m)
-lone_input p m b h lone = subst HasNoFragment h.was lone
-
 pub lone_under : (n : Node) (p m b : Plan) → Taken p m b → HasNoFragment (Over p n)
     → HasNoFragment (Over b n)
 lone_under n p m b h lone = ((lone_input p m b h lone.0).0, lone.1)
-
-pub lone_inside : (n : Node) (s : Plan) → Bodied n s → IsNoFragment n → HasNoFragment s
-lone_inside n s h lone = subst IsNoFragment h.was lone
 
 pub settled_input : (swaps : Node → Node → Bool) (p m b : Plan) → Taken p m b → Settled swaps p
     → Settled swaps b

@@ -12,9 +12,11 @@ use Rattle.aql_plan.specs.Shapes.{HasNoFragment, IsNoFragment}
 use Rattle.aql_rewrite_plan.specs.declared.swap.Rename.{Rename}
 use Rattle.aql_rewrite_plan.specs.Places.{Rewriting, Stays, NoPlace, NoPlaceAt, First, below, here, body}
 use Rattle.aql_rewrite_plan.specs.laws.Standing.{outside}
-use Rattle.aql_rewrite_node_exprs.specs.Ends.{Steps, at_once, next}
-use Rattle.aql_rewrite_node_exprs.specs.laws.StepByStep.{joined, along}
-use Rattle.aql_rewrite_exchange.specs.Settled.{has_body, goes_below, Swaps, Settled, SettledIn, PlanStep, Settles}
+use Rattle.aql_rewrite_kinds.specs.Steps.{Steps, at_once, next, PlanStep}
+use Rattle.aql_rewrite_kinds.specs.laws.StepByStep.{joined, along}
+use Rattle.aql_rewrite_kinds.specs.Apart.{has_body}
+use Rattle.aql_rewrite_kinds.specs.Exchanged.{goes_below, Swaps}
+use Rattle.aql_rewrite_exchange.specs.Settled.{Settled, SettledIn, Settles}
 
 module _ (R : Rewriting) (swaps : Node → Node → Bool) where
   abbrev Way : Uses → Plan → Plan → Bool → Bool → Type 0

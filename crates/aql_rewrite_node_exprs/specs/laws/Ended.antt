@@ -9,9 +9,10 @@ use Rattle.aql_rewrite_expr.specs.Size.{size}
 use Rattle.aql_rewrite_expr.specs.View.{each_over}
 use Rattle.aql_rewrite_expr.specs.laws.FirstKept.{first_in_smaller}
 use Rattle.aql_rewrite_expr.specs.laws.PartsBack.{parts_back}
-use Rattle.aql_rewrite_node_exprs.specs.Ends.{Steps, at_once, next, Ends, AllEnd}
+use Rattle.aql_rewrite_kinds.specs.Steps.{Steps, at_once, next}
+use Rattle.aql_rewrite_node_exprs.specs.Ends.{Ends, AllEnd}
 use Rattle.aql_rewrite_node_exprs.specs.laws.PartsAgain.{longer, parts_own, parts_again}
-use Rattle.aql_rewrite_node_exprs.specs.laws.StepByStep.{keeps_on, joined, along}
+use Rattle.aql_rewrite_kinds.specs.laws.StepByStep.{keeps_on, joined, along}
 
 longer_same : (es : List ExprTree) → longer es es ≡ es
 longer_same [] = refl

@@ -15,13 +15,14 @@ use Rattle.aql_rewrite_plan.specs.NodeExprs.{node_exprs, over_exprs}
 use Rattle.aql_rewrite_plan.specs.NodeViews.{plan_over}
 use Rattle.aql_rewrite_plan.specs.Places.{Stays, NoPlace, NoPlaceAt, First, below, here, body}
 use Rattle.aql_rewrite_node_exprs.specs.AtExprs.{AtExprs}
-use Rattle.aql_rewrite_node_exprs.specs.Ends.{Steps, at_once, next, AllEnd, PlanStep, PlanEnds}
+use Rattle.aql_rewrite_kinds.specs.Steps.{Steps, at_once, next, PlanStep}
+use Rattle.aql_rewrite_node_exprs.specs.Ends.{AllEnd, PlanEnds}
 use Rattle.aql_rewrite_node_exprs.specs.laws.Ended.{as_many, each_new, first_longer}
 use Rattle.aql_rewrite_node_exprs.specs.laws.ExprsAgain.{exprs_own, exprs_again}
 use Rattle.aql_rewrite_node_exprs.specs.laws.ExprsBack.{exprs_back}
 use Rattle.aql_rewrite_node_exprs.specs.laws.NoneFirst.{stays_at_node}
 use Rattle.aql_rewrite_node_exprs.specs.laws.SameShape.{still_plain}
-use Rattle.aql_rewrite_node_exprs.specs.laws.StepByStep.{joined, along}
+use Rattle.aql_rewrite_kinds.specs.laws.StepByStep.{joined, along}
 
 -- ---- a part of a plan without fragments
 
@@ -43,15 +44,15 @@ lone_body n s e h = cc
 
 module _ (R : ExprTree → ExprTree → Type 0) where
   abbrev Way : Uses → Plan → Plan → Bool → Bool → Type 0
-  Way us p q x y = Steps Plan (PlanStep R us) p q x y
+  Way us p q x y = Steps Plan (PlanStep (AtExprs R) us) p q x y
 
   abbrev Placeless : Plan → Type 0
   Placeless p = (us : Uses) → NoPlace (AtExprs R) false us p
 
   -- ---- the input of a node
 
-  step_below : (n : Node) (us : Uses) (b c : Plan) → IsNoFragment n → PlanStep R (under n us) b c
-      → PlanStep R us (Over b n) (Over c n)
+  step_below : (n : Node) (us : Uses) (b c : Plan) → IsNoFragment n → PlanStep (AtExprs R) (under n us) b c
+      → PlanStep (AtExprs R) us (Over b n) (Over c n)
   step_below n us b c i h = below (subst (λ (o : Bool). First (AtExprs R) o (under n us) b c None)
       (sym (input_outside n i)) h)
 
@@ -62,13 +63,13 @@ module _ (R : ExprTree → ExprTree → Type 0) where
 
   way_below : (n : Node) (us : Uses) (b c : Plan) (x y : Bool) → IsNoFragment n → Way (under n us) b c x y
       → Way us (Over b n) (Over c n) x y
-  way_below n us b c x y i h = along Plan Plan (PlanStep R (under n us)) (PlanStep R us) (λ p. Over p n)
+  way_below n us b c x y i h = along Plan Plan (PlanStep (AtExprs R) (under n us)) (PlanStep (AtExprs R) us) (λ p. Over p n)
       (λ p q f. step_below n us p q i f) h
 
   -- ---- its expressions
 
   step_here : (n : Node) (us : Uses) (b : Plan) (es : List ExprTree) → IsNoFragment n → Placeless b
-      → FirstOf R (node_exprs n) es → PlanStep R us (Over b n) (Over b (over_exprs n es))
+      → FirstOf R (node_exprs n) es → PlanStep (AtExprs R) us (Over b n) (Over b (over_exprs n es))
   step_here n us b es i m f = here (none_below n us b i m) (es, f, refl)
 
   module _ (n : Node) (cs : List ExprTree) (of : cs ≡ node_exprs n) where
@@ -82,7 +83,7 @@ module _ (R : ExprTree → ExprTree → Type 0) where
         (sym (ap (over_exprs n) of ∙ exprs_own n)) at_once
     way_here us b i m (next {m = ds} {d = es} k f) =
         next (way_here us b i m k)
-        (subst (λ (o : Node). PlanStep R us (Over b (over_exprs n ds)) (Over b o))
+        (subst (λ (o : Node). PlanStep (AtExprs R) us (Over b (over_exprs n ds)) (Over b o))
         (exprs_again n ds es ∙ ap (over_exprs n) (first_longer R f))
         (step_here (over_exprs n ds) us b es (still_plain n ds i) m
         (subst (λ (fs : List ExprTree). FirstOf R fs es) (sym (back k)) f)))
@@ -100,7 +101,7 @@ module _ (R : ExprTree → ExprTree → Type 0) where
       → PlanEnds R (Over b n) (Over c (over_exprs n es)) x z
   over_node n b c es x y z i e h k =
       let m = over_exprs n es in record {
-        reached = λ us. joined Plan (PlanStep R us) (way_below n us b c x y i (h.reached (under n us)))
+        reached = λ us. joined Plan (PlanStep (AtExprs R) us) (way_below n us b c x y i (h.reached (under n us)))
             (way_here n (node_exprs n) refl us c i h.ended k.reached);
         ended = λ us. (
           none_below m us c (still_plain n es i) h.ended,
@@ -118,9 +119,9 @@ module _ (R : ExprTree → ExprTree → Type 0) where
       → PlanEnds R b c x y → PlanEnds R s t y z
       → PlanEnds R (Over b (Subquery v s)) (Over c (Subquery v t)) x z
   over_subquery v b c s t x y z i h k = record {
-    reached = λ us. joined Plan (PlanStep R us)
+    reached = λ us. joined Plan (PlanStep (AtExprs R) us)
         (way_below (Subquery v s) us b c x y i (h.reached (under (Subquery v s) us)))
-        (along Plan Plan (PlanStep R result_uses) (PlanStep R us) (λ p. Over c (Subquery v p))
+        (along Plan Plan (PlanStep (AtExprs R) result_uses) (PlanStep (AtExprs R) us) (λ p. Over c (Subquery v p))
         (λ p q f. body (h.ended (under (Subquery v p) us)) (stays_at_subquery us v c p) f)
         (k.reached result_uses));
     ended = λ us. (h.ended (under (Subquery v t) us), (stays_at_subquery us v c t, k.ended result_uses));

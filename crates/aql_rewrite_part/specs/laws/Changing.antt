@@ -11,11 +11,11 @@ use Rattle.aql_plan.specs.Shapes.{HasNoFragment}
 use Rattle.aql_rewrite_plan.specs.declared.swap.Rename.{Rename}
 use Rattle.aql_rewrite_plan.specs.Places.{renamed_by, Rewriting, Stays, NoPlace, First, below, here, body}
 use Rattle.aql_rewrite_plan.specs.laws.Walk.{none_at, none_over, found_here}
-use Rattle.aql_rewrite_node_exprs.specs.Ends.{Steps, at_once, next}
-use Rattle.aql_rewrite_node_exprs.specs.laws.StepByStep.{joined}
-use Rattle.aql_rewrite_exchange.specs.Settled.{has_body, PlanStep}
-use Rattle.aql_rewrite_exchange.specs.laws.Forms.{Taken, Bodied}
-use Rattle.aql_rewrite_part.specs.Changed.{Changes}
+use Rattle.aql_rewrite_kinds.specs.Steps.{Steps, at_once, next, PlanStep}
+use Rattle.aql_rewrite_kinds.specs.laws.StepByStep.{joined}
+use Rattle.aql_rewrite_kinds.specs.Apart.{has_body}
+use Rattle.aql_rewrite_kinds.specs.laws.Taken.{Taken, Bodied}
+use Rattle.aql_rewrite_kinds.specs.Changed.{Changes}
 use Rattle.aql_rewrite_part.specs.Finished.{Finishes}
 use Rattle.aql_rewrite_part.specs.laws.Finishing.{first_nameless, input_reached, input_ended, stayed_finishes}
 

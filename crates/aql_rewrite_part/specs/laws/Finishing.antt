@@ -13,11 +13,11 @@ use Rattle.aql_rewrite_plan.specs.Places.{renamed_by, Rewriting, Stays, NoPlace,
 use Rattle.aql_rewrite_plan.specs.Walks.{NoPlaceBelow, NoPlaceHere, FirstHere}
 use Rattle.aql_rewrite_plan.specs.laws.Standing.{outside}
 use Rattle.aql_rewrite_plan.specs.laws.Walk.{none_over}
-use Rattle.aql_rewrite_node_exprs.specs.Ends.{Steps, at_once, next}
-use Rattle.aql_rewrite_node_exprs.specs.laws.StepByStep.{joined, along}
-use Rattle.aql_rewrite_exchange.specs.Settled.{is_start, PlanStep}
-use Rattle.aql_rewrite_exchange.specs.laws.Forms.{Taken}
-use Rattle.aql_rewrite_part.specs.Sums.{total}
+use Rattle.aql_rewrite_kinds.specs.Steps.{Steps, at_once, next, PlanStep}
+use Rattle.aql_rewrite_kinds.specs.laws.StepByStep.{joined, along}
+use Rattle.aql_rewrite_kinds.specs.Apart.{is_start}
+use Rattle.aql_rewrite_kinds.specs.laws.Taken.{Taken}
+use Rattle.aql_rewrite_kinds.specs.Sums.{total}
 use Rattle.aql_rewrite_part.specs.Finished.{Finishes}
 
 -- how many nodes there are, and what they count

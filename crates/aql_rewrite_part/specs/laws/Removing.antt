@@ -20,10 +20,11 @@ use Rattle.aql_rewrite_plan.specs.laws.Standing.{outside}
 use Rattle.aql_rewrite_plan.specs.laws.Steps.{Refining, Keeping, part_kept, some_step, refines_through_answers, sets_self, sets_through}
 use Rattle.aql_rewrite_plan.specs.laws.Walk.{none_at, weight_below}
 use Rattle.aql_rewrite_plan.specs.laws.Weights.{renamed_weight}
-use Rattle.aql_rewrite_exchange.specs.Settled.{is_start, has_body}
-use Rattle.aql_rewrite_exchange.specs.laws.Forms.{Taken}
-use Rattle.aql_rewrite_node_exprs.specs.laws.PassSteps.{Sound}
-use Rattle.aql_rewrite_part.specs.Removed.{TakesAway, Way, at_once, next, Removes, NoPlaceUnder}
+use Rattle.aql_rewrite_kinds.specs.Apart.{is_start, has_body}
+use Rattle.aql_rewrite_kinds.specs.laws.Taken.{Taken}
+use Rattle.aql_rewrite_kinds.specs.laws.PassSteps.{Sound}
+use Rattle.aql_rewrite_kinds.specs.Removed.{TakesAway}
+use Rattle.aql_rewrite_part.specs.Removed.{Way, at_once, next, Removes, NoPlaceUnder}
 use Rattle.aql_rewrite_part.specs.laws.Finishing.{no_place_seen, first_seen}
 use Rattle.aql_rewrite_part.specs.laws.StaysPlaced.{placed_kept}
 

@@ -19,8 +19,7 @@ use Rattle.aql_rewrite_plan.specs.laws.Among.{has, has_front, has_back, has_eith
 use Rattle.aql_rewrite_plan.specs.laws.Standing.{outside}
 use Rattle.aql_rewrite_plan.specs.laws.Walk.{placed_below}
 use Rattle.aql_rewrite_plan.specs.laws.Steps.{Refining, Keeping, part_kept}
-use Rattle.aql_rewrite_node_exprs.specs.Ends.{Steps, at_once, next}
-use Rattle.aql_rewrite_exchange.specs.Settled.{PlanStep}
+use Rattle.aql_rewrite_kinds.specs.Steps.{Steps, at_once, next, PlanStep}
 
 used_kept : (us : Uses) (away xs ys : List Ident) → Kept None us xs ys → are_among us (away ++ xs) ≡ true
     → are_among us (away ++ ys) ≡ true

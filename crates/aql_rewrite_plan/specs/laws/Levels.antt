@@ -6,8 +6,8 @@ use Rattle.std.proofs.lemmas.List.Folds.{list_any-append}
 use Rattle.aql_tree.specs.declared.syntax.Ident.{Ident}
 use Rattle.aql_meaning.specs.Row.{same_ident}
 use Rattle.aql_meaning.specs.Uses.{Uses, used_variable}
-use Rattle.aql_plan.specs.declared.uses.Use.{Use}
-use Rattle.aql_plan.specs.Used.{uses_tree}
+use Rattle.aql_uses.specs.declared.uses.Use.{Use}
+use Rattle.aql_uses.specs.Used.{uses_tree}
 use Rattle.aql_rewrite_plan.specs.Swaps.{is_used}
 use Rattle.aql_rewrite_plan.specs.View.{above_uses}
 

@@ -9,8 +9,8 @@ use Rattle.aql_plan.specs.Nodes.{body_in, with_body, weight, weight_in}
 use Rattle.aql_plan.specs.Needs.{own_uses, under, needs, result_uses}
 use Rattle.aql_plan.specs.Above.{input_inside}
 use Rattle.aql_plan.specs.Variables.{vars_of, set_once}
-use Rattle.aql_plan.specs.declared.uses.Use.{Use}
-use Rattle.aql_plan.specs.Used.{uses_tree}
+use Rattle.aql_uses.specs.declared.uses.Use.{Use}
+use Rattle.aql_uses.specs.Used.{uses_tree}
 use Rattle.aql_rewrite_plan.specs.declared.swap.Rename.{Rename}
 use Rattle.aql_rewrite_plan.specs.Nodes.{uses_alone, gives_new_rows, is_collect, over_renamed}
 use Rattle.aql_rewrite_plan.specs.Places.{Rewriting, Stays, NoPlace, NoPlaceAt, First, below, here, body}

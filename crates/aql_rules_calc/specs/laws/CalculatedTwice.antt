@@ -34,7 +34,7 @@ use Rattle.aql_rewrite_plan.specs.laws.Carried.{Lowers, first_lowers}
 use Rattle.aql_rewrite_plan.specs.laws.PlacedBelow.{placed_below, whole_placed}
 use Rattle.aql_rewrite_plan.specs.laws.Standing.{outside}
 use Rattle.aql_rewrite_plan.specs.laws.Weights.{weight_lifts}
-use Rattle.aql_rewrite_part.specs.Removed.{TakesAway}
+use Rattle.aql_rewrite_kinds.specs.Removed.{TakesAway}
 use Rattle.aql_rules_calc.specs.RemoveRedundantCalculations.{IsNotOf, Calculates, here, further, renaming, Redundant, calculated_twice, IsRedundant, IsNotRedundant}
 use Rattle.aql_rules_calc.specs.Readers.{calculation_in}
 use Rattle.aql_rules_calc.specs.laws.Apart.{vars_counted, counts_itself, no_result, set_nowhere, not_there}

@@ -46,7 +46,7 @@ use Rattle.aql_rules_calc.specs.Projections.{AreAdded, AreKept, order_of, where_
 use Rattle.aql_rules_calc.specs.ReduceExtractionToProjection.{is_whole, used_whole, with_name, with_use, names_used, order_uses, keeping, Reduces, enumeration, by_index, reads_whole, whole_readers, readers_in}
 use Rattle.aql_rules_calc.specs.laws.Unused.{neither}
 use Rattle.aql_rules_calc.specs.laws.Attributes.{named_first}
-use Rattle.aql_rewrite_part.specs.Changed.{Changes}
+use Rattle.aql_rewrite_kinds.specs.Changed.{Changes}
 
 -- ---- each name that is used is kept
 

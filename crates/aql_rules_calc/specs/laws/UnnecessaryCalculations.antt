@@ -30,7 +30,7 @@ use Rattle.aql_rewrite_plan.specs.laws.Weights.{weight_lifts}
 use Rattle.aql_rules_calc.specs.Readers.{value_var}
 use Rattle.aql_rules_calc.specs.RemoveUnnecessaryCalculations.{Removes, calculation, with_subquery}
 use Rattle.aql_rules_calc.specs.laws.Unused.{agree_unused, one_gone}
-use Rattle.aql_rewrite_part.specs.Sums.{total}
+use Rattle.aql_rewrite_kinds.specs.Sums.{total}
 
 -- ---- the lists are the same in what is used
 

@@ -30,14 +30,14 @@ use Rattle.aql_rules_filter.specs.Conditions.{joined}
 use Rattle.aql_rules_filter.specs.Measures.{filters, is_filter}
 use Rattle.aql_rules_filter.specs.MoveFiltersIntoEnumerate.{filtered_by, with_condition, MovesIn, into_enumerate, into_index}
 use Rattle.aql_rules_filter.specs.Readers.{filter_in, where_all_kept, own_filter, node_filtered, plan_filtered}
-use Rattle.aql_rewrite_part.specs.laws.Falling.{total_falls}
+use Rattle.aql_rewrite_kinds.specs.laws.Falling.{total_falls}
 use Rattle.aql_rules_filter.specs.laws.Filtered.{holds, filtered, filter_same, filter_twice}
 use Rattle.aql_rules_filter.specs.laws.Filters.{filter_shaped, same_filters}
 use Rattle.aql_rules_filter.specs.laws.Flat.{each_flat, filter_map, filter_flat, flat_same}
 use Rattle.aql_rules_filter.specs.laws.Joined.{joined_holds, joined_plain, joined_found}
 use Rattle.aql_rules_filter.specs.laws.Permuted.{filter_of}
 use Rattle.aql_plan.specs.Nodes.{weight}
-use Rattle.aql_rewrite_part.specs.Sums.{total}
+use Rattle.aql_rewrite_kinds.specs.Sums.{total}
 
 -- ---- rows
 

@@ -21,11 +21,11 @@ use Rattle.aql_rewrite_plan.specs.Swaps.{Replaced, KeepsPlaced}
 use Rattle.aql_rules_filter.specs.Conditions.{literal_in}
 use Rattle.aql_rules_filter.specs.Measures.{filters, is_filter}
 use Rattle.aql_rules_filter.specs.RemoveUnnecessaryFilters.{Removes, passing, failing}
-use Rattle.aql_rewrite_part.specs.laws.Falling.{total_falls}
+use Rattle.aql_rewrite_kinds.specs.laws.Falling.{total_falls}
 use Rattle.aql_rules_filter.specs.laws.Filtered.{holds, filtered, all_pass, none_pass}
 use Rattle.aql_rules_filter.specs.laws.Filters.{filter_shaped, same_filters}
 use Rattle.aql_plan.specs.Nodes.{weight}
-use Rattle.aql_rewrite_part.specs.Sums.{total}
+use Rattle.aql_rewrite_kinds.specs.Sums.{total}
 
 pub removes_refine : (facts : Facts) (us : Uses) (p q : Plan) (r : Option Rename) → Removes us p q r
     → Replaced false facts us p q r

@@ -26,8 +26,8 @@ use Rattle.aql_rewrite_plan.specs.declared.swap.Rename.{Rename}
 use Rattle.aql_rewrite_plan.specs.Places.{Stays, First}
 use Rattle.aql_rewrite_plan.specs.Placed.{IsWhole, Placed, IsPlaced}
 use Rattle.aql_rewrite_plan.specs.Swaps.{Replaced, KeepsPlaced}
-use Rattle.aql_rewrite_part.specs.Sums.{total}
-use Rattle.aql_rewrite_part.specs.laws.Falling.{total_falls}
+use Rattle.aql_rewrite_kinds.specs.Sums.{total}
+use Rattle.aql_rewrite_kinds.specs.laws.Falling.{total_falls}
 use Rattle.aql_rules_order.specs.Readers.{is_open_sort, with_limit}
 use Rattle.aql_rules_order.specs.SortLimit.{sets_value, Limited, here, below, Limits, limited, is_unlimited}
 use Rattle.aql_rules_order.specs.laws.Spine.{takes_rows, made, run_of, SameFrame, frame_over, frame_kept}

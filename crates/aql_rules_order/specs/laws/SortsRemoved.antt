@@ -36,7 +36,7 @@ use Rattle.aql_rules_order.specs.RemoveRedundantSorts.{IsIdle, goes_by_row, igno
 use Rattle.aql_rules_order.specs.laws.Permuted.{unkeyed}
 use Rattle.aql_rules_order.specs.laws.RowsPermuted.{row_by_row, order_free}
 use Rattle.aql_rules_order.specs.laws.Spine.{takes_rows, made, run_of, SameFrame, frame_over, frame_kept}
-use Rattle.aql_rewrite_part.specs.Sums.{total}
+use Rattle.aql_rewrite_kinds.specs.Sums.{total}
 
 -- ---- constant keys leave the order open
 

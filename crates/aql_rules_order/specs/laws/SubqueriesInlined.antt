@@ -38,7 +38,7 @@ use Rattle.aql_rewrite_plan.specs.laws.Among.{has, has_front, has_back, has_eith
 use Rattle.aql_rewrite_plan.specs.laws.Carried.{Lowers, first_lowers}
 use Rattle.aql_rewrite_plan.specs.laws.PlacedBelow.{whole_placed}
 use Rattle.aql_rewrite_plan.specs.laws.Weights.{weight_lifts}
-use Rattle.aql_rewrite_part.specs.Sums.{total}
+use Rattle.aql_rewrite_kinds.specs.Sums.{total}
 use Rattle.aql_rules_calc.specs.laws.Apart.{vars_counted, counts_itself}
 use Rattle.aql_rules_calc.specs.laws.RowsHold.{Leaves, over_holds}
 use Rattle.aql_rules_calc.specs.laws.Unused.{agree_unused, unused_from, used_other}

@@ -27,8 +27,8 @@ use Rattle.aql_rewrite_plan.specs.Places.{Stays, First}
 use Rattle.aql_rewrite_plan.specs.Placed.{IsWhole, Placed, IsPlaced}
 use Rattle.aql_rewrite_plan.specs.Swaps.{is_used, Replaced, KeepsPlaced}
 use Rattle.aql_rewrite_plan.specs.laws.Among.{has_front, has_back, has_either, among_join, among_split}
-use Rattle.aql_rewrite_part.specs.Sums.{total}
-use Rattle.aql_rewrite_part.specs.laws.Falling.{total_falls}
+use Rattle.aql_rewrite_kinds.specs.Sums.{total}
+use Rattle.aql_rewrite_kinds.specs.laws.Falling.{total_falls}
 use Rattle.aql_rules_order.specs.RemoveCollectVariables.{used_aggregates, used_into, own_vars, all_used, Drops, unused_go, vars_to_go}
 use Rattle.aql_rules_order.specs.laws.Members.{by_rows, as_defined}
 use Rattle.aql_rules_order.specs.laws.UsedAlone.{groups_agree, aggregates_among, into_among, still_known, still_plain, own_there, own_fewer, fewer_own}

@@ -4,9 +4,10 @@ use Rattle.std.proofs.lemmas.Result.{IfOk-weaker}
 use Rattle.aql_plan.specs.Nodes.{weight}
 use Rattle.aql_plan.specs.Plan.{Over, top}
 use Rattle.aql_plan.specs.View.{plan_tree}
-use Rattle.aql_rewrite_exchange.specs.laws.Forms.{taken, taken_where, bodied}
+use Rattle.aql_rewrite_kinds.specs.laws.Taken.{taken, bodied, lone_input, lone_inside}
+use Rattle.aql_rewrite_exchange.specs.laws.Forms.{taken_where}
 use Rattle.aql_rewrite_exchange.specs.laws.Forms.{fewer_below, as_many, fewer_under, fewer_inside}
-use Rattle.aql_rewrite_exchange.specs.laws.Forms.{lone_input, lone_under, lone_inside, settled_input}
+use Rattle.aql_rewrite_exchange.specs.laws.Forms.{lone_under, settled_input}
 use Rattle.aql_rewrite_exchange.specs.laws.Forms.{start_settled, plan_settled, node_stayed, node_sunk, node_bodied}
 use Rattle.aql_rewrite_exchange.proofs.pass.+settle.Goals as goal
 

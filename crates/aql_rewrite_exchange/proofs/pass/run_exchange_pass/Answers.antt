@@ -2,7 +2,7 @@
 use Rattle.std.proofs.Common.{false, refl}
 use Rattle.aql_plan.specs.Needs.{result_uses}
 use Rattle.aql_plan.specs.View.{plan_tree}
-use Rattle.aql_rewrite_node_exprs.specs.laws.PassSteps.{is_pass, pass_sound}
+use Rattle.aql_rewrite_kinds.specs.laws.PassSteps.{is_pass, pass_sound}
 use Rattle.aql_rewrite_exchange.specs.laws.Settling.{no_place}
 use Rattle.aql_rewrite_exchange.proofs.pass.run_exchange_pass.Goals as goal
 

@@ -3,7 +3,7 @@ use Rattle.std.proofs.Common.{false, refl}
 use Rattle.aql_plan.specs.Needs.{result_uses}
 use Rattle.aql_plan.specs.View.{plan_tree}
 use Rattle.aql_rewrite_node_exprs.specs.AtExprs.{AtExprs}
-use Rattle.aql_rewrite_node_exprs.specs.laws.PassSteps.{is_pass, pass_sound}
+use Rattle.aql_rewrite_kinds.specs.laws.PassSteps.{is_pass, pass_sound}
 use Rattle.aql_rewrite_node_exprs.specs.laws.Rewritten.{at_top_refines, at_top_keeps}
 use Rattle.aql_rewrite_node_exprs.proofs.pass.run_expr_pass.Goals as goal
 

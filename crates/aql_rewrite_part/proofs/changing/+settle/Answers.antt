@@ -7,8 +7,8 @@ use Rattle.aql_plan.specs.Plan.{top}
 use Rattle.aql_plan.specs.View.{plan_tree}
 use Rattle.aql_rewrite_plan.specs.View.{above_uses}
 use Rattle.aql_rewrite_plan.specs.laws.Walk.{above_new, above_old}
-use Rattle.aql_rewrite_exchange.specs.laws.Forms.{taken, bodied, lone_input, lone_inside}
-use Rattle.aql_rewrite_part.specs.Changed.{IsChanged}
+use Rattle.aql_rewrite_kinds.specs.laws.Taken.{taken, bodied, lone_input, lone_inside}
+use Rattle.aql_rewrite_kinds.specs.Changed.{IsChanged}
 use Rattle.aql_rewrite_part.specs.Finished.{Finishes}
 use Rattle.aql_rewrite_part.specs.laws.Finishing.{start_finishes}
 use Rattle.aql_rewrite_part.specs.laws.Changing.{twice_below, twice_inside, changed_finishes, bare_finishes}

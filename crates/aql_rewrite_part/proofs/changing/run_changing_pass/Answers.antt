@@ -2,7 +2,7 @@
 use Rattle.std.proofs.Common.{false, refl, subst}
 use Rattle.aql_meaning.specs.Uses.{Uses}
 use Rattle.aql_plan.specs.View.{plan_tree}
-use Rattle.aql_rewrite_node_exprs.specs.laws.PassSteps.{is_pass, pass_sound}
+use Rattle.aql_rewrite_kinds.specs.laws.PassSteps.{is_pass, pass_sound}
 use Rattle.aql_rewrite_part.specs.Finished.{Finishes}
 use Rattle.aql_rewrite_part.proofs.changing.run_changing_pass.Goals as goal
 

@@ -10,7 +10,7 @@ use Rattle.aql_rewrite_plan.specs.Placed.{IsPlaced}
 use Rattle.aql_rewrite_plan.specs.View.{above_uses}
 use Rattle.aql_rewrite_plan.specs.Walks.{NoPlaceHere, FirstHere}
 use Rattle.aql_rewrite_plan.specs.laws.Walk.{above_new, above_old}
-use Rattle.aql_rewrite_exchange.specs.laws.Forms.{taken}
+use Rattle.aql_rewrite_kinds.specs.laws.Taken.{taken}
 use Rattle.aql_rewrite_part.specs.Finished.{Finishes}
 use Rattle.aql_rewrite_part.specs.laws.Finishing.{work, work_below, start_finishes, input_reached}
 use Rattle.aql_rewrite_part.specs.laws.Finishing.{stayed_finishes, then_stepped, then_lower, then_finishes}

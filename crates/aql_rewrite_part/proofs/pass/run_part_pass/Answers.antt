@@ -4,7 +4,7 @@ use Rattle.aql_meaning.specs.Uses.{Uses}
 use Rattle.aql_plan.specs.View.{plan_tree}
 use Rattle.aql_rewrite_plan.specs.View.{above_uses}
 use Rattle.aql_rewrite_plan.specs.laws.Walk.{placed_whole}
-use Rattle.aql_rewrite_node_exprs.specs.laws.PassSteps.{is_pass, pass_sound}
+use Rattle.aql_rewrite_kinds.specs.laws.PassSteps.{is_pass, pass_sound}
 use Rattle.aql_rewrite_part.specs.Finished.{Finishes}
 use Rattle.aql_rewrite_part.proofs.pass.run_part_pass.Goals as goal
 

@@ -11,7 +11,7 @@ use Rattle.aql_rewrite_plan.specs.Plain.{NodePlain}
 use Rattle.aql_rewrite_plan.specs.Renames.{over_each}
 use Rattle.aql_rewrite_plan.specs.laws.RenamedPlans.{placed_plain}
 use Rattle.aql_rewrite_plan.specs.laws.Walk.{placed_inside}
-use Rattle.aql_rewrite_exchange.specs.laws.Forms.{taken, Taken}
+use Rattle.aql_rewrite_kinds.specs.laws.Taken.{taken, Taken}
 use Rattle.aql_rewrite_part.specs.Removed.{Removes}
 use Rattle.aql_rewrite_part.specs.laws.Removing.{body_of, body_within, way_weight, start_removes, input_reached}
 use Rattle.aql_rewrite_part.specs.laws.Removing.{input_ended, then_inside, then_gone, bare_removes, body_removes}

@@ -1,8 +1,8 @@
 use Rattle.std.proofs.Common.{◌≡◌, ◌++◌, map, drop}
 use Rattle.aql_tree.specs.View.{tree, trees, members, member_part, steps, step_part, links, link_part}
 use Rattle.aql_meaning.specs.Uses.{all_uses, member_uses, step_uses, link_uses}
-use Rattle.aql_plan.specs.Used.{uses_tree}
-use Rattle.aql_plan.proofs.uses.+uses.Given as goal
+use Rattle.aql_uses.specs.Used.{uses_tree}
+use Rattle.aql_uses.proofs.uses.+uses.Given as goal
 
 abbrev pub invariant-add_all_uses-loop-expr : goal.invariant-add_all_uses-loop-expr
 invariant-add_all_uses-loop-expr l =

@@ -7,7 +7,7 @@ use Rattle.aql_tree.specs.declared.syntax.Expr.{Expr, the_lemmas}
 use Rattle.aql_tree.specs.declared.syntax.Expr as code
 use Rattle.aql_tree.specs.View.{tree, maybe, steps, step_part}
 use Rattle.aql_meaning.specs.Uses.{Use, uses, step_uses}
-use Rattle.aql_plan.specs.Used.{attribute_used}
+use Rattle.aql_uses.specs.Used.{attribute_used}
 
 pub used_whole : (e : ExprTree) (ss : StepTrees) → attribute_used e ss ≡ None
     → uses (access e ss) ≡ uses e ++ step_uses ss

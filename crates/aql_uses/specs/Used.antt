@@ -2,8 +2,8 @@
 use Rattle.std.specs.Prelude.{List, map, Option, Some, None}
 use Rattle.aql_tree.specs.Tree.{ExprTree, variable, StepTrees, name_then}
 use Rattle.aql_meaning.specs.Uses as uses
-use Rattle.aql_plan.specs.declared.uses.Use.{Use}
-use Rattle.aql_plan.specs.declared.uses.Use.TheVariants as code
+use Rattle.aql_uses.specs.declared.uses.Use.{Use}
+use Rattle.aql_uses.specs.declared.uses.Use.TheVariants as code
 
 abbrev pub use_tree : Use → uses.Use
 use_tree (code.Whole x) = uses.Whole x

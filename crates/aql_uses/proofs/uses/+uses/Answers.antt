@@ -5,11 +5,11 @@ use Rattle.std.proofs.lemmas.Result.{on_ok_weaker}
 use Rattle.aql_tree.specs.Tree.{access}
 use Rattle.aql_tree.specs.View.{tree, maybe, steps, step_part}
 use Rattle.aql_meaning.specs.Uses.{uses, maybe_uses, step_uses}
-use Rattle.aql_plan.specs.Used.{use_tree, uses_tree, attribute_used}
-use Rattle.aql_plan.proofs.AccessUses.{used_whole, used_part, access_form, ternary_form, three_appended}
-use Rattle.aql_plan.proofs.uses.+uses.Goals as goal
-use Rattle.aql_plan.proofs.uses.+uses.Goals.{add_uses-in-Some+in_ok-push-in-Some, add_uses-in-None+in_ok-add_uses-in-None}
-use Rattle.aql_plan.proofs.uses.+uses.Goals.{add_uses-in-Some-yes+in_ok-add_uses-in-Some-yes, add_uses-in-None-yes}
+use Rattle.aql_uses.specs.Used.{use_tree, uses_tree, attribute_used}
+use Rattle.aql_uses.proofs.AccessUses.{used_whole, used_part, access_form, ternary_form, three_appended}
+use Rattle.aql_uses.proofs.uses.+uses.Goals as goal
+use Rattle.aql_uses.proofs.uses.+uses.Goals.{add_uses-in-Some+in_ok-push-in-Some, add_uses-in-None+in_ok-add_uses-in-None}
+use Rattle.aql_uses.proofs.uses.+uses.Goals.{add_uses-in-Some-yes+in_ok-add_uses-in-Some-yes, add_uses-in-None-yes}
 
 pub add_uses-returns-after-branch-3 : goal.add_uses-returns-after-branch-3
 add_uses-returns-after-branch-3 t c =

@@ -3,7 +3,7 @@
 ghost use Rattle.std.specs.Prelude.{◌≡◌, ◌++◌, OnOk, IfOk, map, option_map};
 ghost use Rattle.aql_tree.specs.View.{tree, trees, maybe, members, member_part, steps, step_part, links, link_part};
 ghost use Rattle.aql_meaning.specs.Uses.{used_variable, uses, all_uses, maybe_uses, member_uses, step_uses, link_uses};
-ghost use Rattle.aql_plan.specs.Used.{use_tree, uses_tree, attribute_used};
+ghost use Rattle.aql_uses.specs.Used.{use_tree, uses_tree, attribute_used};
 
 use aql_copy::copy_ident;
 use aql_tree::{Expr, Field, Ident, Link, Step};
@@ -11,12 +11,19 @@ use aql_value::{OutOfMemory, Seq, Text};
 use std::alloc::Global;
 
 /// What is used of a variable.
-#[derive(Drop)]
 pub enum Use {
     /// All of it.
     Whole(Ident),
     /// Its attribute of a name alone.
     Part(Ident, Text),
+}
+
+impl Drop for Use {
+    fn drop(self) {
+        match self {
+            Use::Whole(_) | Use::Part(_, _) => {}
+        }
+    }
 }
 
 /// A list of uses.

@@ -4,7 +4,7 @@ ghost use Rattle.std.specs.Prelude.{◌≡◌};
 ghost use Rattle.aql_plan.specs.Nodes.{over, with_body as spec_with_body};
 ghost use Rattle.aql_plan.specs.Plan.{top};
 ghost use Rattle.aql_plan.specs.View.{plan_tree};
-ghost use Rattle.aql_rewrite_exchange.specs.Settled.{is_start as spec_is_start, has_body as spec_has_body};
+ghost use Rattle.aql_rewrite_kinds.specs.Apart.{is_start as spec_is_start, has_body as spec_has_body};
 
 use aql_plan::Plan;
 use std::mem;
