@@ -1,6 +1,6 @@
 //! The faults of single names, calls and settings.
 
-ghost use Rattle.std.specs.Prelude.{◌≡◌, option_map};
+ghost use Rattle.std.specs.Prelude.{◌≡◌, [], option_map};
 ghost use Rattle.aql_func.specs.Names.{function_named};
 ghost use Rattle.aql_func.specs.Aggregates.{aggregate_named};
 ghost use Rattle.aql_aggregate.specs.View.{aggregate_of};
@@ -33,6 +33,14 @@ pub fn new_name(ident: &Ident, at: &At<'_>, earlier: &NameList) -> Judged
         return Err(ScopeFault::Redeclared { name });
     }
     Ok(())
+}
+
+/// A variable that is declared alone in its clause.
+pub fn new_alone(ident: &Ident, at: &At<'_>) -> Judged
+    ensures { Judges result
+        (spec.new_name (spec.visible_variables (place at.now)) [] ident.now) }
+{
+    new_name(ident, at, &NameList::new(at.alloc))
 }
 
 /// A variable in an expression.

@@ -1,6 +1,7 @@
-use Rattle.std.proofs.Common.{◌≡◌, [], map, drop}
+use Rattle.std.proofs.Common.{◌≡◌, map, drop}
 use Rattle.aql_tree.specs.View.{tree, trees, members, steps, links, aggregates, clauses, clause_tree}
 use Rattle.aql_tree.specs.View.{member_part, step_part, link_part, key_part, let_part, aggregate_part}
+use Rattle.aql_meaning.specs.Visible.{onto, aggregate_vars}
 use Rattle.aql_lift.specs.Numbering.{idents}
 use Rattle.aql_scope.specs.Options.{no_settings}
 use Rattle.aql_scope.specs.Faults as spec
@@ -46,17 +47,20 @@ invariant-clause_faults::in_keys-loop-key l =
 abbrev pub invariant-clause_faults::in_criteria-loop-group
     : goal.invariant-clause_faults::in_criteria-loop-group
 invariant-clause_faults::in_criteria-loop-group l =
+    let all = map let_part l.groups in
     let rest = map let_part (drop l.group-index l.groups) in
-    spec.in_criteria (place l.at) [] (map (λ p. p.0) (map let_part l.groups))
-    (trees (map (λ p. p.1) (map let_part l.groups)))
-    ≡ spec.in_criteria (place l.at) (idents l.entered) (map (λ p. p.0) rest) (trees (map (λ p. p.1) rest))
+    (spec.in_criteria (place l.at) (idents l.fn.earlier) (map (λ p. p.0) all) (trees (map (λ p. p.1) all))
+    ≡ spec.in_criteria (place l.at) (idents l.earlier) (map (λ p. p.0) rest) (trees (map (λ p. p.1) rest)))
+    × (onto (map (λ p. p.0) all) (idents l.fn.earlier) ≡ onto (map (λ p. p.0) rest) (idents l.earlier))
 
 abbrev pub invariant-clause_faults::in_aggregates-loop-item
     : goal.invariant-clause_faults::in_aggregates-loop-item
 invariant-clause_faults::in_aggregates-loop-item l =
-    spec.in_aggregates (place l.at) (idents l.earlier) (aggregates (map aggregate_part l.all))
-    ≡ spec.in_aggregates (place l.at) (idents l.entered)
-    (aggregates (map aggregate_part (drop l.item-index l.all)))
+    let all = aggregates (map aggregate_part l.all) in
+    let rest = aggregates (map aggregate_part (drop l.item-index l.all)) in
+    (spec.in_aggregates (place l.at) (idents l.fn.earlier) all
+    ≡ spec.in_aggregates (place l.at) (idents l.earlier) rest)
+    × (onto (aggregate_vars all) (idents l.fn.earlier) ≡ onto (aggregate_vars rest) (idents l.earlier))
 
 abbrev pub invariant-option_faults::in_options-loop-setting
     : goal.invariant-option_faults::in_options-loop-setting
