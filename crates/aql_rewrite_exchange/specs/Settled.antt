@@ -1,6 +1,6 @@
 -- Plans in which no node swaps places with the node below it, and applications one after another until there
 -- is none.
-use Rattle.std.specs.Prelude.{◌≡◌, Bool, true, false}
+use Rattle.std.specs.Prelude.{◌≡◌, Bool, false}
 use Rattle.aql_meaning.specs.Uses.{Uses}
 use Rattle.aql_plan.specs.Nodes.{weight}
 use Rattle.aql_plan.specs.Plan.{Plan, Singleton, Over, Node, Subquery}

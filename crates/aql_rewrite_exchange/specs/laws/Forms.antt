@@ -6,7 +6,7 @@ use Rattle.aql_meaning.specs.Uses.{Uses}
 use Rattle.aql_plan.specs.Needs.{result_uses}
 use Rattle.aql_plan.specs.Nodes.{over, with_body, weight}
 use Rattle.aql_plan.specs.Plan.{Plan, Singleton, Over, Node, Subquery, top}
-use Rattle.aql_plan.specs.Shapes.{HasNoFragment, IsNoFragment}
+use Rattle.aql_plan.specs.Shapes.{HasNoFragment}
 use Rattle.aql_rewrite_plan.specs.declared.swap.Rename.{Rename}
 use Rattle.aql_rewrite_plan.specs.Places.{Rewriting, First}
 use Rattle.aql_rewrite_kinds.specs.Apart.{is_start, has_body}

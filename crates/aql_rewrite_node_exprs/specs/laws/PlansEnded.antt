@@ -63,7 +63,8 @@ module _ (R : ExprTree → ExprTree → Type 0) where
 
   way_below : (n : Node) (us : Uses) (b c : Plan) (x y : Bool) → IsNoFragment n → Way (under n us) b c x y
       → Way us (Over b n) (Over c n) x y
-  way_below n us b c x y i h = along Plan Plan (PlanStep (AtExprs R) (under n us)) (PlanStep (AtExprs R) us) (λ p. Over p n)
+  way_below n us b c x y i h =
+      along Plan Plan (PlanStep (AtExprs R) (under n us)) (PlanStep (AtExprs R) us) (λ p. Over p n)
       (λ p q f. step_below n us p q i f) h
 
   -- ---- its expressions
@@ -101,7 +102,8 @@ module _ (R : ExprTree → ExprTree → Type 0) where
       → PlanEnds R (Over b n) (Over c (over_exprs n es)) x z
   over_node n b c es x y z i e h k =
       let m = over_exprs n es in record {
-        reached = λ us. joined Plan (PlanStep (AtExprs R) us) (way_below n us b c x y i (h.reached (under n us)))
+        reached = λ us. joined Plan (PlanStep (AtExprs R) us)
+            (way_below n us b c x y i (h.reached (under n us)))
             (way_here n (node_exprs n) refl us c i h.ended k.reached);
         ended = λ us. (
           none_below m us c (still_plain n es i) h.ended,
@@ -121,7 +123,8 @@ module _ (R : ExprTree → ExprTree → Type 0) where
   over_subquery v b c s t x y z i h k = record {
     reached = λ us. joined Plan (PlanStep (AtExprs R) us)
         (way_below (Subquery v s) us b c x y i (h.reached (under (Subquery v s) us)))
-        (along Plan Plan (PlanStep (AtExprs R) result_uses) (PlanStep (AtExprs R) us) (λ p. Over c (Subquery v p))
+        (along Plan Plan (PlanStep (AtExprs R) result_uses) (PlanStep (AtExprs R) us)
+        (λ p. Over c (Subquery v p))
         (λ p q f. body (h.ended (under (Subquery v p) us)) (stays_at_subquery us v c p) f)
         (k.reached result_uses));
     ended = λ us. (h.ended (under (Subquery v t) us), (stays_at_subquery us v c t, k.ended result_uses));
