@@ -130,8 +130,8 @@ pub enum Plan {
     },
 }
 
-// Written, and not derived: a derived drop is written out in each crate that lets a plan go, at each
-// place, a case for each node.
+// Written, and not derived: a derived drop is written out in each crate that lets a plan go, at
+// each place, a case for each node.
 impl Drop for Plan {
     #[cycle(drop)]
     fn drop(self) {

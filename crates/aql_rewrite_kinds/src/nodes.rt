@@ -1,6 +1,6 @@
 //! Nodes that are given another input or another body, in place.
 
-ghost use Rattle.std.specs.Prelude.{◌≡◌};
+ghost use Rattle.std.specs.Prelude.{◌≡◌, true, false};
 ghost use Rattle.aql_plan.specs.Nodes.{over, with_body as spec_with_body};
 ghost use Rattle.aql_plan.specs.Plan.{top};
 ghost use Rattle.aql_plan.specs.View.{plan_tree};
@@ -28,6 +28,8 @@ pub fn has_body(node: &Plan) -> bool
 pub fn replace_below(node: &mut Plan, below: Plan) -> Plan
     ensures over { plan_tree node.new ≡ over (plan_tree node.old) (plan_tree below) }
     ensures input { plan_tree node.old ≡ over (plan_tree node.old) (plan_tree result) }
+    ensures given_back { spec_is_start (plan_tree node.old) ≡ true
+        → plan_tree result ≡ plan_tree below }
 {
     match node {
         Plan::Singleton => below,
@@ -55,6 +57,8 @@ pub fn replace_below(node: &mut Plan, below: Plan) -> Plan
 pub fn replace_body(node: &mut Plan, body: Plan) -> Plan
     ensures with { plan_tree node.new ≡ spec_with_body (plan_tree node.old) (plan_tree body) }
     ensures had { plan_tree node.old ≡ spec_with_body (plan_tree node.old) (plan_tree result) }
+    ensures given_back { spec_has_body (top (plan_tree node.old)) ≡ false
+        → plan_tree result ≡ plan_tree body }
 {
     match node {
         Plan::Subquery { body: own, .. } => mem::replace(&mut **own, body),

@@ -1,6 +1,6 @@
 -- From the lowest node up, each node once, is a way of applications each at the first place, where what a
 -- node uses of its input stays.
-use Rattle.std.proofs.Common.{◌≡◌, ◌∙◌, ℕ, ◌+◌, ◌<◌, ◌++◌, Bool, true, false, true≢false, refl, ap, sym, subst, subst₂, arith}
+use Rattle.std.proofs.Common.{◌≡◌, ◌∙◌, ◌+◌, ◌<◌, ◌++◌, Bool, true, false, true≢false, refl, ap, sym, subst, subst₂, arith}
 use Rattle.std.specs.Prelude.{Option, Some, None}
 use Rattle.aql_tree.specs.declared.syntax.Ident.{Ident}
 use Rattle.aql_meaning.specs.Uses.{Uses}

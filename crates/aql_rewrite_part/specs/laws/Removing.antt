@@ -1,6 +1,6 @@
 -- From the lowest node up, each node once with all that is renamed below it, is a way of applications each at
 -- the first place.
-use Rattle.std.proofs.Common.{◌≡◌, ◌∙◌, ℕ, ◌+◌, ◌≤◌, List, [], ◌∷◌, ◌++◌, Bool, true, false, true≢false, append_assoc, refl, ap, sym, subst, subst₂, arith}
+use Rattle.std.proofs.Common.{◌≡◌, ◌∙◌, ◌+◌, ◌≤◌, List, [], ◌∷◌, ◌++◌, Bool, true, false, true≢false, append_assoc, refl, ap, sym, subst, subst₂, arith}
 use Rattle.std.specs.Prelude.{Option, Some, None, option_to_list}
 use Rattle.std.proofs.lemmas.List.{append-nil}
 use Rattle.aql_tree.specs.declared.syntax.Ident.{Ident}

@@ -1,5 +1,5 @@
 -- A part comes to its end by its input, and then by its top node, or by the body of this.
-use Rattle.std.proofs.Common.{rules, ◌∙◌, ◌+◌, ◌<◌, true, false, refl, ap, sym, subst, arith}
+use Rattle.std.proofs.Common.{rules, ◌∙◌, ◌+◌, ◌<◌, true, false, ap, sym, subst, arith}
 use Rattle.std.proofs.lemmas.Result.{IfOk-weaker}
 use Rattle.aql_meaning.specs.Uses.{Uses}
 use Rattle.aql_plan.specs.Nodes.{weight}

@@ -1,5 +1,5 @@
 -- A part comes to its end by its input, and then by its top node, which goes or stays with its body.
-use Rattle.std.proofs.Common.{rules, ◌∙◌, ◌+◌, ◌<◌, List, [], ◌∷◌, ◌++◌, true, false, refl, ap, sym, subst, arith}
+use Rattle.std.proofs.Common.{rules, ◌∙◌, ◌+◌, ◌<◌, List, [], true, false, refl, ap, sym, subst, arith}
 use Rattle.std.proofs.lemmas.Result.{IfOk-weaker}
 use Rattle.aql_plan.specs.Needs.{under, result_uses}
 use Rattle.aql_plan.specs.Nodes.{weight}
@@ -11,7 +11,7 @@ use Rattle.aql_rewrite_plan.specs.Plain.{NodePlain}
 use Rattle.aql_rewrite_plan.specs.Renames.{over_each}
 use Rattle.aql_rewrite_plan.specs.laws.RenamedPlans.{placed_plain}
 use Rattle.aql_rewrite_plan.specs.laws.Walk.{placed_inside}
-use Rattle.aql_rewrite_kinds.specs.laws.Taken.{taken, Taken}
+use Rattle.aql_rewrite_kinds.specs.laws.Taken.{taken}
 use Rattle.aql_rewrite_part.specs.Removed.{Removes}
 use Rattle.aql_rewrite_part.specs.laws.Removing.{body_of, body_within, way_weight, start_removes, input_reached}
 use Rattle.aql_rewrite_part.specs.laws.Removing.{input_ended, then_inside, then_gone, bare_removes, body_removes}
