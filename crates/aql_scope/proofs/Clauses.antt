@@ -1,7 +1,7 @@
 -- A clause or a subquery is lifted: what it declares, and what its parts give.
 use Rattle.std.proofs.Common.{◌≡◌, ◌∙◌, ℕ, suc, List, [], ◌∷◌, ◌++◌, map, refl, sym, ap, ap₂, subst, append_assoc, append-nil, codes, Option, Some, option_map}
 use Rattle.std.proofs.lemmas.List.{map-append}
-use Rattle.std.specs.Prelude.{option_to_list, IfOk, Result, Ok, Err}
+use Rattle.std.specs.Prelude.{IfOk, Result, Ok, Err}
 use Rattle.aql_value.specs.declared.memory.OutOfMemory.{OutOfMemory}
 use Rattle.aql_tree.specs.declared.syntax.Clause.{Clause}
 use Rattle.aql_tree.specs.declared.syntax.Expr.{Expr}
@@ -16,7 +16,7 @@ use Rattle.aql_lift.specs.Lifting as spec
 use Rattle.aql_lift.specs.Lifting.{Scoped, over, declares}
 use Rattle.aql_scope.specs.declared.numbers.Numbers.{Numbers}
 use Rattle.aql_scope.specs.Faults.{traversal_variables}
-use Rattle.aql_scope.specs.Lifts.{Progress, progress, let_of, after, Lifts}
+use Rattle.aql_scope.specs.Lifts.{Progress, progress, Lifts}
 use Rattle.aql_scope.proofs.Turns.{progress_is, Given, over_given}
 use Rattle.aql_scope.proofs.Declared.{say, said, declared_given, after_declare}
 use Rattle.aql_scope.proofs.Forms.{into_parts}
@@ -124,15 +124,15 @@ shape_named w n v e p is_v is_e is_p =
       path = z;
     } in t) is_p
 
-pub traversal_given : (outer own : Numbering) (w v : TraversalShape) (e f : ExprTree) (cs ds : List (List ℕ))
+pub traversal_given : (outer own : Numbering) (w v : TraversalShape) (e f : ExprTree) (cs : List (List ℕ))
     (prune : MaybeExpr) (settings : MemberTrees) (p : MaybeExpr) (lets : List Clause) (m k : Numbers) (q : Progress)
     → k.said ≡ m.said ++ map text_of (traversal_variables w) → k.next ≡ after_traversal m.next w
     → Given f (spec.expr (own ++ outer) k.next e) (progress lets k) q
     → p ≡ (spec.maybe (traversal_names m.next w own ++ outer) q.next prune).tree
-    → v ≡ with_settings settings (number_traversal m.next w) → ds ≡ cs
-    → Given (traversal v f ds p no_members)
+    → v ≡ with_settings settings (number_traversal m.next w)
+    → Given (traversal v f cs p no_members)
     (spec.clause outer own m.next (traversal w e cs prune settings)).clause (progress lets m) q
-traversal_given outer own w v e f cs ds prune settings p lets m k q said_is next_is g p_is v_is cs_is =
+traversal_given outer own w v e f cs prune settings p lets m k q said_is next_is g p_is v_is =
     (tree_is, by.1)
   where
     start : Scoped ExprTree
@@ -153,12 +153,11 @@ traversal_given outer own w v e f cs ds prune settings p lets m k q said_is next
     number : q.next ≡ start.next
     number = ap (λ (r : Progress). r.next) given.1
 
-    tree_is : traversal v f ds p no_members
+    tree_is : traversal v f cs p no_members
         ≡ traversal (with_settings settings (number_traversal m.next w)) start.tree cs
         (spec.maybe (more ++ outer) start.next prune).tree no_members
     tree_is =
-        ap (λ s. traversal s f ds p no_members) v_is
-        ∙ ap (λ g. traversal (with_settings settings (number_traversal m.next w)) g ds p no_members) by.0
-        ∙ ap (λ c. traversal (with_settings settings (number_traversal m.next w)) start.tree c p no_members) cs_is
+        ap (λ s. traversal s f cs p no_members) v_is
+        ∙ ap (λ g. traversal (with_settings settings (number_traversal m.next w)) g cs p no_members) by.0
         ∙ ap (λ r. traversal (with_settings settings (number_traversal m.next w)) start.tree cs r no_members)
         (p_is ∙ ap (λ n. (spec.maybe (more ++ outer) n prune).tree) number)

@@ -9,7 +9,7 @@ use Rattle.aql_lift.specs.Numbering.{Numbering, text_of}
 use Rattle.aql_lift.specs.Lifting as spec
 use Rattle.aql_lift.specs.Lifting.{NumberedSubquery, Scoped, ScopedClause, over, declares, with_lets, append_clauses}
 use Rattle.aql_scope.specs.declared.numbers.Numbers.{Numbers}
-use Rattle.aql_scope.specs.Lifts.{Progress, progress, let_of, after}
+use Rattle.aql_scope.specs.Lifts.{Progress, progress, let_of}
 use Rattle.aql_scope.proofs.Turns.{progress_is, Given, before}
 use Rattle.aql_scope.proofs.Forms.{is_variable, is_subquery}
 

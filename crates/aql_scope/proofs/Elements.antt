@@ -1,14 +1,11 @@
 -- The elements of lists: what each says, and how a member or a step stands before the others.
-use Rattle.std.proofs.Common.{◌≡◌, ◌∙◌, ℕ, suc, ◌+◌, ◌<◌, List, [], ◌∷◌, ◌++◌, length, get_or, drop, map, refl, sym, ap, ap₂, rules, option_map, Option, Some, None}
-use Rattle.aql_tree.specs.declared.syntax.Expr.{Expr}
-use Rattle.aql_tree.specs.declared.syntax.Ident.{Ident}
-use Rattle.aql_tree.specs.declared.syntax.Ident.TheVariants.{Num}
+use Rattle.std.proofs.Common.{◌≡◌, ◌∙◌, ℕ, List, ◌∷◌, ◌++◌, refl, sym, ap₂, rules, option_map, Option, Some, None}
 use Rattle.aql_tree.specs.declared.syntax.Link.{Link, the_lemmas as link_lemmas}
 use Rattle.aql_tree.specs.declared.syntax.Key.{Key, the_lemmas as key_lemmas}
 use Rattle.aql_tree.specs.declared.syntax.Let.{Let, the_lemmas as let_lemmas}
 use Rattle.aql_tree.specs.declared.syntax.AggregateItem.{AggregateItem, the_lemmas as aggregate_lemmas}
-use Rattle.aql_tree.specs.Tree.{ExprTree, MaybeExpr, no_expr, one_expr, MemberTrees, named_then, computed_then, StepTrees, name_then, at_then, inline_then, LinkTrees, link_then}
-use Rattle.aql_tree.specs.View.{tree, maybe, MemberPart, named, computed, members, member_part, StepPart, name, at, inline, steps, step_part, links, link_part, key_part, let_part, aggregate_part}
+use Rattle.aql_tree.specs.Tree.{ExprTree, MaybeExpr, no_expr, one_expr, computed_then, StepTrees, inline_then}
+use Rattle.aql_tree.specs.View.{tree, maybe, MemberPart, named, computed, members, StepPart, name, at, inline, steps, link_part, key_part, let_part, aggregate_part}
 use Rattle.aql_lift.specs.Numbering.{Numbering}
 use Rattle.aql_lift.specs.Lifting as spec
 use Rattle.aql_lift.specs.Lifting.{Scoped, as_it_is, both, three}

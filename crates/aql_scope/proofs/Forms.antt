@@ -1,5 +1,5 @@
 -- Whether an expression is a variable or a subquery, in the code and in the tree.
-use Rattle.std.proofs.Common.{◌≡◌, ◌∙◌, ap, sym, ℕ, List, Bool, true, false, refl, rules, Box, Global, [], ◌∷◌, map, option_map, Option}
+use Rattle.std.proofs.Common.{◌≡◌, ◌∙◌, ap, ap₂, sym, ℕ, List, Bool, true, false, rules, Box, Global, [], map, option_map, Option}
 use Rattle.aql_tree.specs.declared.syntax.Ident.{Ident}
 use Rattle.aql_tree.specs.declared.syntax.Expr.{Expr, Var, Cond, Range, Sub, the_lemmas}
 use Rattle.aql_tree.specs.declared.syntax.Query.{Query, roll-Query, the_lemmas as query_lemmas}
@@ -104,8 +104,8 @@ module _ (t : Traversal) (v : Ident) (e p : Option Ident) (start : Expr) (cs : L
       options = o;
     })
 
-    abbrev parts_with : OptionsPart → TraversalPart
-    parts_with q = (
+    abbrev parts_with : List (List ℕ) → OptionsPart → TraversalPart
+    parts_with ds q = (
       record {
         vertex = v;
         edge = e;
@@ -116,29 +116,30 @@ module _ (t : Traversal) (v : Ident) (e p : Option Ident) (start : Expr) (cs : L
         options = q.1;
       },
       tree start,
-      cs,
+      ds,
       option_map tree prune,
       q.0,
     )
 
-    parts_made : traversal_part made ≡ parts_with (options_part o)
+    parts_made : traversal_part made ≡ parts_with cs (options_part o)
     parts_made = search (rules, traversal_lemmas)
 
     abbrev pub made_of : TraversalPart → TraversalPart
     made_of x = (
       with_settings (members x.4) (record x.0 { vertex = v; edge = e; path = p }),
       tree start,
-      cs,
+      x.2,
       option_map tree prune,
       [],
     )
 
-    pub traversal_made :
-        options_part o ≡ ([], options_of (members (map member_part t.options.settings)) (options_part t.options).1)
+    pub traversal_made : cs ≡ t.collections
+        → options_part o ≡ ([], options_of (members (map member_part t.options.settings)) (options_part t.options).1)
         → clause_tree (clause.Traversal made) ≡ traversal_clause (made_of (traversal_part t))
-    traversal_made chosen =
-        of_traversal made ∙ ap traversal_clause (parts_made ∙ ap parts_with chosen)
-        ∙ ap (λ ms. traversal_clause (parts_with ([], options_of (members ms) (options_part t.options).1)))
+    traversal_made copied chosen =
+        of_traversal made ∙ ap traversal_clause (parts_made ∙ ap₂ parts_with copied chosen)
+        ∙ ap (λ ms. traversal_clause (parts_with t.collections
+        ([], options_of (members ms) (options_part t.options).1)))
         (sym (options_settings t.options))
         ∙ ap (λ x. traversal_clause (made_of x)) (sym (traversal_parts t))
 

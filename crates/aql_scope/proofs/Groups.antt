@@ -14,7 +14,7 @@ use Rattle.aql_lift.specs.Numbering.{Numbering, enter, text_of}
 use Rattle.aql_lift.specs.Lifting as spec
 use Rattle.aql_lift.specs.Lifting.{Scoped, ScopedClause, declares}
 use Rattle.aql_scope.specs.declared.numbers.Numbers.{Numbers}
-use Rattle.aql_scope.specs.Lifts.{Progress, progress, after}
+use Rattle.aql_scope.specs.Lifts.{Progress, progress}
 use Rattle.aql_scope.proofs.Turns.{Given, Goes, turn, three_given, from_here}
 use Rattle.aql_scope.proofs.Parts.{Criteria, let_then, aggregate_part_then}
 use Rattle.aql_scope.proofs.Declared.{after_declare}
@@ -36,17 +36,16 @@ taken_more {A} h g xs out {i = i} {x = x} y done lt is more same =
 -- ---- variables that are entered
 
 -- `names_of n parts own` are the names after these parts, where n is the next number
-pub entered_more : {X A : Type 0} {i m n k then : ℕ} {x : X} {v : Ident} {whole own after_own : Numbering}
+pub entered_more : {X A : Type 0} {i m k then : ℕ} {x : X} {v : Ident} {whole own after_own : Numbering}
     (part : X → A) (all : List X) (names_of : ℕ → List A → Numbering → Numbering) (next : ℕ → ℕ)
     → whole ≡ names_of m (map part (drop i all)) own → i < length all → x ≡ get_or all i x
     → ((left : List A) → names_of m (part x ∷ left) own ≡ names_of (next (suc m)) left ((v, m) ∷ own))
-    → after_own ≡ (v, n) ∷ own → n ≡ m → k ≡ suc m → then ≡ next k
+    → after_own ≡ (v, m) ∷ own → k ≡ suc m → then ≡ next k
     → whole ≡ names_of then (map part (drop (i + 1) all)) after_own
 entered_more {i = i} {m = m} {then = then} {x = x} {v = v} {own = own} part all names_of next entered lt is
-    step own_is n_is k_is then_is =
+    step own_is k_is then_is =
     entered ∙ ap (λ xs. names_of m (map part xs) own) (from_here all i x lt is) ∙ step _
     ∙ ap (λ j. names_of j (map part (drop (i + 1) all)) ((v, m) ∷ own)) (sym (then_is ∙ ap next k_is))
-    ∙ ap (λ j. names_of then (map part (drop (i + 1) all)) ((v, j) ∷ own)) (sym n_is)
     ∙ ap (names_of then (map part (drop (i + 1) all))) (sym own_is)
 
 -- ---- criteria

@@ -1,14 +1,13 @@
 -- The clauses of a query are lifted one after another, and then what RETURN gives.
-use Rattle.std.proofs.Common.{◌≡◌, ◌∙◌, ℕ, suc, ◌+◌, ◌<◌, ◌≤◌, List, [], ◌∷◌, ◌++◌, length, get_or, drop, map, Bool, refl, sym, ap, ap₂, subst, append_assoc, append-nil}
-use Rattle.std.proofs.lemmas.List.{map-append, drop_all}
+use Rattle.std.proofs.Common.{◌≡◌, ◌∙◌, ℕ, ◌+◌, ◌<◌, ◌≤◌, List, [], ◌∷◌, ◌++◌, length, get_or, drop, map, Bool, sym, ap, ap₂, subst, append_assoc, append-nil}
+use Rattle.std.proofs.lemmas.List.{drop_all}
 use Rattle.aql_tree.specs.declared.syntax.Clause.{Clause}
-use Rattle.aql_tree.specs.Tree.{ExprTree, ClauseTree, ClauseTrees, no_clauses, clause_then, QueryTree, query}
+use Rattle.aql_tree.specs.Tree.{ExprTree, no_clauses, clause_then, QueryTree, query}
 use Rattle.aql_tree.specs.View.{clause_tree, clauses}
 use Rattle.aql_lift.specs.Numbering.{Numbering}
 use Rattle.aql_lift.specs.Lifting as spec
 use Rattle.aql_lift.specs.Lifting.{NumberedSubquery, Scoped, ScopedClause, ScopedClauses, with_lets, append_clauses}
-use Rattle.aql_scope.specs.declared.numbers.Numbers.{Numbers}
-use Rattle.aql_scope.specs.Lifts.{Progress, progress, let_of, after}
+use Rattle.aql_scope.specs.Lifts.{Progress, let_of}
 use Rattle.aql_scope.proofs.Turns.{Given, before, from_here}
 use Rattle.aql_scope.proofs.Parts.{before_clauses}
 use Rattle.aql_scope.proofs.Declared.{before_append, before_lets_of, clauses_lets}

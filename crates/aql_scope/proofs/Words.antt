@@ -1,5 +1,5 @@
 -- Facts about the words that single names are judged in.
-use Rattle.std.proofs.Common.{◌≡◌, ◌∙◌, ℕ, ◌<◌, List, [], ◌∷◌, ◌++◌, suc, length, map, ap, Bool, true, false, cond, refl, sym, arith}
+use Rattle.std.proofs.Common.{◌≡◌, ◌∙◌, ℕ, ◌<◌, List, [], ◌∷◌, ◌++◌, suc, length, map, ap, Bool, true, false, cond, refl, arith}
 use mathlib.Core.List.{reverse-cons}
 use Rattle.std.proofs.lemmas.List.{map-append, reverse-append, length-map}
 use Rattle.std.specs.Option.{option_or}
@@ -11,7 +11,7 @@ use Rattle.aql_tree.specs.declared.syntax.Expr.{Expr}
 use Rattle.aql_tree.specs.declared.syntax.Ident.{Ident}
 use Rattle.aql_tree.specs.declared.syntax.Ident.TheVariants.{Name}
 use Rattle.aql_tree.specs.Build.{default_options}
-use Rattle.aql_tree.specs.Tree.{ExprTree, TraversalOptions, no_members, named_then}
+use Rattle.aql_tree.specs.Tree.{ExprTree, TraversalOptions, named_then}
 use Rattle.aql_tree.specs.View.{tree, MemberPart, named, computed, members, trees}
 use Rattle.aql_meaning.specs.Options.{set_all, options_of}
 use Rattle.aql_meaning.specs.Row.{same_ident}

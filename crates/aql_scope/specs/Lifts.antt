@@ -1,6 +1,6 @@
 -- What a function of the program answers that lifts a part of a query, by the words of the definition. Memory
 -- may run out at any time.
-use Rattle.std.specs.Prelude.{ℕ, ◌≡◌, List, ◌++◌, map, Option, Some, None, Result, Ok, Err}
+use Rattle.std.specs.Prelude.{ℕ, ◌≡◌, List, ◌++◌, map, Option, Some, None, Result, Ok, Err, OnOk}
 use Rattle.aql_value.specs.declared.memory.OutOfMemory.{OutOfMemory}
 use Rattle.aql_tree.specs.declared.syntax.Clause.{Clause}
 use Rattle.aql_tree.specs.declared.syntax.Ident.TheVariants.{Num}
@@ -8,7 +8,7 @@ use Rattle.aql_tree.specs.Tree.{ExprTree, MaybeExpr, no_expr, one_expr, ClauseTr
 use Rattle.aql_tree.specs.View as view
 use Rattle.aql_tree.specs.View.{clause_tree, MemberPart, named, computed, StepPart}
 use Rattle.aql_lift.specs.Numbering.{Numbering}
-use Rattle.aql_lift.specs.Lifting.{NumberedSubquery, Scoped, as_it_is, over, both, expr, maybe}
+use Rattle.aql_lift.specs.Lifting.{NumberedSubquery, Scoped, as_it_is, over, both, expr, maybe, clause}
 use Rattle.aql_scope.specs.declared.names.Scope.{Scope}
 use Rattle.aql_scope.specs.declared.numbers.Numbers.{Numbers}
 use Rattle.aql_scope.specs.declared.numbers.Walk.{Walk}
@@ -74,6 +74,13 @@ Lifts f s before (Err e) then = Unit {0}
 abbrev pub Walks : {A T : Type 0} → Walk → Result A OutOfMemory → Walk → (A → T) → (ℕ → Scoped T) → Type 0
 Walks before r then f s = Lifts f (s before.numbers.next) (progress before.lets before.numbers) r
     (progress then.lets then.numbers)
+
+-- a clause was lifted, and the scope has the query's own names after it
+abbrev pub LiftsClause : Scope → Walk → Result Clause OutOfMemory → Scope → Walk → ClauseTree → Type 0
+LiftsClause s before r s' then c =
+    Walks before r then clause_tree (λ n. (clause s.outer s.own n c).clause)
+    × OnOk r (s'.own ≡ (clause s.outer s.own before.numbers.next c).own)
+    × (s'.outer ≡ s.outer)
 
 -- a query was lifted, which has its own LETs
 abbrev pub LiftsQuery : {A : Type 0} → (A → QueryTree) → Scoped QueryTree → Numbers

@@ -1,5 +1,5 @@
 -- Where the program stands, as the definition of faults sees it, and what it answers there.
-use Rattle.std.specs.Prelude.{◌≡◌, ◌⊎◌, true, false, Option, Some, None, Result, Ok, Err}
+use Rattle.std.specs.Prelude.{◌≡◌, ◌⊎◌, true, Option, Some, None, Result, Ok, Err}
 use Rattle.aql_lift.specs.Numbering.{idents}
 use Rattle.aql_scope.specs.declared.faults.ScopeFault.{ScopeFault}
 use Rattle.aql_scope.specs.declared.faults.ScopeFault.TheVariants.{Memory}

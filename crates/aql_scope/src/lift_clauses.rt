@@ -7,7 +7,7 @@ ghost use Rattle.aql_tree.specs.View.{collect_part, collect_clause, traversal_pa
 ghost use Rattle.aql_tree.specs.declared.syntax.Ident.TheVariants.{Num};
 ghost use Rattle.aql_lift.specs.Numbering.{number_of, from_name};
 ghost use Rattle.aql_lift.specs.Lifting as spec;
-ghost use Rattle.aql_scope.specs.Lifts.{Walks, LiftsQuery, visible};
+ghost use Rattle.aql_scope.specs.Lifts.{Walks, LiftsClause, LiftsQuery, visible};
 
 use crate::Made;
 use crate::lift_collect::lift_collect;
@@ -49,18 +49,12 @@ pub fn lift_query(query: &Query, around: &Scope, walk: &mut Walk) -> Made<Query>
 // A clause; the query's own names are then those after it.
 #[cycle(lift)]
 fn lift_clause(clause: &Clause, scope: &mut Scope, walk: &mut Walk) -> Made<Clause>
-    ensures clause { Walks walk.old result walk.new clause_tree
-        (λ n. (spec.clause scope.old.outer scope.old.own n (clause_tree clause.now)).clause) }
-    ensures own { OnOk result (scope.new.own ≡
-        (spec.clause scope.old.outer scope.old.own walk.old.numbers.next
-        (clause_tree clause.now)).own) }
-    ensures outer { scope.new.outer ≡ scope.old.outer }
+    ensures { LiftsClause scope.old walk.old result scope.new walk.new (clause_tree clause.now) }
 {
     match clause {
         Clause::For { var, list } => lift_for(list, var, scope, walk),
         Clause::ForDocs { var, collection } => {
-            let number = walk.numbers.declare(var)?;
-            scope.own.enter(walk.numbers.alloc, var, number)?;
+            let number = walk.numbers.enter(var, &mut scope.own)?;
             Ok(Clause::ForDocs {
                 var: Ident::Num(number),
                 collection: collection.copy(walk.numbers.alloc)?,
@@ -81,12 +75,8 @@ fn lift_clause(clause: &Clause, scope: &mut Scope, walk: &mut Walk) -> Made<Clau
 // FOR over a single name, which is a variable or a collection, or over any other expression.
 #[cycle(lift)]
 fn lift_for(list: &Expr, var: &Ident, scope: &mut Scope, walk: &mut Walk) -> Made<Clause>
-    ensures clause { Walks walk.old result walk.new clause_tree
-        (λ n. (spec.clause scope.old.outer scope.old.own n (for_each var.now
-        (tree list.now))).clause) }
-    ensures own { OnOk result (scope.new.own ≡ (spec.clause scope.old.outer scope.old.own
-        walk.old.numbers.next (for_each var.now (tree list.now))).own) }
-    ensures outer { scope.new.outer ≡ scope.old.outer }
+    ensures { LiftsClause scope.old walk.old result scope.new walk.new
+        (for_each var.now (tree list.now)) }
 {
     let number = walk.numbers.declare(var)?;
     match list {
@@ -131,12 +121,8 @@ fn source(ident: &Ident, number: u32, scope: &Scope, alloc: Global) -> Made<Clau
 // LET of a subquery, which stays there, or of any other expression.
 #[cycle(lift)]
 fn lift_let(value: &Expr, var: &Ident, scope: &mut Scope, walk: &mut Walk) -> Made<Clause>
-    ensures clause { Walks walk.old result walk.new clause_tree
-        (λ n. (spec.clause scope.old.outer scope.old.own n (let_be var.now
-        (tree value.now))).clause) }
-    ensures own { OnOk result (scope.new.own ≡ (spec.clause scope.old.outer scope.old.own
-        walk.old.numbers.next (let_be var.now (tree value.now))).own) }
-    ensures outer { scope.new.outer ≡ scope.old.outer }
+    ensures { LiftsClause scope.old walk.old result scope.new walk.new
+        (let_be var.now (tree value.now)) }
 {
     let number = walk.numbers.declare(var)?;
     match value {

@@ -10,7 +10,7 @@ ghost use Rattle.aql_meaning.specs.Groups.{into_names};
 ghost use Rattle.aql_meaning.specs.Visible.{aggregate_vars, into_var};
 ghost use Rattle.aql_lift.specs.Numbering.{number_of, numbered_variable, idents, enter, variable_members};
 ghost use Rattle.aql_lift.specs.Lifting as spec;
-ghost use Rattle.aql_scope.specs.Lifts.{Walks, visible};
+ghost use Rattle.aql_scope.specs.Lifts.{Walks, LiftsClause, visible};
 
 use crate::Made;
 use crate::lift_exprs::{lift_expr, lift_maybe, numbered};
@@ -25,12 +25,8 @@ use std::alloc::Global;
 /// COLLECT: after it only its own names are left.
 #[cycle(lift)]
 pub fn lift_collect(collect: &Collect, scope: &mut Scope, walk: &mut Walk) -> Made<Clause>
-    ensures clause { Walks walk.old result walk.new clause_tree
-        (λ n. (spec.clause scope.old.outer scope.old.own n (collect_clause
-        (collect_part collect.now))).clause) }
-    ensures own { OnOk result (scope.new.own ≡ (spec.clause scope.old.outer scope.old.own
-        walk.old.numbers.next (collect_clause (collect_part collect.now))).own) }
-    ensures outer { scope.new.outer ≡ scope.old.outer }
+    ensures { LiftsClause scope.old walk.old result scope.new walk.new
+        (collect_clause (collect_part collect.now)) }
 {
     let mut own = NameList::new(walk.numbers.alloc);
     let groups = lift_criteria(collect.groups.as_slice(), scope, &mut own, walk)?;
@@ -53,8 +49,7 @@ fn lift_criteria(groups: &[Let], scope: &Scope, own: &mut NameList, walk: &mut W
 {
     let mut done = Seq::new(walk.numbers.alloc);
     for group in groups {
-        let number = walk.numbers.declare(&group.var)?;
-        own.enter(walk.numbers.alloc, &group.var, number)?;
+        let number = walk.numbers.enter(&group.var, own)?;
         done.push(Let {
             var: Ident::Num(number),
             expr: lift_expr(&group.expr, scope, walk)?,
@@ -79,8 +74,7 @@ fn lift_aggregates(
 {
     let mut done = Seq::new(walk.numbers.alloc);
     for item in all {
-        let number = walk.numbers.declare(&item.var)?;
-        own.enter(walk.numbers.alloc, &item.var, number)?;
+        let number = walk.numbers.enter(&item.var, own)?;
         done.push(AggregateItem {
             var: Ident::Num(number),
             name: item.name.copy(walk.numbers.alloc)?,
@@ -109,8 +103,7 @@ fn lift_into(
     let Some(into) = into else {
         return Ok(None);
     };
-    let number = walk.numbers.declare(&into.var)?;
-    own.enter(walk.numbers.alloc, &into.var, number)?;
+    let number = walk.numbers.enter(&into.var, own)?;
     match &into.what {
         Some(what) => {
             let what = lift_expr(what, scope, walk)?;

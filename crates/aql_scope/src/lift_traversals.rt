@@ -8,7 +8,7 @@ ghost use Rattle.aql_lift.specs.Numbering.{text_of, maybe_number, enter, number_
 ghost use Rattle.aql_lift.specs.Numbering.{number_after, after_traversal, traversal_names};
 ghost use Rattle.aql_lift.specs.Lifting as spec;
 ghost use Rattle.aql_scope.specs.Faults.{traversal_variables};
-ghost use Rattle.aql_scope.specs.Lifts.{Walks, visible};
+ghost use Rattle.aql_scope.specs.Lifts.{LiftsClause, visible};
 
 use crate::Made;
 use crate::lift_exprs::{lift_expr, lift_maybe};
@@ -17,7 +17,7 @@ use crate::names::{NameList, Scope};
 use crate::numbers::{Numbers, Walk};
 use aql_copy::copy_texts;
 use aql_tree::{Clause, Expr, Ident, Traversal};
-use aql_value::{Names, Seq};
+use aql_value::Seq;
 use std::alloc::Global;
 
 /// The numbered variables of a traversal.
@@ -31,27 +31,15 @@ struct Head {
 /// A traversal: its names are visible in its PRUNE.
 #[cycle(lift)]
 pub fn lift_traversal(traversal: &Traversal, scope: &mut Scope, walk: &mut Walk) -> Made<Clause>
-    ensures clause { Walks walk.old result walk.new clause_tree
-        (λ n. (spec.clause scope.old.outer scope.old.own n (traversal_clause
-        (traversal_part traversal.now))).clause) }
-    ensures own { OnOk result (scope.new.own ≡ (spec.clause scope.old.outer scope.old.own
-        walk.old.numbers.next (traversal_clause (traversal_part traversal.now))).own) }
-    ensures outer { scope.new.outer ≡ scope.old.outer }
+    ensures { LiftsClause scope.old walk.old result scope.new walk.new
+        (traversal_clause (traversal_part traversal.now)) }
 {
-    let collections = copy_texts(walk.numbers.alloc, traversal.collections.as_slice())?;
     let mut own = scope.own.copy(walk.numbers.alloc)?;
     let head = declare_traversal(traversal, &mut own, &mut walk.numbers)?;
     let start = lift_expr(&traversal.start, scope, walk)?;
     scope.own = own;
     let prune = lift_prune(&traversal.prune, scope, &walk.numbers)?;
-    Ok(traversal_with(
-        traversal,
-        head,
-        start,
-        collections,
-        prune,
-        walk.numbers.alloc,
-    ))
+    traversal_with(traversal, head, start, prune, walk.numbers.alloc)
 }
 
 // The clause of a traversal, from its numbered names and its parts.
@@ -59,11 +47,10 @@ fn traversal_with(
     traversal: &Traversal,
     head: Head,
     start: Expr,
-    collections: Names,
     prune: Option<Expr>,
     alloc: Global,
-) -> Clause
-    ensures { clause_tree result ≡ traversal_clause (
+) -> Made<Clause>
+    ensures { IfOk result (λ c. clause_tree c ≡ traversal_clause (
       with_settings (members (traversal_part traversal.now).4)
           (record (traversal_part traversal.now).0 {
             vertex = head.vertex;
@@ -71,12 +58,13 @@ fn traversal_with(
             path = head.path;
           }),
       tree start,
-      collections,
+      (traversal_part traversal.now).2,
       option_map tree prune,
       [],
-    ) }
+    )) }
 {
-    Clause::Traversal(Traversal {
+    let collections = copy_texts(alloc, traversal.collections.as_slice())?;
+    Ok(Clause::Traversal(Traversal {
         vertex: head.vertex,
         edge: head.edge,
         path: head.path,
@@ -87,7 +75,7 @@ fn traversal_with(
         collections,
         prune,
         options: chosen_options(&traversal.options, alloc),
-    })
+    }))
 }
 
 // PRUNE is asked at each path, so there is no clause before which a subquery of it could stand: it
@@ -116,8 +104,7 @@ fn declare_traversal(traversal: &Traversal, own: &mut NameList, numbers: &mut Nu
     ensures said { OnOk result (numbers.new.said ≡ numbers.old.said
         ++ map text_of (traversal_variables (traversal_part traversal.now).0)) }
 {
-    let number = numbers.declare(&traversal.vertex)?;
-    own.enter(numbers.alloc, &traversal.vertex, number)?;
+    let number = numbers.enter(&traversal.vertex, own)?;
     let edge = declare_maybe(&traversal.edge, own, numbers)?;
     let path = declare_maybe(&traversal.path, own, numbers)?;
     Ok(Head {
@@ -144,7 +131,6 @@ fn declare_maybe(
     let Some(ident) = ident else {
         return Ok(None);
     };
-    let number = numbers.declare(ident)?;
-    own.enter(numbers.alloc, ident, number)?;
+    let number = numbers.enter(ident, own)?;
     Ok(Some(Ident::Num(number)))
 }

@@ -4,7 +4,7 @@ ghost use Rattle.std.specs.Prelude.{◌≡◌, [], ◌∷◌, ◌++◌, suc, IfO
 ghost use Rattle.aql_lift.specs.Numbering.{text_of};
 
 use crate::Made;
-use crate::names::spelling;
+use crate::names::{NameList, spelling};
 use aql_tree::{Clauses, Ident};
 use aql_value::{Names, OutOfMemory, Text};
 use std::alloc::Global;
@@ -62,5 +62,17 @@ impl Numbers {
     {
         let name = spelling(self.alloc, ident)?;
         self.take(name)
+    }
+
+    /// The same, and puts the variable before these names.
+    pub fn enter(&mut self, ident: &Ident, names: &mut NameList) -> Made<u32>
+        ensures number { IfOk result (λ n. n ≡ self.old.next) }
+        ensures next { OnOk result (self.new.next ≡ suc self.old.next) }
+        ensures said { OnOk result (self.new.said ≡ self.old.said ++ text_of ident.now ∷ []) }
+        ensures names { OnOk result (names.new ≡ (ident.now, self.old.next) ∷ names.old) }
+    {
+        let number = self.declare(ident)?;
+        names.enter(self.alloc, ident, number)?;
+        Ok(number)
     }
 }

@@ -1,11 +1,11 @@
-use Rattle.std.proofs.Common.{◌≡◌, ◌∙◌, ap, ap₂, sym, subst, map, refl, rules, option_map, Some, [], ◌∷◌, ◌++◌, ◌+◌, ◌<◌, ◌≤◌, take, length, get_or}
+use Rattle.std.proofs.Common.{◌≡◌, ◌∙◌, ap, ap₂, sym, subst, map, refl, rules, option_map, Some, [], ◌∷◌, ◌++◌, ◌<◌, ◌≤◌, length, get_or}
 use Rattle.aql_tree.specs.declared.syntax.Collect.{out-Collect}
 use Rattle.aql_tree.specs.declared.syntax.Ident.TheVariants.{Num}
 use Rattle.aql_tree.specs.Tree.{expr_then, no_exprs, no_members, no_steps, no_links, no_aggregates, link_then, for_each, let_be, ternary, range_of, subquery, collect, query, into, MaybeExpr, one_expr}
 use Rattle.aql_tree.specs.View.{inline, tree, trees, members, links, aggregates, clauses, maybe, query_tree, clause_tree, into_tree}
-use Rattle.aql_tree.specs.View.{member_part, step_part, key_part, let_part, aggregate_part, into_part, collect_clause, TraversalPart, traversal_part}
+use Rattle.aql_tree.specs.View.{member_part, step_part, key_part, let_part, aggregate_part, into_part, collect_clause, TraversalPart, traversal_part, traversal_clause}
 use Rattle.aql_meaning.specs.Options.{with_settings}
-use Rattle.aql_lift.specs.Numbering.{enter, traversal_names}
+use Rattle.aql_lift.specs.Numbering.{traversal_names}
 use Rattle.aql_lift.specs.Lifting as spec
 use Rattle.aql_scope.specs.Lifts.{Lifts, progress, visible, member_then, one_member, step_then, one_step, option_of}
 use Rattle.aql_scope.proofs.Turns.{Given, turn, finish, both_given, three_given}
@@ -77,14 +77,14 @@ lift_collect::lift_criteria-loop-group-preserved t c =
     let names = visible c.args.scope.now in
     let x = c.group-item.result in (
       criterion_turn c.loop-group.walk.lets c.loop-group.walk.numbers c.loop-group.invariant.0 _
-          c.declare.new.self c.loop-group-test.true c.group-item.is c.in_ok-push.ensures.ok
+          c.enter.new.self c.loop-group-test.true c.group-item.is c.in_ok-push.ensures.ok
           (ap Num c.in_ok-number.ensures.number) c.in_ok-number.ensures.said c.in_ok-number.ensures.next
           c.in_ok-lift_expr.ensures,
       entered_more let_part c.args.groups.now (enter_criteria names)
           (λ n. (spec.expr names n (tree x.expr)).next)
           c.loop-group.invariant.1 c.loop-group-test.true c.group-item.is
           (λ ls. ap (λ l. enter_criteria names c.loop-group.walk.numbers.next (l ∷ ls) c.loop-group.own)
-          (let_part_is x)) c.in_ok-enter.ensures c.in_ok-number.ensures.number c.in_ok-number.ensures.next
+          (let_part_is x)) c.in_ok-number.ensures.names c.in_ok-number.ensures.next
           (ap (λ p. p.next) c.in_ok-lift_expr.ensures.1),
     )
 
@@ -103,14 +103,14 @@ lift_collect::lift_aggregates-loop-item-preserved t c =
     let names = visible c.args.scope.now in
     let x = c.item-item.result in (
       aggregate_turn c.loop-item.walk.lets c.loop-item.walk.numbers c.loop-item.invariant.0 _
-          c.declare.new.self c.loop-item-test.true c.item-item.is c.in_ok-push.ensures.ok
+          c.enter.new.self c.loop-item-test.true c.item-item.is c.in_ok-push.ensures.ok
           (ap Num c.in_ok-number.ensures.number) c.in_ok-copy.ensures c.in_ok-number.ensures.said
           c.in_ok-number.ensures.next c.in_ok-lift_maybe.ensures,
       entered_more aggregate_part c.args.all.now (enter_aggregates names)
           (λ n. (spec.maybe names n (maybe (option_map tree x.arg))).next)
           c.loop-item.invariant.1 c.loop-item-test.true c.item-item.is
           (λ gs. ap (λ g. enter_aggregates names c.loop-item.walk.numbers.next (g ∷ gs) c.loop-item.own)
-          (aggregate_is x)) c.in_ok-enter.ensures c.in_ok-number.ensures.number c.in_ok-number.ensures.next
+          (aggregate_is x)) c.in_ok-number.ensures.names c.in_ok-number.ensures.next
           (ap (λ p. p.next) c.in_ok-lift_maybe.ensures.1),
     )
 
@@ -155,12 +155,11 @@ lift_clauses::lift_for-returns-in_ok-enter-in_default t c =
     (ap (λ n. for_each (Num n) (tree c.in_ok-list-in_default.list)) c.in_ok-number.ensures.number) in
     let clause = subst (λ k. Given (for_each (Num c.in_ok-number.number) (tree c.in_ok-list-in_default.list))
     k.clause (progress c.args.walk.now.lets m) (progress c.lift_expr.new.walk.lets c.lift_expr.new.walk.numbers)) (sym is) h in
-    let own = ap (λ n. (x, n) ∷ s.own) c.in_ok-number.ensures.number ∙ ap (λ k. k.own) (sym is) in
-    record {
-      clause = (of_for _ c.in_ok-list-in_default.list ∙ clause.0, clause.1);
-      own = c.in_ok-enter-in_default.ensures ∙ own;
-      outer = search rules;
-    }
+    let own = ap (λ n. (x, n) ∷ s.own) c.in_ok-number.ensures.number ∙ ap (λ k. k.own) (sym is) in (
+      (of_for _ c.in_ok-list-in_default.list ∙ clause.0, clause.1),
+      c.in_ok-enter-in_default.ensures ∙ own,
+      search rules,
+    )
 
 pub lift_clauses::lift_let-returns-in_ok-enter-in_default
     : goal.lift_clauses::lift_let-returns-in_ok-enter-in_default
@@ -177,16 +176,15 @@ lift_clauses::lift_let-returns-in_ok-enter-in_default t c =
     (ap (λ n. let_be (Num n) (tree c.in_ok-expr-in_default.expr)) c.in_ok-number.ensures.number) in
     let clause = subst (λ k. Given (let_be (Num c.in_ok-number.number) (tree c.in_ok-expr-in_default.expr))
     k.clause (progress c.args.walk.now.lets m) (progress c.lift_expr.new.walk.lets c.lift_expr.new.walk.numbers)) (sym is) h in
-    let own = ap (λ n. (x, n) ∷ s.own) c.in_ok-number.ensures.number ∙ ap (λ k. k.own) (sym is) in
-    record {
-      clause = (of_let _ c.in_ok-expr-in_default.expr ∙ clause.0, clause.1);
-      own = c.in_ok-enter-in_default.ensures ∙ own;
-      outer = search rules;
-    }
+    let own = ap (λ n. (x, n) ∷ s.own) c.in_ok-number.ensures.number ∙ ap (λ k. k.own) (sym is) in (
+      (of_let _ c.in_ok-expr-in_default.expr ∙ clause.0, clause.1),
+      c.in_ok-enter-in_default.ensures ∙ own,
+      search rules,
+    )
 
-pub lift_clauses::lift_let-returns-in_ok-enter-in-Sub-clause-clause
-    : goal.lift_clauses::lift_let-returns-in_ok-enter-in-Sub-clause-clause
-lift_clauses::lift_let-returns-in_ok-enter-in-Sub-clause-clause t c =
+pub lift_clauses::lift_let-returns-in_ok-enter-in-Sub
+    : goal.lift_clauses::lift_let-returns-in_ok-enter-in-Sub
+lift_clauses::lift_let-returns-in_ok-enter-in-Sub t c =
     let s = c.args.scope.now in
     let x = c.args.var.now in
     let m = c.args.walk.now.numbers in
@@ -201,13 +199,16 @@ lift_clauses::lift_let-returns-in_ok-enter-in-Sub-clause-clause t c =
     let then = progress c.args.walk.now.lets c.lift_query.new.walk.numbers in
     let h' = subst (λ v. Given (let_be (Num c.in_ok-number.number) (subquery (query_tree c.in_ok-inner-in-Sub.inner)))
     (spec.clause s.outer s.own m.next (let_be x v)).clause (progress c.args.walk.now.lets m) then)
-    (sym (ap tree c.in-Sub.is ∙ of_query c.in-Sub.query)) h in
-    subst (λ ls. Lifts clause_tree (spec.clause s.outer s.own m.next (let_be x (tree c.args.value.now))).clause
-    (progress c.args.walk.now.lets m) c.let_query.result (progress ls c.lift_query.new.walk.numbers))
-    (sym c.in_ok-inner-in-Sub.ensures.lets)
-    (when_ok c.let_query.result (let_be (Num c.in_ok-number.number) (subquery (query_tree c.in_ok-inner-in-Sub.inner)))
-    (spec.clause s.outer s.own m.next (let_be x (tree c.args.value.now))).clause (progress c.args.walk.now.lets m)
-    then c.let_query.ensures h')
+    (sym (ap tree c.in-Sub.is ∙ of_query c.in-Sub.query)) h in (
+      subst (λ ls. Lifts clause_tree (spec.clause s.outer s.own m.next (let_be x (tree c.args.value.now))).clause
+          (progress c.args.walk.now.lets m) c.let_query.result (progress ls c.lift_query.new.walk.numbers))
+          (sym c.in_ok-inner-in-Sub.ensures.lets)
+          (when_ok c.let_query.result (let_be (Num c.in_ok-number.number) (subquery (query_tree c.in_ok-inner-in-Sub.inner)))
+          (spec.clause s.outer s.own m.next (let_be x (tree c.args.value.now))).clause (progress c.args.walk.now.lets m)
+          then c.let_query.ensures h'),
+      search rules,
+      search rules,
+    )
 
 pub lift_clauses::lift_query-loop-clause-preserved : goal.lift_clauses::lift_query-loop-clause-preserved
 lift_clauses::lift_query-loop-clause-preserved t c =
@@ -221,16 +222,16 @@ lift_clauses::lift_query-loop-clause-preserved t c =
     let here = c.as_slice-clause-items.ensures in
     let at : c.loop-clause.scope.outer ≡ outer = c.loop-clause.invariant.1 in
     let clause = subst (λ o. Given (clause_tree c.in_ok-lifted.lifted)
-    (spec.clause o own now.next (clause_tree x)).clause now then) at c.in_ok-lifted.ensures.clause in
+    (spec.clause o own now.next (clause_tree x)).clause now then) at c.in_ok-lifted.ensures.0 in
     let names = subst (λ o. c.lift_clause.new.scope.own ≡ (spec.clause o own now.next (clause_tree x)).own) at
-    c.in_ok-lifted.ensures.own in (
+    c.in_ok-lifted.ensures.1 in (
       clause_turn outer (spec.clauses outer [] c.args.walk.now.numbers.next (clauses (map clause_tree all)))
           c.args.walk.now.numbers.said all i own now x c.in_ok-lifted.lifted c.lift_clause.new.scope.own then _
           c.loop-clause.invariant.0 (subst (λ xs. i < length xs) here c.loop-clause-test.true)
           (subst (λ xs. x ≡ get_or xs i x) here c.clause-item.is) clause names
           (pushed c.lift_clause.new.walk.lets _ c.in_ok-lifted.lifted c.lift_clause.new.walk.numbers
           c.in_ok-push.ensures.ok),
-      c.in_ok-lifted.ensures.outer ∙ at,
+      c.in_ok-lifted.ensures.2 ∙ at,
     )
 
 pub lift_clauses::lift_query-returns-clause-query : goal.lift_clauses::lift_query-returns-clause-query
@@ -290,16 +291,15 @@ lift_collect::lift_collect-returns t c =
     let h = collect_given s.outer s.own (map let_part col.groups) gs i a b d p q r l by_criteria by_aggregates
     c.in_ok-into.ensures.into in
     let h' = subst (λ k. Given (collect a.0 a.1 b d)
-    (spec.clause s.outer s.own p.next (collect_clause k)).clause p l) (sym (collect_parts k)) h in
-    record {
-      clause = (c.collect.ensures ∙ h'.0, h'.1);
-      own = collect_entered s.outer s.own (map let_part col.groups) gs i a b d p q r l by_criteria
+    (spec.clause s.outer s.own p.next (collect_clause k)).clause p l) (sym (collect_parts k)) h in (
+      (c.collect.ensures ∙ h'.0, h'.1),
+      collect_entered s.outer s.own (map let_part col.groups) gs i a b d p q r l by_criteria
           by_aggregates c.in_ok-into.ensures.into c.new-own.result c.lift_criteria.new.own
           c.lift_aggregates.new.own c.lift_into.new.own c.new-own.ensures first second
           c.in_ok-into.ensures.own
-          ∙ ap (λ k. (spec.clause s.outer s.own p.next (collect_clause k)).own) (sym (collect_parts k));
-      outer = search rules;
-    }
+          ∙ ap (λ k. (spec.clause s.outer s.own p.next (collect_clause k)).own) (sym (collect_parts k)),
+      search rules,
+    )
 
 pub lift_collect::lift_into-returns-in_ok-what-in-Some-what-clause-into
     : goal.lift_collect::lift_into-returns-in_ok-what-in-Some-what-clause-into
@@ -310,7 +310,7 @@ lift_collect::lift_into-returns-in_ok-what-in-Some-what-clause-into t c =
     let w = tree c.in_ok-what-in-Some-what.what in
     let m = c.args.walk.now.numbers in
     let then = progress c.lift_expr.new.walk.lets c.lift_expr.new.walk.numbers in
-    let h = into_given (visible s) i.var (tree e) w c.in_ok-number.number c.args.walk.now.lets m c.declare.new.self then
+    let h = into_given (visible s) i.var (tree e) w c.in_ok-number.number c.args.walk.now.lets m c.enter.new.self then
     c.in_ok-number.ensures.number c.in_ok-number.ensures.said c.in_ok-number.ensures.next
     c.in_ok-what-in-Some-what.ensures in
     let part = ap (λ o. into_tree (option_map into_part o)) c.in-Some.is ∙ into_some i e c.in-Some-what.is in
@@ -386,9 +386,9 @@ lift_exprs::lift_expr-returns-in_ok-lift_boxed-in-Range-2 t c =
     (sym (ap tree c.in-Range.is ∙ of_range e f)) h in
     (of_range x y ∙ h'.0, h'.1)
 
-pub lift_traversals::lift_traversal-returns-clause-clause
-    : goal.lift_traversals::lift_traversal-returns-clause-clause
-lift_traversals::lift_traversal-returns-clause-clause t c =
+pub lift_traversals::lift_traversal-returns
+    : goal.lift_traversals::lift_traversal-returns
+lift_traversals::lift_traversal-returns t c =
     let s = c.args.scope.now in
     let x = c.args.traversal.now in
     let part = traversal_part x in
@@ -406,11 +406,13 @@ lift_traversals::lift_traversal-returns-clause-clause t c =
     let h = traversal_given s.outer s.own part.0
     (with_settings (members part.4)
     (record part.0 { vertex = head.vertex; edge = head.edge; path = head.path })) part.1 start part.2
-    c.in_ok-collections.collections (maybe part.3) (members part.4)
+    (maybe part.3) (members part.4)
     (maybe (option_map tree c.in_ok-prune.prune)) c.args.walk.now.lets m k q c.in_ok-head.ensures.said
     c.in_ok-head.ensures.next given pruned
     (ap (with_settings (members part.4)) (shape_named part.0 m.next head.vertex head.edge head.path
-    c.in_ok-head.ensures.vars.0 c.in_ok-head.ensures.vars.1 c.in_ok-head.ensures.vars.2))
-    (c.in_ok-collections.ensures ∙ c.as_slice.ensures
-    ∙ sym (ap (λ (y : TraversalPart). y.2) (traversal_parts x))) in
-    (c.traversal_with.ensures ∙ h.0, h.1)
+    c.in_ok-head.ensures.vars.0 c.in_ok-head.ensures.vars.1 c.in_ok-head.ensures.vars.2)) in (
+      when_ok c.traversal_with.result _ (spec.clause s.outer s.own m.next (traversal_clause part)).clause
+          (progress c.args.walk.now.lets m) q c.traversal_with.ensures h,
+      search rules,
+      search rules,
+    )
