@@ -1,6 +1,6 @@
-use Rattle.std.proofs.Common.{◌≡◌, ◌<◌, ◌∙◌, ◌++◌, ◌∷◌, [], length, ap, sym, subst, arith}
+use Rattle.std.proofs.Common.{◌<◌, ◌∙◌, ◌++◌, ◌∷◌, [], length, sym, subst, arith}
 use Rattle.std.proofs.lemmas.List.{length-set}
-use Rattle.aql_value.specs.View.{datum_of, datums_in}
+use Rattle.aql_value.specs.View.{datums_in}
 use Rattle.aql_aggregate_parts.specs.Staged.{KeepsIn}
 use Rattle.aql_exec_collect.proofs.Keeping.{one_taking, argument_at}
 use Rattle.aql_exec_collect.proofs.group.add_all.Goals as goal

@@ -1,4 +1,4 @@
-use Rattle.std.proofs.Common.{◌∙◌, ◌++◌, ◌∷◌, [], ap, sym, subst}
+use Rattle.std.proofs.Common.{◌∙◌, ◌++◌, ◌∷◌, [], ap, subst}
 use Rattle.std.proofs.lemmas.List.{map-append}
 use Rattle.aql_value.specs.View.{datum_of, datums_in}
 use Rattle.aql_func.specs.Aggregates.{aggregate_named}

@@ -1,7 +1,6 @@
 use Rattle.std.proofs.Common.{◌∙◌, Some, [], ap, sym, subst}
 use Rattle.std.specs.Prelude.{slice_get}
 use Rattle.aql_value.specs.Datum.{null}
-use Rattle.aql_block.specs.Tables.{rows_of}
 use Rattle.aql_block.specs.laws.BlockRows.{row_has_all, row_only}
 use Rattle.aql_exec_collect.specs.Kept.{Result}
 use Rattle.aql_exec_collect.specs.Framed.{framed, FitsFrame}

@@ -1,4 +1,4 @@
-use Rattle.std.proofs.Common.{◌≡◌, ◌<◌, ◌+◌, ◌∙◌, ◌++◌, ◌∷◌, [], take, get_or, length, ap, sym, subst, arith, length-append}
+use Rattle.std.proofs.Common.{◌≡◌, ◌++◌, ◌∷◌, [], take, get_or, length, ap, sym, subst, arith, length-append}
 use Rattle.std.proofs.lemmas.List.{take_more, length-take}
 use Rattle.aql_meaning.specs.declared.grouping.Stage.TheVariants.{Whole}
 use Rattle.aql_aggregate.specs.declared.kinds.AggregateKind.TheVariants.{Count}

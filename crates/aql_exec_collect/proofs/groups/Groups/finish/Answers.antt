@@ -1,4 +1,4 @@
-use Rattle.std.proofs.Common.{◌≡◌, ◌+◌, ◌∙◌, ◌++◌, ◌∷◌, [], length, map, reverse, ap, sym, arith, length-append}
+use Rattle.std.proofs.Common.{◌≡◌, ◌++◌, ◌∷◌, [], length, map, ap, arith, length-append}
 use Rattle.aql_value.specs.View.{datum_of, datums_in}
 use Rattle.aql_exec_collect.specs.Kept.{result_of}
 use Rattle.aql_exec_collect.proofs.Finishing.{one_finished}

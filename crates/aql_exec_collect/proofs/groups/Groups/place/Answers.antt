@@ -1,6 +1,5 @@
-use Rattle.std.proofs.Common.{◌≡◌, ◌∙◌, [], Some, true, false, not, option_map, refl, ap, sym, subst}
+use Rattle.std.proofs.Common.{◌∙◌, Some, not, option_map, refl, ap, sym, subst}
 use Rattle.std.proofs.lemmas.Option.{slice_get-map}
-use Rattle.aql_value.specs.Parts.{is_in}
 use Rattle.aql_value.specs.View.{datum_of, datums_in}
 use Rattle.aql_func.proofs.Firsts.{any_tree, keys_noted, same_is}
 use Rattle.aql_exec.proofs.Firsts.{is_new, is_old}
