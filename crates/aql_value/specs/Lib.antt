@@ -19,6 +19,7 @@ pub mod RoundTrip
 pub mod Parts
 pub mod Convert
 pub mod Database
+pub mod Lends
 pub mod Shards
 pub mod laws
 pub mod formers

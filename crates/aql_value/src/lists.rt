@@ -1,4 +1,5 @@
 ghost use Rattle.std.specs.Prelude.{◌≡◌, OnOk};
+ghost use Rattle.std.specs.Borrow.{sem};
 
 use crate::{OutOfMemory, Text};
 use std::alloc::Global;
@@ -60,6 +61,7 @@ impl<'a, T> IntoIterator for &'a Seq<T> {
 
 impl<T> Seq<T> {
     ghost use Rattle.std.specs.Prelude.{[], ◌++◌, ◌∷◌, length, slice_get, option_copied, OnErr};
+    ghost use Rattle.aql_value.specs.Lends.{lends_items};
 
     /// The empty list.
     pub fn new(alloc: Global) -> Seq<T>
@@ -89,6 +91,14 @@ impl<T> Seq<T> {
         ensures { result.now ≡ self.now }
     {
         self.items.as_slice()
+    }
+
+    /// The items, borrowed to be changed.
+    pub fn as_mut_slice(&mut self) -> &mut [T]
+        ensures* writes_back { sem 𝓛 (lends_items T.row self.entry result) }
+        ensures value { result.now ≡ self.old }
+    {
+        self.items.as_mut_slice()
     }
 
     /// Appends an item; where memory runs out the list stays as it was and the item is dropped.
