@@ -5,7 +5,7 @@ ghost use Rattle.aql_plan.specs.declared.facts.Facts.{Facts};
 ghost use Rattle.aql_plan.specs.Plan as spec;
 ghost use Rattle.aql_plan.specs.Fits.{Fits};
 ghost use Rattle.aql_plan.specs.View.{plan_tree};
-ghost use Rattle.aql_exec.specs.Operators.{within};
+ghost use Rattle.aql_exec.specs.Operators.{StartRow, NoRows, within};
 ghost use Rattle.aql_exec_graph.specs.Searches as graph;
 ghost use Rattle.aql_exec_plan.specs.EachFits.{EachFits, BodyFits};
 ghost use Rattle.aql_exec_plan.specs.OperatorsOf.{operators_of};
@@ -21,7 +21,7 @@ use aql_copy::{
     copy_aggregates, copy_colls, copy_expr, copy_into, copy_keys, copy_lets, copy_maybe,
     copy_maybe_texts,
 };
-use aql_exec::{Executor, Feed};
+use aql_exec::{Executor, Feed, Wired};
 use aql_exec_graph::Search;
 use aql_exec_scan::Reading;
 use aql_exec_tree::Tree;
@@ -30,22 +30,55 @@ use aql_value::OutOfMemory;
 use aql_world::World;
 use std::alloc::Global;
 
+/// Executors of which the tree of a plan is made. The tree is made of any such type, so its proof
+/// does not look into the executors.
+pub trait PlanExecutor: Wired<World> + Drop {
+    /// The executor of the start row.
+    fn start_row() -> Self
+        ensures { Self.node result ≡ StartRow };
+
+    /// The executor that gives no row.
+    fn no_results() -> Self
+        ensures { Self.node result ≡ NoRows };
+
+    /// The executor of the node at the top of a plan.
+    fn of_node(alloc: Global, plan: &Plan) -> Result<Self, OutOfMemory>
+        requires executor { HasExecutor (spec.top (plan_tree plan.now)) }
+        requires fits { (facts : Facts) × Fits facts (spec.top (plan_tree plan.now)) }
+        requires numbers { NodeSetsNumbers (spec.top (plan_tree plan.now)) }
+        ensures { IfOk result (λ x. Self.node x ≡ operator_of (spec.top (plan_tree plan.now))) };
+}
+
+impl PlanExecutor for NodeExecutor {
+    fn start_row() -> NodeExecutor {
+        start_row()
+    }
+
+    fn no_results() -> NodeExecutor {
+        no_results()
+    }
+
+    fn of_node(alloc: Global, plan: &Plan) -> Result<NodeExecutor, OutOfMemory> {
+        executor_of(alloc, plan)
+    }
+}
+
 /// The executors of a plan as one tree.
 #[cycle(tree)]
-pub fn tree_of(alloc: Global, plan: &Plan) -> Result<Tree<NodeExecutor>, OutOfMemory>
+pub fn tree_of<X: PlanExecutor>(alloc: Global, plan: &Plan) -> Result<Tree<X>, OutOfMemory>
     requires executors { HasExecutors (plan_tree plan.now) }
     requires fits { (facts : Facts) × EachFits facts (plan_tree plan.now) }
     requires numbers { SetsNumbers (plan_tree plan.now) }
-    ensures { IfOk result (λ t. (facts : Facts) → ⟦<Tree<NodeExecutor> as Feed<World>>⟧.plan t
+    ensures { IfOk result (λ t. (facts : Facts) → ⟦<Tree<X> as Feed<World>>⟧.plan t
         ≡ operators_of facts (plan_tree plan.now)) }
 {
     match plan.below() {
-        None => Ok(Tree::Leaf(start_row())),
+        None => Ok(Tree::Leaf(X::start_row())),
         Some(below) => {
             if is_no_results(plan) {
-                return Ok(Tree::Leaf(no_results()));
+                return Ok(Tree::Leaf(X::no_results()));
             }
-            let executor = executor_of(alloc, plan)?;
+            let executor = X::of_node(alloc, plan)?;
             let below = tree_of(alloc, below)?;
             let body = body_of(alloc, plan)?;
             with_body(alloc, executor, below, body)
@@ -55,16 +88,16 @@ pub fn tree_of(alloc: Global, plan: &Plan) -> Result<Tree<NodeExecutor>, OutOfMe
 
 // The tree of the body of a plan's top node. Where it has none, this is a leaf that never begins.
 #[cycle(tree)]
-fn body_of(alloc: Global, plan: &Plan) -> Result<Tree<NodeExecutor>, OutOfMemory>
+fn body_of<X: PlanExecutor>(alloc: Global, plan: &Plan) -> Result<Tree<X>, OutOfMemory>
     requires executors { HasExecutor (spec.top (plan_tree plan.now)) }
     requires fits { (facts : Facts) × BodyFits facts (spec.top (plan_tree plan.now)) }
     requires numbers { NodeSetsNumbers (spec.top (plan_tree plan.now)) }
-    ensures { IfOk result (λ t. (facts : Facts) → ⟦<Tree<NodeExecutor> as Feed<World>>⟧.plan t
+    ensures { IfOk result (λ t. (facts : Facts) → ⟦<Tree<X> as Feed<World>>⟧.plan t
         ≡ body_operators facts (spec.top (plan_tree plan.now))) }
 {
     match plan.body() {
         Some(body) => tree_of(alloc, body),
-        None => Ok(Tree::Leaf(no_results())),
+        None => Ok(Tree::Leaf(X::no_results())),
     }
 }
 
@@ -74,16 +107,14 @@ fn is_no_results(plan: &Plan) -> bool
     matches!(plan, Plan::NoResults { .. })
 }
 
-fn with_body(
+fn with_body<X: PlanExecutor>(
     alloc: Global,
-    executor: NodeExecutor,
-    below: Tree<NodeExecutor>,
-    body: Tree<NodeExecutor>,
-) -> Result<Tree<NodeExecutor>, OutOfMemory>
-    ensures { IfOk result (λ t. ⟦<Tree<NodeExecutor> as Feed<World>>⟧.plan t
-        ≡ within (⟦<NodeExecutor as Executor<World>>⟧.node executor)
-        (⟦<Tree<NodeExecutor> as Feed<World>>⟧.plan below)
-        (⟦<Tree<NodeExecutor> as Feed<World>>⟧.plan body)) }
+    executor: X,
+    below: Tree<X>,
+    body: Tree<X>,
+) -> Result<Tree<X>, OutOfMemory>
+    ensures { IfOk result (λ t. ⟦<Tree<X> as Feed<World>>⟧.plan t ≡ within (X.node executor)
+        (⟦<Tree<X> as Feed<World>>⟧.plan below) (⟦<Tree<X> as Feed<World>>⟧.plan body)) }
 {
     let below = Box::new(alloc, below)?;
     let body = Box::new(alloc, body)?;

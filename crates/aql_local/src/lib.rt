@@ -8,7 +8,7 @@ mod nodes;
 mod plans;
 mod results;
 
-pub use building::tree_of;
+pub use building::{PlanExecutor, tree_of};
 pub use local::Local;
 pub use nodes::NodeExecutor;
 pub use plans::run_plan;

@@ -6,13 +6,14 @@ ghost use Rattle.aql_exec_plan.specs.OperatorsOf.{operators_of};
 ghost use Rattle.aql_shard.specs.Held.{stock};
 ghost use Rattle.aql_engine.specs.Engine.{CanRun, IsRunOver};
 
-use crate::building::tree_of;
+use crate::building::{PlanExecutor, tree_of};
+use crate::nodes::NodeExecutor;
 use crate::results::results_of;
 use aql_block::{Row, Tally};
 use aql_doc::Catalog;
 use aql_engine::Ran;
 use aql_exec::{Delivers, Picker};
-use aql_exec_tree::run_feed;
+use aql_exec_tree::{Tree, run_feed};
 use aql_plan::Plan;
 use aql_shard::{Servers, split};
 use aql_value::OutOfMemory;
@@ -35,7 +36,24 @@ pub fn run_plan<P: Picker>(
     ensures run { IfOk result (λ ran. (ran.plan ≡ plan) × (ran.batch ≡ batch)
         × IsRunOver (stock servers.old) ran) }
 {
-    let mut tree = tree_of(alloc, &plan)?;
+    run_with::<NodeExecutor, P>(alloc, plan, servers, picker, batch)
+}
+
+// The same by executors of any such type.
+fn run_with<X: PlanExecutor, P: Picker>(
+    alloc: Global,
+    plan: Plan,
+    servers: &mut Servers,
+    picker: &mut P,
+    batch: u32,
+) -> Result<Ran, OutOfMemory>
+    requires plan { CanRun (stock servers.old) plan }
+    requires batch { (1 ≤ batch) × (batch ≤ 10000) }
+    ensures stock { stock servers.new ≡ stock servers.old }
+    ensures run { IfOk result (λ ran. (ran.plan ≡ plan) × (ran.batch ≡ batch)
+        × IsRunOver (stock servers.old) ran) }
+{
+    let mut tree: Tree<X> = tree_of(alloc, &plan)?;
     let none = split(alloc, Catalog::new(alloc), 0)?;
     let mut world = World::new(alloc, mem::replace(servers, none));
     let ran = run_operators(alloc, plan, &mut tree, &mut world, picker, batch);

@@ -10,27 +10,30 @@ use Rattle.aql_local.proofs.Trees.{node_operators, body_is, body_executors, body
 use Rattle.aql_local.proofs.building.+tree.Goals as goal
 
 pub body_of-tree_of-requires : goal.body_of-tree_of-requires
-body_of-tree_of-requires t c =
+body_of-tree_of-requires g t c κs within =
     let p = plan_tree c.args.plan.now in
     let s = plan_tree c.in-Some.body.now in
     let is = c.in-Some.ensures in
     let k : weight s + (weight s + 1) < weight p + weight p = omega (arith, body_lighter p s is) in (
       search (rules, k),
       (
-        body_executors (top p) s is c.requires.executors,
+        search rules,
         (
-          (c.requires.fits.0, body_fits c.requires.fits.0 (top p) s is c.requires.fits.1),
-          body_numbers (top p) s is c.requires.numbers,
+          body_executors (top p) s is c.requires.executors,
+          (
+            (c.requires.fits.0, body_fits c.requires.fits.0 (top p) s is c.requires.fits.1),
+            body_numbers (top p) s is c.requires.numbers,
+          ),
         ),
       ),
     )
 
 pub body_of-returns-in-Some : goal.body_of-returns-in-Some
-body_of-returns-in-Some t c = if_map c.tree_of.result c.tree_of.ensures (λ x h facts.
+body_of-returns-in-Some g t c = if_map c.tree_of.result c.tree_of.ensures (λ x h facts.
     h facts ∙ body_is facts (top (plan_tree c.args.plan.now)) (plan_tree c.in-Some.body.now) c.in-Some.ensures)
 
 pub tree_of-returns-in_ok-body-in-Some : goal.tree_of-returns-in_ok-body-in-Some
-tree_of-returns-in_ok-body-in-Some t c =
+tree_of-returns-in_ok-body-in-Some g t c =
     let p = plan_tree c.args.plan.now in
     let b = plan_tree c.in-Some.below.now in
     let is = c.in-Some.ensures in

@@ -4,7 +4,7 @@ use Rattle.aql_plan.specs.Nodes.{weight}
 use Rattle.aql_local.proofs.building.+tree.Given as goal
 
 abbrev pub decreases-tree_of : goal.decreases-tree_of
-decreases-tree_of l = weight (plan_tree l.plan.now) + (weight (plan_tree l.plan.now) + 1)
+decreases-tree_of g l = weight (plan_tree l.plan.now) + (weight (plan_tree l.plan.now) + 1)
 
 abbrev pub decreases-body_of : goal.decreases-body_of
-decreases-body_of l = weight (plan_tree l.plan.now) + weight (plan_tree l.plan.now)
+decreases-body_of g l = weight (plan_tree l.plan.now) + weight (plan_tree l.plan.now)

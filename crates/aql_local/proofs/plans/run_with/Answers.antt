@@ -2,7 +2,7 @@ use Rattle.aql_plan.specs.Shapes.{Result}
 use Rattle.aql_plan.specs.View.{plan_tree}
 use Rattle.aql_shard.specs.Held.{stock}
 use Rattle.aql_local.proofs.CanRun.{shaped_fits, sets_numbers}
-use Rattle.aql_local.proofs.plans.run_plan.Goals as goal
+use Rattle.aql_local.proofs.plans.run_with.Goals as goal
 
 pub tree_of-requires-clause-fits : goal.tree_of-requires-clause-fits
 tree_of-requires-clause-fits g c =
