@@ -1,6 +1,9 @@
 -- A variable is declared before a part, and a clause is lifted.
-use Rattle.std.proofs.Common.{◌≡◌, ◌∙◌, ℕ, suc, List, [], ◌∷◌, ◌++◌, map, refl, ap, subst, append_assoc, false}
+use Rattle.std.proofs.Common.{◌≡◌, ◌∙◌, ℕ, suc, List, [], ◌∷◌, ◌++◌, map, refl, sym, ap, subst, append_assoc, false}
+use Rattle.std.specs.Prelude.{OnOk, Result}
+use Rattle.aql_value.specs.declared.memory.OutOfMemory.{OutOfMemory}
 use Rattle.aql_tree.specs.declared.syntax.Clause.{Clause}
+use Rattle.aql_tree.specs.declared.syntax.Expr.{Expr}
 use Rattle.aql_tree.specs.declared.syntax.Ident.{Ident}
 use Rattle.aql_tree.specs.declared.syntax.Ident.TheVariants.{Num}
 use Rattle.aql_tree.specs.Tree.{ExprTree, variable, subquery, ClauseTree, for_each, let_be, ClauseTrees, no_clauses, clause_then}
@@ -9,8 +12,8 @@ use Rattle.aql_lift.specs.Numbering.{Numbering, text_of}
 use Rattle.aql_lift.specs.Lifting as spec
 use Rattle.aql_lift.specs.Lifting.{NumberedSubquery, Scoped, ScopedClause, over, declares, with_lets, append_clauses}
 use Rattle.aql_scope.specs.declared.numbers.Numbers.{Numbers}
-use Rattle.aql_scope.specs.Lifts.{Progress, progress, let_of}
-use Rattle.aql_scope.proofs.Turns.{progress_is, Given, before}
+use Rattle.aql_scope.specs.Lifts.{Progress, progress, let_of, Lifts, bound}
+use Rattle.aql_scope.proofs.Turns.{progress_is, Given, before, lifts_over}
 use Rattle.aql_scope.proofs.Forms.{is_variable, is_subquery}
 
 -- these names were said, and n is the next number
@@ -49,6 +52,38 @@ pub let_is : (outer own : Numbering) (n : ℕ) (x : Ident) (e : ExprTree) → is
     → spec.clause outer own n (let_be x e) ≡ let_other outer own n x e
 let_is outer own n x (subquery q) other = absurd (cc)
 let_is outer own n x e other = refl
+
+-- what was lifted of the variable and the expression was lifted of the clause
+module _ {A : Type 0} (outer own : Numbering) (x v : Ident) (e w : ExprTree) (p q : Progress)
+    (r : Result A OutOfMemory) (entered : Numbering)
+    (part : Lifts (v, w) (bound (own ++ outer) p.next x e) p r q) (own_is : OnOk r (entered ≡ (x, p.next) ∷ own))
+  where
+    pub for_lifted : is_variable e ≡ false
+        → Lifts (for_each v w) (spec.clause outer own p.next (for_each x e)).clause p r q
+        × OnOk r (entered ≡ (spec.clause outer own p.next (for_each x e)).own)
+    for_lifted other =
+        subst (λ (k : ScopedClause). Lifts (for_each v w) k.clause p r q × OnOk r (entered ≡ k.own))
+        (sym (for_is outer own p.next x e other)) (
+          lifts_over (λ (b : Ident × ExprTree). for_each b.0 b.1) (bound (own ++ outer) p.next x e) (v, w) p q r part,
+          own_is,
+        )
+
+    pub let_lifted : is_subquery e ≡ false
+        → Lifts (let_be v w) (spec.clause outer own p.next (let_be x e)).clause p r q
+        × OnOk r (entered ≡ (spec.clause outer own p.next (let_be x e)).own)
+    let_lifted other =
+        subst (λ (k : ScopedClause). Lifts (let_be v w) k.clause p r q × OnOk r (entered ≡ k.own))
+        (sym (let_is outer own p.next x e other)) (
+          lifts_over (λ (b : Ident × ExprTree). let_be b.0 b.1) (bound (own ++ outer) p.next x e) (v, w) p q r part,
+          own_is,
+        )
+
+-- the same part by its values in the code
+pub bound_same : {A T : Type 0} {x y : Ident} {e f : Expr} (t : T) (make : Ident → Expr → Scoped T)
+    (p q : Progress) (r : Result A OutOfMemory) → x ≡ y → e ≡ f → Lifts t (make x e) p r q
+    → Lifts t (make y f) p r q
+bound_same {y = y} {e = e} t make p q r x_is e_is h =
+    subst (λ b. Lifts t (make y b) p r q) e_is (subst (λ a. Lifts t (make a e) p r q) x_is h)
 
 -- ---- the clauses of a query, with their LETs
 

@@ -1,10 +1,13 @@
 -- One part is lifted after another: what each leaves is what the whole leaves.
-use Rattle.std.proofs.Common.{◌≡◌, ◌∙◌, ℕ, suc, ◌+◌, ◌<◌, ◌≤◌, List, [], ◌∷◌, ◌++◌, length, get_or, drop, map, refl, sym, ap, ap₂, subst, append_assoc, append-nil, add-one}
-use Rattle.std.proofs.Math.Seq.{drop-cons}
-use Rattle.std.proofs.lemmas.List.{map-append, drop_all}
+use Rattle.std.proofs.Common.{◌≡◌, ◌∙◌, ℕ, suc, ◌+◌, ◌<◌, ◌≤◌, List, [], ◌∷◌, ◌++◌, length, get_or, set, drop, take, map, refl, arith, ◌≢◌, sym, ap, ap₂, subst, append_assoc, append-nil, add-one}
+use Rattle.std.specs.Prelude.{Result, Ok, Err}
+use Rattle.std.specs.List.{refill}
+use Rattle.std.proofs.Math.Seq.{drop-cons, take-append_seam}
+use Rattle.std.proofs.lemmas.List.{map-append, drop_all, get_or-set_other, length-set, take_all, take_more_set}
+use Rattle.aql_value.specs.declared.memory.OutOfMemory.{OutOfMemory}
 use Rattle.aql_tree.specs.Tree.{ClauseTree}
 use Rattle.aql_lift.specs.Lifting.{NumberedSubquery, Scoped, as_it_is, over, both, three}
-use Rattle.aql_scope.specs.Lifts.{Progress, let_of, after}
+use Rattle.aql_scope.specs.Lifts.{Progress, let_of, after, Lifts}
 
 pub progress_is : (cs ds : List ClauseTree) (said more : List (List ℕ)) (n m : ℕ) → cs ≡ ds → said ≡ more → n ≡ m
     → ◌≡◌ {A = Progress} (record { clauses = cs; said = said; next = n })
@@ -49,25 +52,21 @@ three_both h s t u = scoped_is _ _ _ _ _ _ (sym (append_assoc s.subqueries t.sub
 abbrev pub Given : {T : Type 0} → T → Scoped T → Progress → Progress → Type 0
 Given a s before then = (a ≡ s.tree) × (then ≡ after s before)
 
--- the parts s and then t, which goes on at the next number
-pub both_given : {S T U : Type 0} (h : S → T → U) (s : Scoped S) (t : ℕ → Scoped T) (a : S) (b : T)
-    (p q r : Progress)
-    → Given a s p q → Given b (t q.next) q r → Given (h a b) (both h s (t s.next)) p r
-both_given h s t a b p q r g k = by (subst (λ (x : Progress). Given b (t x.next) x r) g.1 k) where
-  by : Given b (t s.next) (after s p) r → Given (h a b) (both h s (t s.next)) p r
-  by k = (ap₂ h g.0 k.0, k.1 ∙ after_both h s (t s.next) p)
-
-pub three_given : {S T U V : Type 0} (h : S → T → U → V) (s : Scoped S) (t : ℕ → Scoped T) (u : ℕ → Scoped U)
-    (a : S) (b : T) (c : U) (p q r l : Progress) → Given a s p q → Given b (t q.next) q r
-    → Given c (u r.next) r l → Given (h a b c) (three h s (t s.next) (u (t s.next).next)) p l
-three_given {S} {T} h s t u a b c p q r l g k m =
-    subst (λ x. Given (h a b c) x p l) (sym (three_both h s (t s.next) (u (t s.next).next)))
-    (both_given (λ (d : S × T) e. h d.0 d.1 e) (both pair s (t s.next)) u (a, b) c p r l
-    (both_given pair s t a b p q r g k) m)
-
 pub over_given : {S T : Type 0} (h : S → T) (s : Scoped S) (a : S) (p q : Progress) → Given a s p q
     → Given (h a) (over h s) p q
 over_given h s a p q g = (ap h g.0, g.1)
+
+-- ---- the same for a call at the end, which may run out of memory
+
+module _ {A : Type 0} (p l : Progress) (r : Result A OutOfMemory) where
+  pub lifts_as : {T : Type 0} {t u : T} {s v : Scoped T} → t ≡ u → s ≡ v → Lifts u v p r l → Lifts t s p r l
+  lifts_as {u = u} {s = s} e f h =
+      subst (λ x. Lifts x s p r l) (sym e) (subst (λ x. Lifts u x p r l) (sym f) h)
+
+pub lifts_over : {A S T : Type 0} (h : S → T) (s : Scoped S) (a : S) (p l : Progress) (r : Result A OutOfMemory)
+    → Lifts a s p r l → Lifts (h a) (over h s) p r l
+lifts_over h s a p l (Ok u) g = over_given h s a p l g
+lifts_over h s a p l (Err e) g = tt
 
 -- ---- lists
 
@@ -132,3 +131,55 @@ module _ {X A T : Type 0} {part : X → A} {cons : A → T → T} {rest : ℕ �
     ) where
       none : rest now.next (map part (drop i all)) ≡ as_it_is e now.next
       none = ap (λ xs. rest now.next (map part xs)) (drop_all i all past) ∙ ends
+
+-- ---- lists that are lifted where they stand
+
+-- the items from i on are those of the list `all`
+abbrev pub Unvisited : {X : Type 0} → List X → ℕ → List X → Type 0
+Unvisited {X} all i items =
+    (length items ≡ length all) × ((k : ℕ) (d : X) → i ≤ k → get_or items k d ≡ get_or all k d)
+
+module _ {X : Type 0} (all : List X) (i : ℕ) (items : List X) (ahead : Unvisited all i items) where
+  -- the item at hand is that of the list
+  pub same_item : (d : X) → d ≡ get_or items i d → get_or items i d ≡ get_or all i (get_or items i d)
+  same_item d is = subst (λ z. get_or items i d ≡ get_or all i z) is (ahead.1 i d (omega arith))
+
+  pub one_further : (y : X) → Unvisited all (i + 1) (set items i y)
+  one_further y = (
+    length-set items i y ∙ ahead.0,
+    λ k d h. let other : k ≢ i = omega arith in get_or-set_other items i k y d other ∙ ahead.1 k d (omega arith),
+  )
+
+  pub refilled : refill (length all) all items ≡ items
+  refilled = ap (λ n. take n (items ++ drop (length items) all)) (sym ahead.0) ∙ take-append_seam items _
+
+module _ {X A T : Type 0} {part : X → A} {cons : A → T → T} {rest : ℕ → List A → Scoped T} {all : List X}
+    {from : Progress} {i : ℕ} {now : Progress} (items : List X) (start : List X)
+    (goes : Goes part cons rest all from i (take i items) now) (ahead : Unvisited all i items) (began : start ≡ all)
+  where
+    -- one more was lifted where it stands
+    pub turn_there : {S : Type 0} {then : Progress} (d y : X) (s : Scoped S) (h : S → T → T)
+        → i < length start → d ≡ get_or items i d
+        → ((more : List A) → rest now.next (part (get_or items i d) ∷ more) ≡ both h s (rest s.next more))
+        → ((t : T) → h s.tree t ≡ cons (part y) t) → then ≡ after s now
+        → Goes part cons rest all from (i + 1) (take (i + 1) (set items i y)) then
+        × Unvisited all (i + 1) (set items i y)
+    turn_there d y s h lt is step lifted e = (
+      turn goes s h inside (same_item all i items ahead d is)
+          (take_more_set items i y (subst (λ n. i < n) (sym ahead.0) inside)) step lifted e,
+      one_further all i items ahead y,
+    ) where
+      inside : i < length all
+      inside = subst (λ xs. i < length xs) began lt
+
+    -- all were lifted
+    pub finish_there : {d : List X → T} (e : T) → length start ≤ i → rest now.next [] ≡ as_it_is e now.next
+        → ((xs : List X) → before cons (map part xs) e ≡ d xs)
+        → Given (d (refill (length all) all items)) (rest from.next (map part all)) from now
+    finish_there {d = d} e past ends is =
+        subst (λ xs. Given (d xs) (rest from.next (map part all)) from now)
+        (take_all i items (subst (λ n. n ≤ i) (sym ahead.0) end) ∙ sym (refilled all i items ahead))
+        (finish goes e end ends (is (take i items)))
+      where
+        end : length all ≤ i
+        end = subst (λ xs. length xs ≤ i) began past

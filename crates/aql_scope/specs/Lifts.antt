@@ -1,14 +1,15 @@
 -- What a function of the program answers that lifts a part of a query, by the words of the definition. Memory
 -- may run out at any time.
-use Rattle.std.specs.Prelude.{ℕ, ◌≡◌, List, ◌++◌, map, Option, Some, None, Result, Ok, Err, OnOk}
+use Rattle.std.specs.Prelude.{ℕ, suc, ◌≡◌, List, [], ◌∷◌, ◌++◌, map, Option, Some, None, Result, Ok, Err, OnOk}
 use Rattle.aql_value.specs.declared.memory.OutOfMemory.{OutOfMemory}
 use Rattle.aql_tree.specs.declared.syntax.Clause.{Clause}
+use Rattle.aql_tree.specs.declared.syntax.Ident.{Ident}
 use Rattle.aql_tree.specs.declared.syntax.Ident.TheVariants.{Num}
 use Rattle.aql_tree.specs.Tree.{ExprTree, MaybeExpr, no_expr, one_expr, ClauseTree, let_be, subquery, QueryTree, MemberTrees, named_then, computed_then, StepTrees, name_then, at_then, inline_then}
 use Rattle.aql_tree.specs.View as view
 use Rattle.aql_tree.specs.View.{clause_tree, MemberPart, named, computed, StepPart}
 use Rattle.aql_lift.specs.Numbering.{Numbering}
-use Rattle.aql_lift.specs.Lifting.{NumberedSubquery, Scoped, as_it_is, over, both, expr, maybe, clause}
+use Rattle.aql_lift.specs.Lifting.{NumberedSubquery, Scoped, as_it_is, over, both, declares, expr, maybe, clause}
 use Rattle.aql_scope.specs.declared.names.Scope.{Scope}
 use Rattle.aql_scope.specs.declared.numbers.Numbers.{Numbers}
 use Rattle.aql_scope.specs.declared.numbers.Walk.{Walk}
@@ -42,6 +43,11 @@ one_step names n (view.inline filter gives) =
     both (λ (a b : MaybeExpr). view.inline (option_of a) (option_of b)) s
     (maybe names s.next (view.maybe gives))
 
+-- the variable of FOR or LET, and its expression, in which it is not visible
+abbrev pub bound : Numbering → ℕ → Ident → ExprTree → Scoped (Ident × ExprTree)
+bound names n x e = declares (x ∷ []) (over (λ (f : ExprTree). let b : Ident × ExprTree = (Num n, f) in b)
+    (expr names (suc n) e))
+
 -- the LET of a subquery that was taken out
 abbrev pub let_of : NumberedSubquery → ClauseTree
 let_of t = let_be (Num t.0) (subquery t.1)
@@ -65,26 +71,26 @@ after s p = record {
   next = s.next;
 }
 
--- the part s was lifted, where f tells the tree of the answer
-abbrev pub Lifts : {A T : Type 0} → (A → T) → Scoped T → Progress → Result A OutOfMemory → Progress → Type 0
-Lifts f s before (Ok a) then = (f a ≡ s.tree) × (then ≡ after s before)
-Lifts f s before (Err e) then = Unit {0}
+-- the part s was lifted, and is t now
+abbrev pub Lifts : {A T : Type 0} → T → Scoped T → Progress → Result A OutOfMemory → Progress → Type 0
+Lifts t s before (Ok a) then = (t ≡ s.tree) × (then ≡ after s before)
+Lifts t s before (Err e) then = Unit {0}
 
 -- the part was lifted that s gives from the next number on
-abbrev pub Walks : {A T : Type 0} → Walk → Result A OutOfMemory → Walk → (A → T) → (ℕ → Scoped T) → Type 0
-Walks before r then f s = Lifts f (s before.numbers.next) (progress before.lets before.numbers) r
+abbrev pub Walks : {A T : Type 0} → Walk → Result A OutOfMemory → Walk → T → (ℕ → Scoped T) → Type 0
+Walks before r then t s = Lifts t (s before.numbers.next) (progress before.lets before.numbers) r
     (progress then.lets then.numbers)
 
--- a clause was lifted, and the scope has the query's own names after it
-abbrev pub LiftsClause : Scope → Walk → Result Clause OutOfMemory → Scope → Walk → ClauseTree → Type 0
-LiftsClause s before r s' then c =
-    Walks before r then clause_tree (λ n. (clause s.outer s.own n c).clause)
+-- a clause was lifted and is d now, and the scope has the query's own names after it
+abbrev pub LiftsClause : {A : Type 0} → Scope → Walk → Result A OutOfMemory → Scope → Walk → ClauseTree → ClauseTree
+    → Type 0
+LiftsClause s before r s' then c d =
+    Walks before r then d (λ n. (clause s.outer s.own n c).clause)
     × OnOk r (s'.own ≡ (clause s.outer s.own before.numbers.next c).own)
     × (s'.outer ≡ s.outer)
 
--- a query was lifted, which has its own LETs
-abbrev pub LiftsQuery : {A : Type 0} → (A → QueryTree) → Scoped QueryTree → Numbers
-    → Result A OutOfMemory → Numbers → Type 0
-LiftsQuery f s before (Ok a) then =
-    (f a ≡ s.tree) × (then.said ≡ before.said ++ s.said) × (then.next ≡ s.next)
-LiftsQuery f s before (Err e) then = Unit {0}
+-- a query was lifted, which has its own LETs, and is q now
+abbrev pub LiftsQuery : {A : Type 0} → Scoped QueryTree → Numbers → Result A OutOfMemory → Numbers → QueryTree
+    → Type 0
+LiftsQuery s before (Ok a) then q = (q ≡ s.tree) × (then.said ≡ before.said ++ s.said) × (then.next ≡ s.next)
+LiftsQuery s before (Err e) then q = Unit {0}

@@ -1,11 +1,11 @@
-//! COLLECT of a lifted query.
+//! COLLECT is lifted.
 
-ghost use Rattle.std.specs.Prelude.{◌≡◌, [], ◌∷◌, Some, map, option_map, option_to_list, IfOk, OnOk};
+ghost use Rattle.std.specs.Prelude.{◌≡◌, map, option_map, option_to_list, IfOk, OnOk};
 ghost use Rattle.aql_tree.specs.Tree.{object_literal};
-ghost use Rattle.aql_tree.specs.View.{tree, trees, members, aggregates, into_tree, named, clause_tree};
+ghost use Rattle.aql_tree.specs.View.{tree, trees, members, aggregates, into_tree, named};
 ghost use Rattle.aql_tree.specs.View.{member_part, let_part, aggregate_part, into_part};
 ghost use Rattle.aql_tree.specs.View.{collect_part, collect_clause};
-ghost use Rattle.aql_tree.specs.declared.syntax.Ident.TheVariants.{Name, Num};
+ghost use Rattle.aql_tree.specs.declared.syntax.Ident.TheVariants.{Name};
 ghost use Rattle.aql_meaning.specs.Groups.{into_names};
 ghost use Rattle.aql_meaning.specs.Visible.{aggregate_vars, into_var};
 ghost use Rattle.aql_lift.specs.Numbering.{number_of, numbered_variable, idents, enter, variable_members};
@@ -16,110 +16,92 @@ use crate::Made;
 use crate::lift_exprs::{lift_expr, lift_maybe, numbered};
 use crate::names::{NameList, Scope};
 use crate::numbers::Walk;
-use aql_tree::{
-    AggregateItem, Aggregates, Clause, Collect, Expr, Field, Fields, Ident, Into, Let, Lets,
-};
+use aql_tree::{Aggregates, Collect, Expr, Field, Fields, Ident, Into, Lets};
 use aql_value::{Seq, Text};
 use std::alloc::Global;
+use std::mem;
 
 /// COLLECT: after it only its own names are left.
 #[cycle(lift)]
-pub fn lift_collect(collect: &Collect, scope: &mut Scope, walk: &mut Walk) -> Made<Clause>
+pub fn lift_collect(collect: &mut Collect, scope: &mut Scope, walk: &mut Walk) -> Made<()>
     ensures { LiftsClause scope.old walk.old result scope.new walk.new
-        (collect_clause (collect_part collect.now)) }
+        (collect_clause (collect_part collect.old)) (collect_clause (collect_part collect.new)) }
 {
     let mut own = NameList::new(walk.numbers.alloc);
-    let groups = lift_criteria(collect.groups.as_slice(), scope, &mut own, walk)?;
-    let found = lift_aggregates(collect.aggregates.as_slice(), scope, &mut own, walk)?;
-    let into = lift_into(&collect.into, scope, &mut own, walk)?;
+    lift_criteria(&mut collect.groups, scope, &mut own, walk)?;
+    lift_aggregates(&mut collect.aggregates, scope, &mut own, walk)?;
+    lift_into(&mut collect.into, scope, &mut own, walk)?;
     scope.own = own;
-    Ok(Clause::collect(groups, found, into))
+    Ok(())
 }
 
 #[cycle(lift)]
-fn lift_criteria(groups: &[Let], scope: &Scope, own: &mut NameList, walk: &mut Walk) -> Made<Lets>
+fn lift_criteria(groups: &mut Lets, scope: &Scope, own: &mut NameList, walk: &mut Walk) -> Made<()>
     ensures criteria { Walks walk.old result walk.new
-        (λ ls. (map (λ l. l.0) (map let_part ls), trees (map (λ l. l.1) (map let_part ls))))
-        (λ n. spec.criteria (visible scope.now) n (map (λ l. l.0) (map let_part groups.now))
-        (trees (map (λ l. l.1) (map let_part groups.now)))) }
-    ensures own { OnOk result (own.new ≡ enter (map (λ l. l.0) (map let_part groups.now))
+        (map (λ l. l.0) (map let_part groups.new), trees (map (λ l. l.1) (map let_part groups.new)))
+        (λ n. spec.criteria (visible scope.now) n (map (λ l. l.0) (map let_part groups.old))
+        (trees (map (λ l. l.1) (map let_part groups.old)))) }
+    ensures own { OnOk result (own.new ≡ enter (map (λ l. l.0) (map let_part groups.old))
         (spec.criteria (visible scope.now) walk.old.numbers.next
-        (map (λ l. l.0) (map let_part groups.now))
-        (trees (map (λ l. l.1) (map let_part groups.now)))).tree.0 own.old) }
+        (map (λ l. l.0) (map let_part groups.old))
+        (trees (map (λ l. l.1) (map let_part groups.old)))).tree.0 own.old) }
 {
-    let mut done = Seq::new(walk.numbers.alloc);
-    for group in groups {
-        let number = walk.numbers.enter(&group.var, own)?;
-        done.push(Let {
-            var: Ident::Num(number),
-            expr: lift_expr(&group.expr, scope, walk)?,
-        })?;
+    let items = groups.as_mut_slice();
+    for group in items.iter_mut() {
+        walk.numbers.enter(&mut group.var, own)?;
+        lift_expr(&mut group.expr, scope, walk)?;
     }
-    Ok(done)
+    Ok(())
 }
 
 #[cycle(lift)]
 fn lift_aggregates(
-    all: &[AggregateItem],
+    all: &mut Aggregates,
     scope: &Scope,
     own: &mut NameList,
     walk: &mut Walk,
-) -> Made<Aggregates>
-    ensures aggregates { Walks walk.old result walk.new (λ gs. aggregates (map aggregate_part gs))
-        (λ n. spec.aggregates (visible scope.now) n (aggregates (map aggregate_part all.now))) }
+) -> Made<()>
+    ensures aggregates { Walks walk.old result walk.new (aggregates (map aggregate_part all.new))
+        (λ n. spec.aggregates (visible scope.now) n (aggregates (map aggregate_part all.old))) }
     ensures own { OnOk result
-        (own.new ≡ enter (aggregate_vars (aggregates (map aggregate_part all.now)))
+        (own.new ≡ enter (aggregate_vars (aggregates (map aggregate_part all.old)))
         (aggregate_vars (spec.aggregates (visible scope.now) walk.old.numbers.next
-        (aggregates (map aggregate_part all.now))).tree) own.old) }
+        (aggregates (map aggregate_part all.old))).tree) own.old) }
 {
-    let mut done = Seq::new(walk.numbers.alloc);
-    for item in all {
-        let number = walk.numbers.enter(&item.var, own)?;
-        done.push(AggregateItem {
-            var: Ident::Num(number),
-            name: item.name.copy(walk.numbers.alloc)?,
-            arg: lift_maybe(&item.arg, scope, walk)?,
-        })?;
+    let items = all.as_mut_slice();
+    for item in items.iter_mut() {
+        walk.numbers.enter(&mut item.var, own)?;
+        lift_maybe(&mut item.arg, scope, walk)?;
     }
-    Ok(done)
+    Ok(())
 }
 
 // INTO, always with its expression.
 #[cycle(lift)]
 fn lift_into(
-    into: &Option<Into>,
+    into: &mut Option<Into>,
     scope: &Scope,
     own: &mut NameList,
     walk: &mut Walk,
-) -> Made<Option<Into>>
-    ensures into { Walks walk.old result walk.new (λ i. into_tree (option_map into_part i))
+) -> Made<()>
+    ensures into { Walks walk.old result walk.new (into_tree (option_map into_part into.new))
         (λ n. spec.into_part scope.now.own (visible scope.now) n (into_tree
-        (option_map into_part into.now))) }
+        (option_map into_part into.old))) }
     ensures own { OnOk result
-        (own.new ≡ enter (option_to_list (into_var (into_tree (option_map into_part into.now))))
+        (own.new ≡ enter (option_to_list (into_var (into_tree (option_map into_part into.old))))
         (option_to_list (into_var (spec.into_part scope.now.own (visible scope.now)
-        walk.old.numbers.next (into_tree (option_map into_part into.now))).tree)) own.old) }
+        walk.old.numbers.next (into_tree (option_map into_part into.old))).tree)) own.old) }
 {
     let Some(into) = into else {
-        return Ok(None);
+        return Ok(());
     };
-    let number = walk.numbers.enter(&into.var, own)?;
-    match &into.what {
-        Some(what) => {
-            let what = lift_expr(what, scope, walk)?;
-            Ok(Some(into_with(what, number, walk.numbers.alloc)))
-        }
-        None => {
-            let what = variables_object(into.keep.as_slice(), scope, walk.numbers.alloc)?;
-            Ok(Some(into_with(what, number, walk.numbers.alloc)))
-        }
+    walk.numbers.enter(&mut into.var, own)?;
+    let keep = mem::replace(&mut into.keep, Seq::new(walk.numbers.alloc));
+    if let Some(what) = &mut into.what {
+        return lift_expr(what, scope, walk);
     }
-}
-
-fn into_with(what: Expr, number: u32, alloc: Global) -> Into
-    ensures { into_part result ≡ (Num number, Some (tree what), []) }
-{
-    Into::new(Ident::Num(number), Some(what), Seq::new(alloc))
+    into.what = Some(variables_object(keep.as_slice(), scope, walk.numbers.alloc)?);
+    Ok(())
 }
 
 // What INTO takes without an expression: the object of the query's own variables, or of those that

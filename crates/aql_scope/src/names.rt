@@ -2,6 +2,7 @@
 
 ghost use Rattle.std.specs.Prelude.{◌≡◌, [], ◌∷◌, ◌++◌, suc, length, reverse, IfOk, OnOk};
 ghost use Rattle.aql_lift.specs.Numbering.{number_of, idents, text_of};
+ghost use Rattle.aql_tree.specs.declared.syntax.Ident.TheVariants.{Num};
 ghost use Rattle.aql_meaning.specs.Row.{same_ident};
 ghost use Rattle.aql_scope.specs.Faults.{is_among, inline};
 ghost use Rattle.aql_scope.specs.Places.{place, place_within};
@@ -14,6 +15,7 @@ use aql_tree::Ident;
 use aql_value::{Names, Text};
 use std::alloc::Global;
 use std::marker::Model;
+use std::mem;
 
 /// Names with their numbers. Contracts see the latest first.
 pub struct NameList {
@@ -126,6 +128,16 @@ impl NameList {
         ensures { OnOk result (self.new ≡ (ident.now, number) ∷ self.old) }
     {
         self.items.push((copy_ident(alloc, ident)?, number))?;
+        Ok(())
+    }
+
+    /// Gives a variable this number, and puts its name before these.
+    pub fn number(&mut self, ident: &mut Ident, number: u32) -> Made<()>
+        ensures ident { ident.new ≡ Num number }
+        ensures names { OnOk result (self.new ≡ (ident.old, number) ∷ self.old) }
+    {
+        let name = mem::replace(ident, Ident::Num(number));
+        self.items.push((name, number))?;
         Ok(())
     }
 

@@ -1,6 +1,7 @@
 //! The numbers of variables.
 
-ghost use Rattle.std.specs.Prelude.{◌≡◌, [], ◌∷◌, ◌++◌, suc, IfOk, OnOk};
+ghost use Rattle.std.specs.Prelude.{◌≡◌, [], ◌∷◌, ◌++◌, suc, codes, IfOk, OnOk};
+ghost use Rattle.aql_tree.specs.declared.syntax.Ident.TheVariants.{Num};
 ghost use Rattle.aql_lift.specs.Numbering.{text_of};
 
 use crate::Made;
@@ -64,15 +65,24 @@ impl Numbers {
         self.take(name)
     }
 
-    /// The same, and puts the variable before these names.
-    pub fn enter(&mut self, ident: &Ident, names: &mut NameList) -> Made<u32>
-        ensures number { IfOk result (λ n. n ≡ self.old.next) }
+    /// Gives a variable the next number, and puts its name before these names.
+    pub fn enter(&mut self, ident: &mut Ident, names: &mut NameList) -> Made<()>
+        ensures ident { OnOk result (ident.new ≡ Num self.old.next) }
         ensures next { OnOk result (self.new.next ≡ suc self.old.next) }
-        ensures said { OnOk result (self.new.said ≡ self.old.said ++ text_of ident.now ∷ []) }
-        ensures names { OnOk result (names.new ≡ (ident.now, self.old.next) ∷ names.old) }
+        ensures said { OnOk result (self.new.said ≡ self.old.said ++ text_of ident.old ∷ []) }
+        ensures names { OnOk result (names.new ≡ (ident.old, self.old.next) ∷ names.old) }
     {
         let number = self.declare(ident)?;
-        names.enter(self.alloc, ident, number)?;
-        Ok(number)
+        names.number(ident, number)
+    }
+
+    /// Takes the next number for the variable of a subquery that is taken out.
+    pub fn subquery(&mut self) -> Made<u32>
+        ensures number { IfOk result (λ n. n ≡ self.old.next) }
+        ensures next { OnOk result (self.new.next ≡ suc self.old.next) }
+        ensures said { OnOk result (self.new.said ≡ self.old.said ++ codes "sub" ∷ []) }
+    {
+        let name = Text::new(self.alloc, "sub")?;
+        self.take(name)
     }
 }

@@ -52,18 +52,19 @@ pub fn first_fault(
 /// The query with numbers for its variables, and with each subquery that is not the whole right
 /// side of a LET in a LET of its own before its clause (AQL fundamentals, Subqueries). It takes
 /// every query: a name that is not visible becomes null, or after IN a collection.
-pub fn lift(query: &Query, alloc: Global) -> Result<Scoped, OutOfMemory>
+pub fn lift(query: Query, alloc: Global) -> Result<Scoped, OutOfMemory>
     ensures query { IfOk result
-        (λ s. query_tree s.query ≡ (scope_query [] 1 (query_tree query.now)).tree) }
-    ensures names { IfOk result (λ s. s.names ≡ (scope_query [] 1 (query_tree query.now)).said) }
+        (λ s. query_tree s.query ≡ (scope_query [] 1 (query_tree query)).tree) }
+    ensures names { IfOk result (λ s. s.names ≡ (scope_query [] 1 (query_tree query)).said) }
 {
+    let mut query = query;
     let mut walk = Walk {
         numbers: Numbers::from(alloc, 1),
         lets: Seq::new(alloc),
     };
-    let lifted = lift_query(query, &Scope::nothing(alloc), &mut walk)?;
+    lift_query(&mut query, &Scope::nothing(alloc), &mut walk)?;
     Ok(Scoped {
-        query: lifted,
+        query,
         names: walk.numbers.said,
     })
 }
@@ -85,6 +86,6 @@ pub fn scope(alloc: Global, query: Query, catalog: &Catalog) -> Result<Scoped, S
 {
     match first_fault(&query, catalog, alloc)? {
         Some(fault) => Err(fault),
-        None => Ok(lift(&query, alloc)?),
+        None => Ok(lift(query, alloc)?),
     }
 }
