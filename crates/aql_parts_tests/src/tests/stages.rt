@@ -8,13 +8,25 @@ use aql_meaning::Stage;
 use aql_value::{Items, OutOfMemory, Value, copy, from_json_line};
 use std::alloc::Global;
 
-// What a stage of an aggregate makes of these values.
-fn made(alloc: Global, aggregate: StagedKind, values: &[Value]) -> Result<Value, OutOfMemory> {
-    let mut kept = StagedAccumulator::new(alloc, aggregate);
+fn add_all(
+    alloc: Global,
+    kept: &mut StagedAccumulator,
+    values: &[Value],
+) -> Result<(), OutOfMemory> {
     for value in values {
         kept.add(alloc, value)?;
     }
-    kept.finish(alloc)
+    Ok(())
+}
+
+// What a stage of an aggregate makes of these values. The accumulator is finished in either case,
+// so that no way out lets it go.
+fn made(alloc: Global, aggregate: StagedKind, values: &[Value]) -> Result<Value, OutOfMemory> {
+    let mut kept = StagedAccumulator::new(alloc, aggregate);
+    let added = add_all(alloc, &mut kept, values);
+    let value = kept.finish(alloc)?;
+    added?;
+    Ok(value)
 }
 
 fn add_copies(alloc: Global, values: &[Value], all: &mut Items) -> Result<(), OutOfMemory> {
