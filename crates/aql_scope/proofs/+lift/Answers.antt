@@ -9,6 +9,10 @@ use Rattle.aql_tree.specs.declared.syntax.Into.{roll-Into}
 use Rattle.aql_tree.specs.declared.syntax.Collect.{the_lemmas as collect_lemmas}
 use Rattle.aql_tree.specs.declared.syntax.Traversal.{the_lemmas as traversal_lemmas}
 use Rattle.aql_tree.specs.declared.syntax.Expr.{the_lemmas}
+use Rattle.aql_tree.specs.declared.syntax.Clause.{the_lemmas as clause_lemmas}
+use Rattle.aql_tree.specs.declared.syntax.Step.{the_lemmas as step_lemmas}
+use Rattle.aql_tree.specs.declared.syntax.Field.{the_lemmas as field_lemmas}
+use Rattle.aql_tree.specs.declared.syntax.Into.{the_lemmas as into_lemmas}
 use Rattle.aql_tree.specs.declared.syntax.Ident.TheVariants.{Num}
 use Rattle.aql_tree.specs.Tree.{expr_then, no_exprs, no_members, no_steps, no_links, no_aggregates, link_then, for_each, let_be, subquery, query, into, one_expr}
 use Rattle.aql_tree.specs.View.{tree, trees, links, clauses, maybe, clause_tree, query_tree, member_part, step_part, link_part, key_part, let_part, aggregate_part, into_part, into_tree}
@@ -346,10 +350,79 @@ lift_clauses::lift_let-returns-in_default t c =
     c.lift_bound.ensures.own (no_query c.args.expr.now c.in_default.not-Sub) in
     (h.0, h.1, c.lift_bound.ensures.outer)
 
--- With no answer the search is tried first, in vain, and these two take some seven seconds more each.
+-- With no answer the search is tried first, in vain, and these take half a minute more.
 
 pub lift_traversals::lift_traversal-returns : goal.lift_traversals::lift_traversal-returns
 lift_traversals::lift_traversal-returns t c = grind (arith, common_steps, traversal_lemmas)
 
 pub lift_collect::lift_collect-returns : goal.lift_collect::lift_collect-returns
 lift_collect::lift_collect-returns t c = grind (arith, common_steps, collect_lemmas)
+
+pub lift_exprs::lift_expr-returns-in-Var : goal.lift_exprs::lift_expr-returns-in-Var
+lift_exprs::lift_expr-returns-in-Var t c = grind (arith, common_steps, the_lemmas)
+
+pub lift_exprs::lift_expr-returns-in-List : goal.lift_exprs::lift_expr-returns-in-List
+lift_exprs::lift_expr-returns-in-List t c = grind (arith, common_steps, the_lemmas)
+
+pub lift_exprs::lift_expr-returns-in-Object : goal.lift_exprs::lift_expr-returns-in-Object
+lift_exprs::lift_expr-returns-in-Object t c = grind (arith, common_steps, the_lemmas)
+
+pub lift_exprs::lift_expr-returns-in-Call : goal.lift_exprs::lift_expr-returns-in-Call
+lift_exprs::lift_expr-returns-in-Call t c = grind (arith, common_steps, the_lemmas)
+
+pub lift_exprs::lift_expr-returns-in-Unary : goal.lift_exprs::lift_expr-returns-in-Unary
+lift_exprs::lift_expr-returns-in-Unary t c = grind (arith, common_steps, the_lemmas)
+
+pub lift_exprs::lift_expr-returns-in_ok-lift_boxed-in-Access : goal.lift_exprs::lift_expr-returns-in_ok-lift_boxed-in-Access
+lift_exprs::lift_expr-returns-in_ok-lift_boxed-in-Access t c = grind (arith, common_steps, the_lemmas)
+
+pub lift_exprs::lift_expr-returns-in_ok-lift_boxed-in-Chain : goal.lift_exprs::lift_expr-returns-in_ok-lift_boxed-in-Chain
+lift_exprs::lift_expr-returns-in_ok-lift_boxed-in-Chain t c = grind (arith, common_steps, the_lemmas)
+
+pub lift_exprs::lift_expr-returns-in_ok-lift_boxed-in-Quant : goal.lift_exprs::lift_expr-returns-in_ok-lift_boxed-in-Quant
+lift_exprs::lift_expr-returns-in_ok-lift_boxed-in-Quant t c = grind (arith, common_steps, the_lemmas)
+
+pub lift_exprs::lift_expr-returns-in_ok-lift_boxed-in-Range : goal.lift_exprs::lift_expr-returns-in_ok-lift_boxed-in-Range
+lift_exprs::lift_expr-returns-in_ok-lift_boxed-in-Range t c = grind (arith, common_steps, the_lemmas)
+
+pub lift_exprs::lift_expr-returns-in_ok-lift_chosen-in-Cond : goal.lift_exprs::lift_expr-returns-in_ok-lift_chosen-in-Cond
+lift_exprs::lift_expr-returns-in_ok-lift_chosen-in-Cond t c = grind (arith, common_steps, the_lemmas)
+
+pub lift_clauses::lift_clause-returns-in-Traversal : goal.lift_clauses::lift_clause-returns-in-Traversal
+lift_clauses::lift_clause-returns-in-Traversal t c = grind (arith, common_steps, clause_lemmas)
+
+pub lift_clauses::lift_clause-returns-in-Filter : goal.lift_clauses::lift_clause-returns-in-Filter
+lift_clauses::lift_clause-returns-in-Filter t c = grind (arith, common_steps, clause_lemmas)
+
+pub lift_clauses::lift_clause-returns-in-Let : goal.lift_clauses::lift_clause-returns-in-Let
+lift_clauses::lift_clause-returns-in-Let t c = grind (arith, common_steps, clause_lemmas)
+
+pub lift_clauses::lift_clause-returns-in-Sort : goal.lift_clauses::lift_clause-returns-in-Sort
+lift_clauses::lift_clause-returns-in-Sort t c = grind (arith, common_steps, clause_lemmas)
+
+pub lift_clauses::lift_clause-returns-in-Collect : goal.lift_clauses::lift_clause-returns-in-Collect
+lift_clauses::lift_clause-returns-in-Collect t c = grind (arith, common_steps, clause_lemmas)
+
+pub lift_clauses::lift_clause-returns-in-ForDocs : goal.lift_clauses::lift_clause-returns-in-ForDocs
+lift_clauses::lift_clause-returns-in-ForDocs t c = grind (arith, common_steps, clause_lemmas)
+
+pub lift_clauses::lift_clause-returns-in_ok-clause-in-Var : goal.lift_clauses::lift_clause-returns-in_ok-clause-in-Var
+lift_clauses::lift_clause-returns-in_ok-clause-in-Var t c = grind (arith, common_steps, clause_lemmas)
+
+pub lift_exprs::lift_step-returns-in_ok-lift_maybe-in-Each : goal.lift_exprs::lift_step-returns-in_ok-lift_maybe-in-Each
+lift_exprs::lift_step-returns-in_ok-lift_maybe-in-Each t c = grind (arith, common_steps, step_lemmas)
+
+pub lift_exprs::lift_step-returns-in-At : goal.lift_exprs::lift_step-returns-in-At
+lift_exprs::lift_step-returns-in-At t c = grind (arith, common_steps, step_lemmas)
+
+pub lift_exprs::lift_member-returns-in-Named : goal.lift_exprs::lift_member-returns-in-Named
+lift_exprs::lift_member-returns-in-Named t c = grind (arith, common_steps, field_lemmas)
+
+pub lift_exprs::lift_member-returns-in_ok-lift_expr-in-Computed : goal.lift_exprs::lift_member-returns-in_ok-lift_expr-in-Computed
+lift_exprs::lift_member-returns-in_ok-lift_expr-in-Computed t c = grind (arith, common_steps, field_lemmas)
+
+pub lift_collect::lift_into-returns-clause-into : goal.lift_collect::lift_into-returns-clause-into
+lift_collect::lift_into-returns-clause-into t c = grind (arith, common_steps, into_lemmas)
+
+pub lift_clauses::lift_bound-returns-clause-part : goal.lift_clauses::lift_bound-returns-clause-part
+lift_clauses::lift_bound-returns-clause-part t c = grind (arith, common_steps, clause_lemmas)
