@@ -8,12 +8,13 @@ ghost use Rattle.aql_tree.specs.View.{tree, trees, aggregates, into_tree, collec
 ghost use Rattle.aql_meaning.specs.Numbered.{IsNumber};
 ghost use Rattle.aql_meaning.specs.declared.grouping.Stage.TheVariants.{Whole};
 ghost use Rattle.aql_plan.specs.Plan as spec;
-ghost use Rattle.aql_plan.specs.View.{plan_tree, directions, key_trees};
+ghost use Rattle.aql_plan.specs.View.{node_tree, plan_tree, directions, key_trees};
 ghost use Rattle.aql_plan.specs.FirstPlan.{place_of, coll_number};
 
-use aql_copy::{copy_aggregates, copy_expr, copy_into, copy_keys, copy_lets};
-use aql_plan::{CollFact, Facts, Plan, Stage};
-use aql_tree::{Collect, Expr, Ident, Key};
+use aql_plan::{CollFact, Facts, Node, Plan, Stage};
+use aql_tree::{
+    Collect, Expr, Ident, Key, copy_aggregates, copy_expr, copy_into, copy_keys, copy_lets,
+};
 use aql_value::{CollNo, OutOfMemory, Text};
 use std::alloc::Global;
 
@@ -21,6 +22,17 @@ pub(crate) fn boxed(alloc: Global, plan: Plan) -> Result<Box<Plan>, OutOfMemory>
     ensures { IfOk result (λ b. plan_tree b.value ≡ plan_tree plan) }
 {
     Ok(Box::new(alloc, plan)?)
+}
+
+/// A node over a plan.
+pub(crate) fn over(alloc: Global, below: Plan, node: Node) -> Result<Plan, OutOfMemory>
+    ensures { IfOk result
+        (λ p. plan_tree p ≡ spec.Over (plan_tree below) (node_tree node)) }
+{
+    Ok(Plan::Over {
+        below: boxed(alloc, below)?,
+        node: Box::new(alloc, node)?,
+    })
 }
 
 pub(crate) fn number(ident: &Ident) -> u32
@@ -71,11 +83,11 @@ pub fn elements(alloc: Global, below: Plan, var: &Ident, list: &Expr) -> Result<
     ensures { IfOk result (λ p. plan_tree p
         ≡ spec.Over (plan_tree below) (spec.EnumerateList var.now (tree list.now))) }
 {
-    Ok(Plan::EnumerateList {
-        below: boxed(alloc, below)?,
+    let node = Node::EnumerateList {
         var: number(var),
         list: copy_expr(alloc, list)?,
-    })
+    };
+    over(alloc, below, node)
 }
 
 /// FOR over a collection.
@@ -97,14 +109,14 @@ pub fn documents(
           shard = None;
         }))) }
 {
-    Ok(Plan::EnumerateCollection {
-        below: boxed(alloc, below)?,
+    let node = Node::EnumerateCollection {
         var: number(var),
         coll: collection_number(collection, facts),
         filter: None,
         attrs: None,
         shard: None,
-    })
+    };
+    over(alloc, below, node)
 }
 
 /// LET.
@@ -118,11 +130,11 @@ pub fn calculation(
     ensures { IfOk result (λ p. plan_tree p
         ≡ spec.Over (plan_tree below) (spec.Calculation var.now (tree expr.now))) }
 {
-    Ok(Plan::Calculation {
-        below: boxed(alloc, below)?,
+    let node = Node::Calculation {
         var: number(var),
         expr: copy_expr(alloc, expr)?,
-    })
+    };
+    over(alloc, below, node)
 }
 
 /// LET of a subquery.
@@ -143,11 +155,11 @@ pub fn sort(alloc: Global, below: Plan, keys: &[Key]) -> Result<Plan, OutOfMemor
     ensures { IfOk result (λ p. plan_tree p ≡ spec.Over (plan_tree below)
         (spec.Sort (directions keys.now) (key_trees keys.now) None)) }
 {
-    Ok(Plan::Sort {
-        below: boxed(alloc, below)?,
+    let node = Node::Sort {
         keys: copy_keys(alloc, keys)?,
         limit: None,
-    })
+    };
+    over(alloc, below, node)
 }
 
 /// LIMIT.
@@ -155,11 +167,8 @@ pub fn limit(alloc: Global, below: Plan, offset: u64, count: u64) -> Result<Plan
     ensures { IfOk result
         (λ p. plan_tree p ≡ spec.Over (plan_tree below) (spec.Limit offset count)) }
 {
-    Ok(Plan::Limit {
-        below: boxed(alloc, below)?,
-        offset,
-        count,
-    })
+    let node = Node::Limit { offset, count };
+    over(alloc, below, node)
 }
 
 /// COLLECT.
@@ -170,13 +179,13 @@ pub fn collect(alloc: Global, below: Plan, clause: &Collect) -> Result<Plan, Out
         (aggregates (collect_part clause.now).1)
         (into_tree (collect_part clause.now).2) Whole)) }
 {
-    Ok(Plan::Collect {
-        below: boxed(alloc, below)?,
+    let node = Node::Collect {
         groups: copy_lets(alloc, clause.groups.as_slice())?,
         aggregates: copy_aggregates(alloc, clause.aggregates.as_slice())?,
         into: copy_into(alloc, &clause.into)?,
         stage: Stage::Whole,
-    })
+    };
+    over(alloc, below, node)
 }
 
 /// RETURN.
@@ -184,9 +193,9 @@ pub fn result(alloc: Global, below: Plan, expr: &Expr, distinct: bool) -> Result
     ensures { IfOk result (λ p. plan_tree p
         ≡ spec.Over (plan_tree below) (spec.Return distinct (tree expr.now))) }
 {
-    Ok(Plan::Return {
-        below: boxed(alloc, below)?,
+    let node = Node::Return {
         expr: copy_expr(alloc, expr)?,
         distinct,
-    })
+    };
+    over(alloc, below, node)
 }

@@ -6,10 +6,10 @@ ghost use Rattle.aql_plan.specs.Plan as spec;
 ghost use Rattle.aql_plan.specs.View.{plan_tree};
 ghost use Rattle.aql_plan.specs.FirstPlan.{all_and, right_sides, parts, filters};
 
-use aql_copy::copy_expr;
+use crate::clauses::over;
 use aql_func::BinOp;
-use aql_plan::Plan;
-use aql_tree::{Expr, Link};
+use aql_plan::{Node, Plan};
+use aql_tree::{Expr, Link, copy_expr};
 use aql_value::OutOfMemory;
 use std::alloc::Global;
 
@@ -30,8 +30,7 @@ fn filter(alloc: Global, below: Plan, cond: &Expr) -> Result<Plan, OutOfMemory>
         (λ p. plan_tree p ≡ spec.Over (plan_tree below) (spec.Filter (tree cond.now))) }
 {
     let cond = copy_expr(alloc, cond)?;
-    let below = Box::new(alloc, below)?;
-    Ok(Plan::Filter { below, cond })
+    over(alloc, below, Node::Filter { cond })
 }
 
 fn filter_sides(rest: &[Link], below: Plan, alloc: Global) -> Result<Plan, OutOfMemory>

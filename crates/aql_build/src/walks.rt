@@ -10,10 +10,9 @@ ghost use Rattle.aql_plan.specs.View.{plan_tree};
 ghost use Rattle.aql_plan.specs.FirstPlan.{coll_number, after_clause};
 ghost use Rattle.aql_build.specs.Resolved.{traversal_vars};
 
-use crate::clauses::{boxed, collection_number, maybe_number, number};
-use aql_copy::{copy_expr, copy_maybe};
-use aql_plan::{Facts, Plan, TraversalOptions};
-use aql_tree::Traversal;
+use crate::clauses::{collection_number, maybe_number, number, over};
+use aql_plan::{Facts, Node, Plan, TraversalOptions};
+use aql_tree::{Traversal, copy_expr, copy_maybe};
 use aql_value::{CollNos, OutOfMemory, Seq, Text};
 use std::alloc::Global;
 
@@ -55,8 +54,7 @@ pub fn paths(
     ensures { IfOk result (λ p. plan_tree p ≡ after_clause facts.now (plan_tree below)
         (traversal_clause (traversal_part traversal.now))) }
 {
-    Ok(Plan::Traversal {
-        below: boxed(alloc, below)?,
+    let node = Node::Traversal {
         vertex: number(&traversal.vertex),
         edge: maybe_number(&traversal.edge),
         path: maybe_number(&traversal.path),
@@ -72,5 +70,6 @@ pub fn paths(
             bfs: traversal.options.bfs,
         },
         filter: None,
-    })
+    };
+    over(alloc, below, node)
 }

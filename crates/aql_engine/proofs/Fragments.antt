@@ -2,7 +2,7 @@
 use Rattle.aql_meaning.specs.declared.grouping.Stage.TheVariants as stage
 use Rattle.aql_plan.specs.Plan.{Plan, Singleton, Over, Node, Subquery, Collect, Scatter, Distribute, Remote, Gather}
 use Rattle.aql_plan.specs.Shapes.{HasNoFragment, IsNoFragment}
-use Rattle.aql_exec_plan.specs.Runnable.{HasExecutors, HasExecutor}
+use Rattle.aql_engine.specs.Runnable.{HasExecutors, HasExecutor}
 
 mutual
   pub no_fragment : (p : Plan) → HasExecutors p → HasNoFragment p

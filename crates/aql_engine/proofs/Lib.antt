@@ -1,1 +1,7 @@
 pub mod Fragments
+pub mod Loops
+pub mod Leading
+pub mod Inputs
+pub mod Rooms
+pub mod Delivering
+pub mod Running

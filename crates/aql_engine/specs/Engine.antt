@@ -8,8 +8,8 @@ use Rattle.aql_plan.specs.Refines.{Answers}
 use Rattle.aql_plan.specs.WellFormed.{IsWellFormed}
 use Rattle.aql_exec.specs.Rests.{Counter, Rest, counts_of}
 use Rattle.aql_exec.specs.Operators.{Produces}
-use Rattle.aql_exec_plan.specs.OperatorsOf.{operators_of}
-use Rattle.aql_exec_plan.specs.Runnable.{HasExecutors}
+use Rattle.aql_engine.specs.OperatorsOf.{operators_of}
+use Rattle.aql_engine.specs.Runnable.{HasExecutors}
 use Rattle.aql_engine.specs.declared.engine.Ran.{Ran}
 
 -- a plan that can be run over these documents: it is well formed, and each of its nodes has an executor

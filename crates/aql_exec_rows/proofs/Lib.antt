@@ -4,3 +4,10 @@ pub mod Arrays
 pub mod Keyings
 pub mod Joining
 pub mod Results
+pub mod Parts
+pub mod Keeping
+pub mod Seen
+pub mod Adding
+pub mod Finishing
+pub mod Setting
+pub mod Telling

@@ -1,1 +1,5 @@
 pub mod SomeArrays
+pub mod Later
+pub mod LaterInStages
+pub mod Members
+pub mod SomeGroups

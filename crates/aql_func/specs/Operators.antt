@@ -6,10 +6,10 @@ use Rattle.aql_value.specs.Datum.{Datum, null, boolean, number}
 use Rattle.aql_value.specs.Parts.{list, elements, same, is_below, is_in}
 use Rattle.aql_value.specs.Convert.{number_or_null, to_number}
 use Rattle.aql_value.specs.Truth.{truth}
-use Rattle.aql_func.specs.declared.operators.BinOp.{BinOp}
-use Rattle.aql_func.specs.declared.operators.BinOp.TheVariants.{And, Or, Eq, Ne, Lt, Le, Gt, Ge, IsIn, NotIn, Like, NotLike, Add, Sub, Mul, Div, Rem}
-use Rattle.aql_func.specs.declared.operators.UnaryOp.{UnaryOp}
-use Rattle.aql_func.specs.declared.operators.UnaryOp.TheVariants as un
+use Rattle.aql_value.specs.declared.operators.BinOp.{BinOp}
+use Rattle.aql_value.specs.declared.operators.BinOp.TheVariants.{And, Or, Eq, Ne, Lt, Le, Gt, Ge, IsIn, NotIn, Like, NotLike, Add, Sub, Mul, Div, Rem}
+use Rattle.aql_value.specs.declared.operators.UnaryOp.{UnaryOp}
+use Rattle.aql_value.specs.declared.operators.UnaryOp.TheVariants as un
 use Rattle.aql_func.specs.Like.{is_like}
 
 -- null for a division by zero, and for a quotient that isn't whole

@@ -17,8 +17,9 @@ mod signatures;
 mod texts;
 mod values;
 
+pub use aql_value::{BinOp, UnaryOp};
 pub use calls::call;
 pub use names::{FuncName, arity, lookup};
-pub use operators::{BinOp, UnaryOp, binary, unary};
+pub use operators::{binary, unary};
 pub use ranges::range;
 pub use signatures::Arity;

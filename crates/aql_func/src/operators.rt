@@ -7,38 +7,8 @@ use crate::arguments::array;
 use crate::arithmetic::{difference, negative, product, quotient, remainder, sum};
 use crate::arrays::is_in;
 use crate::like::is_like;
-use aql_value::{OutOfMemory, Value, cmp, copy, to_number, truthy};
+use aql_value::{BinOp, OutOfMemory, UnaryOp, Value, cmp, copy, to_number, truthy};
 use std::alloc::Global;
-
-/// An operator between two operands (AQL fundamentals, Operators).
-#[derive(Clone, Copy, Debug)]
-pub enum BinOp {
-    And,
-    Or,
-    Eq,
-    Ne,
-    Lt,
-    Le,
-    Gt,
-    Ge,
-    IsIn,
-    NotIn,
-    Like,
-    NotLike,
-    Add,
-    Sub,
-    Mul,
-    Div,
-    Rem,
-}
-
-/// An operator before its operand (AQL fundamentals, Operators).
-#[derive(Clone, Copy, Debug)]
-pub enum UnaryOp {
-    Plus,
-    Minus,
-    Not,
-}
 
 /// The value of `a op b` (AQL fundamentals, Operators). `&&` and `||` give one of the two sides;
 /// comparisons follow the order of all values; arithmetic converts both sides to numbers and is

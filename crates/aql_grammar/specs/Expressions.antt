@@ -6,8 +6,8 @@ use Rattle.aql_lex.specs.declared.kinds.TokenKind.TheVariants as k
 use Rattle.aql_lex.specs.declared.vocabulary.Keyword.{Keyword}
 use Rattle.aql_lex.specs.declared.vocabulary.Keyword.TheVariants as w
 use Rattle.aql_lex.specs.declared.vocabulary.Symbol.TheVariants as s
-use Rattle.aql_func.specs.declared.operators.BinOp.{BinOp}
-use Rattle.aql_func.specs.declared.operators.UnaryOp.{UnaryOp}
+use Rattle.aql_value.specs.declared.operators.BinOp.{BinOp}
+use Rattle.aql_value.specs.declared.operators.UnaryOp.{UnaryOp}
 use Rattle.aql_tree.specs.declared.syntax.QuantKind.{QuantKind}
 use Rattle.aql_tree.specs.Tree.{ExprTree, unary_of, range_of, subquery, QueryTree}
 use Rattle.aql_tree.specs.Tree as tree

@@ -4,10 +4,10 @@ use Rattle.std.specs.Prelude.{◌∷◌, Option, Some, None}
 use Rattle.aql_lex.specs.declared.kinds.TokenKind.TheVariants as k
 use Rattle.aql_lex.specs.declared.vocabulary.Keyword.TheVariants as w
 use Rattle.aql_lex.specs.declared.vocabulary.Symbol.TheVariants as s
-use Rattle.aql_func.specs.declared.operators.BinOp.{BinOp}
-use Rattle.aql_func.specs.declared.operators.BinOp.TheVariants as op
-use Rattle.aql_func.specs.declared.operators.UnaryOp.{UnaryOp}
-use Rattle.aql_func.specs.declared.operators.UnaryOp.TheVariants as un
+use Rattle.aql_value.specs.declared.operators.BinOp.{BinOp}
+use Rattle.aql_value.specs.declared.operators.BinOp.TheVariants as op
+use Rattle.aql_value.specs.declared.operators.UnaryOp.{UnaryOp}
+use Rattle.aql_value.specs.declared.operators.UnaryOp.TheVariants as un
 use Rattle.aql_tree.specs.declared.syntax.QuantKind.{QuantKind}
 use Rattle.aql_tree.specs.declared.syntax.QuantKind.TheVariants as quant
 use Rattle.aql_grammar.specs.declared.precedence.Precedence.{Precedence}

@@ -7,10 +7,10 @@ use Rattle.aql_lex.specs.declared.vocabulary.Symbol.{Symbol}
 use Rattle.aql_lex.specs.declared.vocabulary.Symbol.TheVariants as s
 use Rattle.aql_lex.specs.declared.vocabulary.Keyword.{Keyword}
 use Rattle.aql_lex.specs.declared.vocabulary.Keyword.TheVariants as w
-use Rattle.aql_func.specs.declared.operators.BinOp.{BinOp}
-use Rattle.aql_func.specs.declared.operators.BinOp.TheVariants as op
-use Rattle.aql_func.specs.declared.operators.UnaryOp.{UnaryOp}
-use Rattle.aql_func.specs.declared.operators.UnaryOp.TheVariants as un
+use Rattle.aql_value.specs.declared.operators.BinOp.{BinOp}
+use Rattle.aql_value.specs.declared.operators.BinOp.TheVariants as op
+use Rattle.aql_value.specs.declared.operators.UnaryOp.{UnaryOp}
+use Rattle.aql_value.specs.declared.operators.UnaryOp.TheVariants as un
 use Rattle.aql_tree.specs.declared.syntax.QuantKind.{QuantKind}
 use Rattle.aql_tree.specs.declared.syntax.QuantKind.TheVariants as quant
 use Rattle.aql_tree.specs.declared.syntax.Direction.{Direction}

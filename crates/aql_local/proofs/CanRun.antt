@@ -13,10 +13,10 @@ use Rattle.aql_plan_laws.specs.laws.Carried.{all_parts}
 use Rattle.aql_plan.specs.Shapes.{Shape, IsOuter, ReadsFragment, ReadsShard, KeepsRowOrder, Shaped, one_row, calculated, with_subquery, plain_rows, ordered_rows, scatter, distribute, remote, lowest, lowest_in_order, other_reading, passing, sorting, gather, gather_in_order, partial, joining, finishing, returning}
 use Rattle.aql_exec.specs.Rests.{Counter, scanned_full, scanned_index, filtered, Counts, counts_of, Rises}
 use Rattle.aql_exec.specs.Operators.{IsTree}
-use Rattle.aql_exec_plan.specs.EachFits.{EachFits, BodyFits}
-use Rattle.aql_exec_plan.specs.OperatorsOf.{operators_of}
-use Rattle.aql_exec_plan.specs.Runnable.{HasExecutors, HasExecutor}
-use Rattle.aql_exec_plan.specs.laws.Trees.{plain_tree}
+use Rattle.aql_engine.specs.EachFits.{EachFits, BodyFits}
+use Rattle.aql_engine.specs.OperatorsOf.{operators_of}
+use Rattle.aql_engine.specs.Runnable.{HasExecutors, HasExecutor}
+use Rattle.aql_engine.specs.laws.Trees.{plain_tree}
 use Rattle.aql_engine.proofs.Fragments.{no_fragment}
 use Rattle.aql_local.specs.Building.{SetsNumbers, NodeSetsNumbers}
 

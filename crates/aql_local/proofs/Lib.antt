@@ -1,3 +1,7 @@
 pub mod Returned
 pub mod CanRun
 pub mod Trees
+pub mod Flying
+pub mod Firsts
+pub mod Searched
+pub mod Counts

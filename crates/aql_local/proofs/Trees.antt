@@ -4,9 +4,9 @@ use Rattle.aql_plan.specs.declared.facts.Facts.{Facts}
 use Rattle.aql_plan.specs.Nodes.{weight, weight_in, body_in}
 use Rattle.aql_plan.specs.Plan.{Plan, Singleton, Over, Node, Subquery, NoResults, Index, Scatter, Distribute, Remote, Gather, top}
 use Rattle.aql_exec.specs.Operators.{NoRows, OperatorTree, leaf, within}
-use Rattle.aql_exec_plan.specs.EachFits.{EachFits, BodyFits}
-use Rattle.aql_exec_plan.specs.OperatorsOf.{operators_of}
-use Rattle.aql_exec_plan.specs.Runnable.{HasExecutors, HasExecutor}
+use Rattle.aql_engine.specs.EachFits.{EachFits, BodyFits}
+use Rattle.aql_engine.specs.OperatorsOf.{operators_of}
+use Rattle.aql_engine.specs.Runnable.{HasExecutors, HasExecutor}
 use Rattle.aql_local.specs.Building.{operator_of, body_operators, gives_none, SetsNumbers, NodeSetsNumbers}
 
 -- ---- operators

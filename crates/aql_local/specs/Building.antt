@@ -7,7 +7,7 @@ use Rattle.aql_plan.specs.declared.facts.Facts.{Facts}
 use Rattle.aql_plan.specs.Plan.{Plan, Singleton, Over, Node, Traversal, Subquery, Collect, NoResults}
 use Rattle.aql_plan.specs.Needs.{sets}
 use Rattle.aql_exec.specs.Operators.{Operator, NoRows, OnRows, WithBody, OperatorTree, leaf}
-use Rattle.aql_exec_plan.specs.OperatorsOf.{operators_of}
+use Rattle.aql_engine.specs.OperatorsOf.{operators_of}
 
 abbrev pub operator_of : Node → Operator
 operator_of NoResults = NoRows

@@ -1,1 +1,4 @@
 pub mod Building
+pub mod Worlds
+pub mod Steps
+pub mod laws

@@ -7,27 +7,27 @@ ghost use Rattle.aql_plan.specs.Fits.{Fits};
 ghost use Rattle.aql_plan.specs.View.{plan_tree};
 ghost use Rattle.aql_exec.specs.Operators.{StartRow, NoRows, within};
 ghost use Rattle.aql_exec_graph.specs.Searches as graph;
-ghost use Rattle.aql_exec_plan.specs.EachFits.{EachFits, BodyFits};
-ghost use Rattle.aql_exec_plan.specs.OperatorsOf.{operators_of};
-ghost use Rattle.aql_exec_plan.specs.Runnable.{HasExecutors, HasExecutor};
+ghost use Rattle.aql_engine.specs.EachFits.{EachFits, BodyFits};
+ghost use Rattle.aql_engine.specs.OperatorsOf.{operators_of};
+ghost use Rattle.aql_engine.specs.Runnable.{HasExecutors, HasExecutor};
 ghost use Rattle.aql_local.specs.Building.{operator_of, body_operators, gives_none, IsTraversal};
 ghost use Rattle.aql_local.specs.Building.{SetsNumbers, NodeSetsNumbers};
 
+use crate::World;
 use crate::nodes::{
     NodeExecutor, calculation, collect, distinct_results, enumerate_collection, enumerate_list,
     filter, limit, no_results, results, sort, start_row, subquery, traversal,
 };
-use aql_copy::{
-    copy_aggregates, copy_colls, copy_expr, copy_into, copy_keys, copy_lets, copy_maybe,
-    copy_maybe_texts,
-};
+use aql_engine::Tree;
 use aql_exec::{Executor, Feed, Wired};
 use aql_exec_graph::Search;
 use aql_exec_scan::Reading;
-use aql_exec_tree::Tree;
 use aql_plan::Plan;
+use aql_tree::{
+    copy_aggregates, copy_colls, copy_expr, copy_into, copy_keys, copy_lets, copy_maybe,
+    copy_maybe_texts,
+};
 use aql_value::OutOfMemory;
-use aql_world::World;
 use std::alloc::Global;
 
 /// Executors of which the tree of a plan is made. The tree is made of any such type, so its proof

@@ -9,21 +9,20 @@ ghost use Rattle.aql_plan.specs.Needs.{sets};
 ghost use Rattle.aql_plan.specs.Plan as plan;
 ghost use Rattle.aql_plan.specs.View.{directions, key_trees};
 ghost use Rattle.aql_exec.specs.Operators.{StartRow, NoRows, OnRows, WithBody};
-ghost use Rattle.aql_exec_collect.specs.Told.{node_of};
+ghost use Rattle.aql_exec_rows.specs.Told.{node_of};
 ghost use Rattle.aql_exec_graph.specs.Searches as graph;
 ghost use Rattle.aql_exec_scan.specs.Scans as scans;
 
+use crate::World;
+use aql_engine::Choice;
 use aql_exec::{
     AsWired, Calculation, Executor, Filter, FirstResults, Keep, Let, Limit, Mapped, NoResults,
     Results, Return, ReturnDistinct, Singleton, Stream,
 };
-use aql_exec_collect::Collect;
 use aql_exec_graph::{Paths, Search, Traversal};
-use aql_exec_nodes::Choice;
-use aql_exec_rows::{Order, Sort, Subquery};
+use aql_exec_rows::{Collect, Order, Sort, Subquery};
 use aql_exec_scan::{Documents, Elements, EnumerateCollection, EnumerateList, Reading};
 use aql_tree::{Aggregates, Expr, Into, Keys, Lets};
-use aql_world::World;
 use std::alloc::Global;
 
 /// The executors without an input.

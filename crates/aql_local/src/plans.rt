@@ -2,22 +2,21 @@
 
 ghost use Rattle.std.specs.Prelude.{◌≡◌, ◌≤◌, IfOk};
 ghost use Rattle.aql_plan.specs.View.{plan_tree};
-ghost use Rattle.aql_exec_plan.specs.OperatorsOf.{operators_of};
+ghost use Rattle.aql_engine.specs.OperatorsOf.{operators_of};
 ghost use Rattle.aql_shard.specs.Held.{stock};
 ghost use Rattle.aql_engine.specs.Engine.{CanRun, IsRunOver};
 
+use crate::World;
 use crate::building::{PlanExecutor, tree_of};
 use crate::nodes::NodeExecutor;
 use crate::results::results_of;
 use aql_block::{Row, Tally};
 use aql_doc::Catalog;
-use aql_engine::Ran;
+use aql_engine::{Ran, Tree, run_feed};
 use aql_exec::{Delivers, Picker};
-use aql_exec_tree::{Tree, run_feed};
 use aql_plan::Plan;
 use aql_shard::{Servers, split};
 use aql_value::OutOfMemory;
-use aql_world::World;
 use std::alloc::Global;
 use std::mem;
 

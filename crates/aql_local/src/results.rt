@@ -2,7 +2,7 @@
 
 ghost use Rattle.std.specs.Prelude.{◌≡◌, map, IfOk};
 ghost use Rattle.aql_plan.specs.Runs.{result_of};
-ghost use Rattle.aql_exec_tree.specs.Run.{rows_in};
+ghost use Rattle.aql_engine.specs.Run.{rows_in};
 
 use aql_block::Block;
 use aql_exec_rows::add_results;

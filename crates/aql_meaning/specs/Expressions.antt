@@ -7,8 +7,8 @@ use Rattle.std.specs.List.{list_any, list_all}
 use Rattle.aql_value.specs.Datum.{Datum, boolean}
 use Rattle.aql_value.specs.Parts.{record_of, elements}
 use Rattle.aql_value.specs.Truth.{truth}
-use Rattle.aql_func.specs.declared.operators.BinOp.{BinOp}
-use Rattle.aql_func.specs.declared.operators.BinOp.TheVariants.{And, Or}
+use Rattle.aql_value.specs.declared.operators.BinOp.{BinOp}
+use Rattle.aql_value.specs.declared.operators.BinOp.TheVariants.{And, Or}
 use Rattle.aql_func.specs.Arguments.{is_array}
 use Rattle.aql_func.specs.Objects.{with_all}
 use Rattle.aql_func.specs.Operators.{binary}

@@ -1,11 +1,12 @@
 -- The variables that an expression without a subquery uses (AQL fundamentals, Accessing data; attribute
 -- access): a variable as a whole, or, where the expression looks only at one of its attributes, by the name
 -- of this attribute. Two rows agree in what is used where it has the same values in both.
-use Rattle.std.specs.Prelude.{ℕ, ◌≡◌, List, [], ◌∷◌, ◌++◌}
+use Rattle.std.specs.Prelude.{ℕ, ◌≡◌, List, [], ◌∷◌, ◌++◌, Bool}
+use Rattle.std.specs.List.{list_any}
 use Rattle.aql_value.specs.Parts.{at_name}
 use Rattle.aql_tree.specs.declared.syntax.Ident.{Ident}
 use Rattle.aql_tree.specs.Tree.{ExprTree, literal, variable, current, array_literal, object_literal, access, function_call, unary_of, chain, array_comparison, ternary, range_of, subquery, ExprTrees, no_exprs, expr_then, MaybeExpr, no_expr, one_expr, MemberTrees, no_members, named_then, computed_then, StepTrees, no_steps, name_then, at_then, inline_then, LinkTrees, no_links, link_then, AggregateTrees, no_aggregates, aggregate_then, IntoTree, no_into, into}
-use Rattle.aql_meaning.specs.Row.{Row, value_at}
+use Rattle.aql_meaning.specs.Row.{Row, same_ident, value_at}
 
 -- a variable as a whole, or only its attribute of a name
 pub data Use : Type 0 where
@@ -18,6 +19,9 @@ Uses = List Use
 abbrev pub used_variable : Use → Ident
 used_variable (Whole x) = x
 used_variable (Part x name) = x
+
+abbrev pub is_used : Ident → Uses → Bool
+is_used x us = list_any (λ u. same_ident x (used_variable u)) us
 
 abbrev mutual
   -- what an expression uses, where it is plain: of the variables in a subquery this says nothing

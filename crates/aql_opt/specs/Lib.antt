@@ -2,3 +2,6 @@ pub mod Theorem
 pub mod Estimate
 pub mod RuleSets
 pub mod Worked
+pub mod Passes
+pub mod Chosen
+pub mod laws

@@ -5,9 +5,9 @@ ghost use Rattle.aql_doc.specs.Held.{Held, database};
 ghost use Rattle.aql_plan.specs.Facts.{Meets};
 ghost use Rattle.aql_shard.specs.Known.{coll_fact, facts_of};
 
-use aql_copy::copy_texts;
 use aql_doc::{Catalog, CollInfo};
 use aql_plan::{CollFact, Facts};
+use aql_tree::copy_texts;
 use aql_value::{CollNo, OutOfMemory, Seq};
 use std::alloc::Global;
 

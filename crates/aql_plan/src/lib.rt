@@ -1,5 +1,5 @@
-//! Plans of queries: the tree of a plan, what it means, and what is known of the collections when a
-//! query is planned.
+//! Plans of queries: the tree of a plan, what it means, what its nodes use, and what is known of the
+//! collections when a query is planned.
 #![tactic(auto)]
 
 mod facts;
@@ -7,11 +7,13 @@ mod node_uses;
 mod nodes;
 mod plan;
 mod rules;
+mod uses;
 mod variables;
 pub mod worked;
 
 pub use aql_meaning::{Edge, Last, Stage, TraversalOptions};
 pub use facts::{CollFact, CollFacts, Facts, IndexFact, IndexFacts, IndexKind, Widths};
 pub use node_uses::add_own_uses;
-pub use plan::{Passed, Plan, Plans};
+pub use plan::{Node, Passed, Plan, Plans};
 pub use rules::{RuleName, RuleNames};
+pub use uses::{Use, Uses, add_all_uses, add_maybe_uses, add_uses};

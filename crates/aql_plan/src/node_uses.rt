@@ -8,14 +8,13 @@ ghost use Rattle.aql_meaning.specs.View.{end_tree, last_tree};
 ghost use Rattle.aql_meaning.specs.Visible.{aggregate_vars};
 ghost use Rattle.aql_plan.specs.Needs.{end_uses, last_uses, as_wholes, own_uses};
 ghost use Rattle.aql_plan.specs.Plan.{top};
-ghost use Rattle.aql_plan.specs.View.{plan_tree};
-ghost use Rattle.aql_uses.specs.Used.{uses_tree};
+ghost use Rattle.aql_plan.specs.View.{node_tree, plan_tree};
+ghost use Rattle.aql_plan.specs.Used.{uses_tree};
 
-use crate::plan::Plan;
-use aql_copy::copy_ident;
+use crate::plan::{Node, Plan};
+use crate::{Use, Uses, add_all_uses, add_maybe_uses, add_uses};
 use aql_meaning::{Edge, Last, Stage};
-use aql_tree::{AggregateItem, Into, Key, Let};
-use aql_uses::{Use, Uses, add_all_uses, add_maybe_uses, add_uses};
+use aql_tree::{AggregateItem, Into, Key, Let, copy_ident};
 use aql_value::OutOfMemory;
 use std::alloc::Global;
 
@@ -110,15 +109,12 @@ fn add_aggregates_whole(
     Ok(())
 }
 
-/// Appends what the expressions of a node use. A final Collect finds what it needs under its own
-/// variables; of a subquery's body this says nothing.
-pub fn add_own_uses(node: &Plan, alloc: Global, to: &mut Uses) -> Result<(), OutOfMemory>
-    ensures { OnOk result
-        (uses_tree to.new ≡ uses_tree to.old ++ own_uses (top (plan_tree node.now))) }
+fn add_node_uses(node: &Node, alloc: Global, to: &mut Uses) -> Result<(), OutOfMemory>
+    ensures { OnOk result (uses_tree to.new ≡ uses_tree to.old ++ own_uses (node_tree node.now)) }
 {
     match node {
-        Plan::EnumerateCollection { filter, .. } => add_maybe_uses(filter, alloc, to),
-        Plan::Index {
+        Node::EnumerateCollection { filter, .. } => add_maybe_uses(filter, alloc, to),
+        Node::Index {
             filter,
             equal,
             last,
@@ -128,8 +124,8 @@ pub fn add_own_uses(node: &Plan, alloc: Global, to: &mut Uses) -> Result<(), Out
             add_last_uses(last, alloc, to)?;
             add_maybe_uses(filter, alloc, to)
         }
-        Plan::EnumerateList { list, .. } => add_uses(list, alloc, to),
-        Plan::Traversal {
+        Node::EnumerateList { list, .. } => add_uses(list, alloc, to),
+        Node::Traversal {
             start,
             prune,
             filter,
@@ -139,10 +135,10 @@ pub fn add_own_uses(node: &Plan, alloc: Global, to: &mut Uses) -> Result<(), Out
             add_maybe_uses(prune, alloc, to)?;
             add_maybe_uses(filter, alloc, to)
         }
-        Plan::Calculation { expr, .. } => add_uses(expr, alloc, to),
-        Plan::Filter { cond, .. } => add_uses(cond, alloc, to),
-        Plan::Sort { keys, .. } => add_key_uses(keys.as_slice(), alloc, to),
-        Plan::Collect {
+        Node::Calculation { expr, .. } => add_uses(expr, alloc, to),
+        Node::Filter { cond, .. } => add_uses(cond, alloc, to),
+        Node::Sort { keys, .. } => add_key_uses(keys.as_slice(), alloc, to),
+        Node::Collect {
             groups,
             aggregates,
             into,
@@ -159,9 +155,21 @@ pub fn add_own_uses(node: &Plan, alloc: Global, to: &mut Uses) -> Result<(), Out
                 add_into_uses(into, alloc, to)
             }
         },
-        Plan::Return { expr, .. } => add_uses(expr, alloc, to),
-        Plan::Distribute { exprs, .. } => add_all_uses(exprs.as_slice(), alloc, to),
-        Plan::Gather { order, .. } => add_key_uses(order.as_slice(), alloc, to),
+        Node::Return { expr, .. } => add_uses(expr, alloc, to),
+        Node::Distribute { exprs, .. } => add_all_uses(exprs.as_slice(), alloc, to),
+        Node::Gather { order, .. } => add_key_uses(order.as_slice(), alloc, to),
+        _ => Ok(()),
+    }
+}
+
+/// Appends what the expressions of a node use. A final Collect finds what it needs under its own
+/// variables; of a subquery's body this says nothing.
+pub fn add_own_uses(plan: &Plan, alloc: Global, to: &mut Uses) -> Result<(), OutOfMemory>
+    ensures { OnOk result
+        (uses_tree to.new ≡ uses_tree to.old ++ own_uses (top (plan_tree plan.now))) }
+{
+    match plan {
+        Plan::Over { node, .. } => add_node_uses(node, alloc, to),
         _ => Ok(()),
     }
 }

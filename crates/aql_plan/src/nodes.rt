@@ -5,14 +5,14 @@ ghost use Rattle.aql_tree.specs.declared.syntax.Ident.TheVariants.{Num};
 ghost use Rattle.aql_plan.specs.Plan as spec;
 ghost use Rattle.aql_plan.specs.Nodes.{over, body_in, with_body};
 ghost use Rattle.aql_meaning.specs.View.{end_tree, last_tree};
-ghost use Rattle.aql_plan.specs.View.{plan_tree};
+ghost use Rattle.aql_plan.specs.View.{node_tree, plan_tree};
 
-use crate::plan::Plan;
-use aql_copy::{
+use crate::plan::{Node, Plan};
+use aql_meaning::{Edge, Last};
+use aql_tree::{
     copy_aggregates, copy_colls, copy_expr, copy_exprs, copy_into, copy_keys, copy_lets,
     copy_maybe, copy_maybe_texts,
 };
-use aql_meaning::{Edge, Last};
 use aql_value::OutOfMemory;
 use std::alloc::Global;
 
@@ -67,30 +67,25 @@ fn subquery(alloc: Global, below: Plan, var: u32, body: Plan) -> Result<Plan, Ou
     })
 }
 
-// A node without a body over another input.
-fn lone_over(alloc: Global, node: &Plan, below: Plan) -> Result<Plan, OutOfMemory>
-    requires { body_in (spec.top (plan_tree node.now)) ≡ None }
-    ensures { IfOk result (λ p. plan_tree p ≡ over (plan_tree node.now) (plan_tree below)) }
+// An equal node.
+fn copy_node(alloc: Global, node: &Node) -> Result<Node, OutOfMemory>
+    ensures { IfOk result (λ n. node_tree n ≡ node_tree node.now) }
 {
-    let below = boxed(alloc, below)?;
     match node {
-        Plan::Singleton => Ok(Plan::Singleton),
-        Plan::EnumerateCollection {
+        Node::EnumerateCollection {
             var,
             coll,
             filter,
             attrs,
             shard,
-            ..
-        } => Ok(Plan::EnumerateCollection {
-            below,
+        } => Ok(Node::EnumerateCollection {
             var: *var,
             coll: *coll,
             filter: copy_maybe(alloc, filter)?,
             attrs: copy_maybe_texts(alloc, attrs)?,
             shard: *shard,
         }),
-        Plan::Index {
+        Node::Index {
             var,
             coll,
             filter,
@@ -100,9 +95,7 @@ fn lone_over(alloc: Global, node: &Plan, below: Plan) -> Result<Plan, OutOfMemor
             equal,
             last,
             ordered,
-            ..
-        } => Ok(Plan::Index {
-            below,
+        } => Ok(Node::Index {
             var: *var,
             coll: *coll,
             filter: copy_maybe(alloc, filter)?,
@@ -113,12 +106,11 @@ fn lone_over(alloc: Global, node: &Plan, below: Plan) -> Result<Plan, OutOfMemor
             last: copy_last(alloc, last)?,
             ordered: *ordered,
         }),
-        Plan::EnumerateList { var, list, .. } => Ok(Plan::EnumerateList {
-            below,
+        Node::EnumerateList { var, list } => Ok(Node::EnumerateList {
             var: *var,
             list: copy_expr(alloc, list)?,
         }),
-        Plan::Traversal {
+        Node::Traversal {
             vertex,
             edge,
             path,
@@ -130,9 +122,7 @@ fn lone_over(alloc: Global, node: &Plan, below: Plan) -> Result<Plan, OutOfMemor
             prune,
             options,
             filter,
-            ..
-        } => Ok(Plan::Traversal {
-            below,
+        } => Ok(Node::Traversal {
             vertex: *vertex,
             edge: *edge,
             path: *path,
@@ -145,61 +135,61 @@ fn lone_over(alloc: Global, node: &Plan, below: Plan) -> Result<Plan, OutOfMemor
             options: *options,
             filter: copy_maybe(alloc, filter)?,
         }),
-        Plan::Calculation { var, expr, .. } => Ok(Plan::Calculation {
-            below,
+        Node::Calculation { var, expr } => Ok(Node::Calculation {
             var: *var,
             expr: copy_expr(alloc, expr)?,
         }),
-        Plan::Subquery { .. } => unreachable!(),
-        Plan::Filter { cond, .. } => Ok(Plan::Filter {
-            below,
+        Node::Filter { cond } => Ok(Node::Filter {
             cond: copy_expr(alloc, cond)?,
         }),
-        Plan::Sort { keys, limit, .. } => Ok(Plan::Sort {
-            below,
+        Node::Sort { keys, limit } => Ok(Node::Sort {
             keys: copy_keys(alloc, keys.as_slice())?,
             limit: *limit,
         }),
-        Plan::Limit { offset, count, .. } => Ok(Plan::Limit {
-            below,
+        Node::Limit { offset, count } => Ok(Node::Limit {
             offset: *offset,
             count: *count,
         }),
-        Plan::Collect {
+        Node::Collect {
             groups,
             aggregates,
             into,
             stage,
-            ..
-        } => Ok(Plan::Collect {
-            below,
+        } => Ok(Node::Collect {
             groups: copy_lets(alloc, groups.as_slice())?,
             aggregates: copy_aggregates(alloc, aggregates.as_slice())?,
             into: copy_into(alloc, into)?,
             stage: *stage,
         }),
-        Plan::Return { expr, distinct, .. } => Ok(Plan::Return {
-            below,
+        Node::Return { expr, distinct } => Ok(Node::Return {
             expr: copy_expr(alloc, expr)?,
             distinct: *distinct,
         }),
-        Plan::NoResults { .. } => Ok(Plan::NoResults { below }),
-        Plan::Scatter { coll, only, .. } => Ok(Plan::Scatter {
-            below,
+        Node::NoResults => Ok(Node::NoResults),
+        Node::Scatter { coll, only } => Ok(Node::Scatter {
             coll: *coll,
             only: *only,
         }),
-        Plan::Distribute { coll, exprs, .. } => Ok(Plan::Distribute {
-            below,
+        Node::Distribute { coll, exprs } => Ok(Node::Distribute {
             coll: *coll,
             exprs: copy_exprs(alloc, exprs.as_slice())?,
         }),
-        Plan::Remote { .. } => Ok(Plan::Remote { below }),
-        Plan::Gather { order, .. } => Ok(Plan::Gather {
-            below,
+        Node::Remote => Ok(Node::Remote),
+        Node::Gather { order } => Ok(Node::Gather {
             order: copy_keys(alloc, order.as_slice())?,
         }),
     }
+}
+
+// A copy of a node over another input.
+fn copy_over(alloc: Global, node: &Node, below: Plan) -> Result<Plan, OutOfMemory>
+    ensures { IfOk result (λ p. plan_tree p ≡ spec.Over (plan_tree below) (node_tree node.now)) }
+{
+    let copied = copy_node(alloc, node)?;
+    Ok(Plan::Over {
+        below: boxed(alloc, below)?,
+        node: Box::new(alloc, copied)?,
+    })
 }
 
 impl Plan {
@@ -238,7 +228,8 @@ impl Plan {
                 let body = body.copy(alloc)?;
                 subquery(alloc, below, *var, body)
             }
-            _ => lone_over(alloc, self, below),
+            Plan::Over { node, .. } => copy_over(alloc, node, below),
+            Plan::Singleton => Ok(Plan::Singleton),
         }
     }
 

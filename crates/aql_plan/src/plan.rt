@@ -13,9 +13,23 @@ use aql_value::{CollNo, CollNos, Names, Seq};
 pub enum Plan {
     /// The one row that the plan starts from.
     Singleton,
+    /// A node without a body.
+    Over {
+        below: Box<Plan>,
+        node: Box<Node>,
+    },
+    /// Each row with the array of what the body gives from it.
+    Subquery {
+        below: Box<Plan>,
+        var: u32,
+        body: Box<Plan>,
+    },
+}
+
+/// A node without a body.
+pub enum Node {
     /// Each row with each document of a collection that passes the filter, in any order.
     EnumerateCollection {
-        below: Box<Plan>,
         var: u32,
         coll: CollNo,
         filter: Option<Expr>,
@@ -26,7 +40,6 @@ pub enum Plan {
     },
     /// The same for the documents in the bounds of an index, in its order where that is asked for.
     Index {
-        below: Box<Plan>,
         var: u32,
         coll: CollNo,
         filter: Option<Expr>,
@@ -41,13 +54,11 @@ pub enum Plan {
     },
     /// Each row with each element of an array, in order.
     EnumerateList {
-        below: Box<Plan>,
         var: u32,
         list: Expr,
     },
     /// Each row with each path that is walked from its start and passes the filter, in any order.
     Traversal {
-        below: Box<Plan>,
         vertex: u32,
         edge: Option<u32>,
         path: Option<u32>,
@@ -62,36 +73,25 @@ pub enum Plan {
     },
     /// Each row with the value of an expression: LET.
     Calculation {
-        below: Box<Plan>,
         var: u32,
         expr: Expr,
     },
-    /// Each row with the array of what the body gives from it.
-    Subquery {
-        below: Box<Plan>,
-        var: u32,
-        body: Box<Plan>,
-    },
     /// The rows at which a condition holds: FILTER.
     Filter {
-        below: Box<Plan>,
         cond: Expr,
     },
     /// The rows in the order of their keys, or the first of these: SORT.
     Sort {
-        below: Box<Plan>,
         keys: Keys,
         limit: Option<u64>,
     },
     /// At most `count` rows after the first `offset`: LIMIT.
     Limit {
-        below: Box<Plan>,
         offset: u64,
         count: u64,
     },
     /// A row for each class of rows with equal criteria: COLLECT, or one of its two stages.
     Collect {
-        below: Box<Plan>,
         groups: Lets,
         aggregates: Aggregates,
         into: Option<Into>,
@@ -99,54 +99,42 @@ pub enum Plan {
     },
     /// The values of an expression, with `distinct` each once: RETURN.
     Return {
-        below: Box<Plan>,
         expr: Expr,
         distinct: bool,
     },
     /// No row; the input isn't asked for any.
-    NoResults {
-        below: Box<Plan>,
-    },
+    NoResults,
     /// The foot of a fragment: all rows to each shard of a collection, or to one shard of it.
     Scatter {
-        below: Box<Plan>,
         coll: CollNo,
         only: Option<u32>,
     },
     /// The foot of a fragment: each row to the shard that its values of the shard keys choose.
     Distribute {
-        below: Box<Plan>,
         coll: CollNo,
         exprs: Exprs,
     },
     /// The rows of its input, over a link.
-    Remote {
-        below: Box<Plan>,
-    },
+    Remote,
     /// The lists of all shards as one: interleaved, or merged by keys.
     Gather {
-        below: Box<Plan>,
         order: Keys,
     },
 }
 
 // Written, and not derived: a derived drop is written out in each crate that lets a plan go, at
 // each place, a case for each node.
-impl Drop for Plan {
-    #[cycle(drop)]
+impl Drop for Node {
     fn drop(self) {
         match self {
-            Plan::Singleton
-            | Plan::EnumerateCollection {
-                below: _,
+            Node::EnumerateCollection {
                 var: _,
                 coll: _,
                 filter: _,
                 attrs: _,
                 shard: _,
             }
-            | Plan::Index {
-                below: _,
+            | Node::Index {
                 var: _,
                 coll: _,
                 filter: _,
@@ -157,13 +145,8 @@ impl Drop for Plan {
                 last: _,
                 ordered: _,
             }
-            | Plan::EnumerateList {
-                below: _,
-                var: _,
-                list: _,
-            }
-            | Plan::Traversal {
-                below: _,
+            | Node::EnumerateList { var: _, list: _ }
+            | Node::Traversal {
                 vertex: _,
                 edge: _,
                 path: _,
@@ -176,52 +159,43 @@ impl Drop for Plan {
                 options: _,
                 filter: _,
             }
-            | Plan::Calculation {
-                below: _,
-                var: _,
-                expr: _,
-            }
-            | Plan::Subquery {
-                below: _,
-                var: _,
-                body: _,
-            }
-            | Plan::Filter { below: _, cond: _ }
-            | Plan::Sort {
-                below: _,
-                keys: _,
-                limit: _,
-            }
-            | Plan::Limit {
-                below: _,
+            | Node::Calculation { var: _, expr: _ }
+            | Node::Filter { cond: _ }
+            | Node::Sort { keys: _, limit: _ }
+            | Node::Limit {
                 offset: _,
                 count: _,
             }
-            | Plan::Collect {
-                below: _,
+            | Node::Collect {
                 groups: _,
                 aggregates: _,
                 into: _,
                 stage: _,
             }
-            | Plan::Return {
-                below: _,
+            | Node::Return {
                 expr: _,
                 distinct: _,
             }
-            | Plan::NoResults { below: _ }
-            | Plan::Scatter {
+            | Node::NoResults
+            | Node::Scatter { coll: _, only: _ }
+            | Node::Distribute { coll: _, exprs: _ }
+            | Node::Remote
+            | Node::Gather { order: _ } => {}
+        }
+    }
+}
+
+impl Drop for Plan {
+    #[cycle(drop)]
+    fn drop(self) {
+        match self {
+            Plan::Singleton
+            | Plan::Over { below: _, node: _ }
+            | Plan::Subquery {
                 below: _,
-                coll: _,
-                only: _,
-            }
-            | Plan::Distribute {
-                below: _,
-                coll: _,
-                exprs: _,
-            }
-            | Plan::Remote { below: _ }
-            | Plan::Gather { below: _, order: _ } => {}
+                var: _,
+                body: _,
+            } => {}
         }
     }
 }
@@ -245,22 +219,8 @@ impl Plan {
     {
         match self {
             Plan::Singleton => None,
-            Plan::EnumerateCollection { below, .. } => Some(below),
-            Plan::Index { below, .. } => Some(below),
-            Plan::EnumerateList { below, .. } => Some(below),
-            Plan::Traversal { below, .. } => Some(below),
-            Plan::Calculation { below, .. } => Some(below),
+            Plan::Over { below, .. } => Some(below),
             Plan::Subquery { below, .. } => Some(below),
-            Plan::Filter { below, .. } => Some(below),
-            Plan::Sort { below, .. } => Some(below),
-            Plan::Limit { below, .. } => Some(below),
-            Plan::Collect { below, .. } => Some(below),
-            Plan::Return { below, .. } => Some(below),
-            Plan::NoResults { below } => Some(below),
-            Plan::Scatter { below, .. } => Some(below),
-            Plan::Distribute { below, .. } => Some(below),
-            Plan::Remote { below } => Some(below),
-            Plan::Gather { below, .. } => Some(below),
         }
     }
 }

@@ -7,14 +7,14 @@ ghost use Rattle.aql_meaning.specs.Uses.{used_variable};
 ghost use Rattle.aql_meaning.specs.Visible.{aggregate_vars, into_var};
 ghost use Rattle.aql_plan.specs.Plan.{top};
 ghost use Rattle.aql_plan.specs.Variables.{vars_set, set_once, uses_at, uses_in, vars_used, number_of, numbers};
-ghost use Rattle.aql_plan.specs.View.{plan_tree};
-ghost use Rattle.aql_uses.specs.Used.{uses_tree};
+ghost use Rattle.aql_plan.specs.View.{node_tree, plan_tree};
+ghost use Rattle.aql_plan.specs.Used.{uses_tree};
 
 use crate::node_uses::add_own_uses;
-use crate::plan::Plan;
+use crate::plan::{Node, Plan};
+use crate::{Use, Uses};
 use aql_meaning::Stage;
 use aql_tree::{AggregateItem, Ident, Into, Let};
-use aql_uses::{Use, Uses};
 use aql_value::{OutOfMemory, Seq, Vars};
 use std::alloc::Global;
 
@@ -78,15 +78,14 @@ fn add_into(to: &mut Vars, into: &Option<Into>) -> Result<(), OutOfMemory>
     }
 }
 
-#[cycle(add_set)]
-fn add_set_once(to: &mut Vars, plan: &Plan) -> Result<(), OutOfMemory>
-    ensures { OnOk result (to.new ≡ to.old ++ numbers (set_once (top (plan_tree plan.now)))) }
+fn add_set_at(to: &mut Vars, node: &Node) -> Result<(), OutOfMemory>
+    ensures { OnOk result (to.new ≡ to.old ++ numbers (set_once (node_tree node.now))) }
 {
-    match plan {
-        Plan::EnumerateCollection { var, .. } => to.push(*var),
-        Plan::Index { var, .. } => to.push(*var),
-        Plan::EnumerateList { var, .. } => to.push(*var),
-        Plan::Traversal {
+    match node {
+        Node::EnumerateCollection { var, .. } => to.push(*var),
+        Node::Index { var, .. } => to.push(*var),
+        Node::EnumerateList { var, .. } => to.push(*var),
+        Node::Traversal {
             vertex,
             edge,
             path,
@@ -96,17 +95,12 @@ fn add_set_once(to: &mut Vars, plan: &Plan) -> Result<(), OutOfMemory>
             add_maybe(to, *edge)?;
             add_maybe(to, *path)
         }
-        Plan::Calculation { var, .. } => to.push(*var),
-        Plan::Subquery { var, body, .. } => {
-            to.push(*var)?;
-            add_set(to, body)
-        }
-        Plan::Collect {
+        Node::Calculation { var, .. } => to.push(*var),
+        Node::Collect {
             groups,
             aggregates,
             into,
             stage,
-            ..
         } => match stage {
             Stage::Final => Ok(()),
             Stage::Whole | Stage::Partial => {
@@ -116,6 +110,20 @@ fn add_set_once(to: &mut Vars, plan: &Plan) -> Result<(), OutOfMemory>
             }
         },
         _ => Ok(()),
+    }
+}
+
+#[cycle(add_set)]
+fn add_set_once(to: &mut Vars, plan: &Plan) -> Result<(), OutOfMemory>
+    ensures { OnOk result (to.new ≡ to.old ++ numbers (set_once (top (plan_tree plan.now)))) }
+{
+    match plan {
+        Plan::Singleton => Ok(()),
+        Plan::Over { node, .. } => add_set_at(to, node),
+        Plan::Subquery { var, body, .. } => {
+            to.push(*var)?;
+            add_set(to, body)
+        }
     }
 }
 

@@ -5,3 +5,7 @@ mod Whole
 mod Tests
 mod UsesFound
 mod Distinct
+mod Shaping
+mod Collected
+mod ShapeTests
+mod Lists

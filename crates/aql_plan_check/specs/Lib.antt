@@ -1,2 +1,5 @@
 pub mod Rows
 pub mod Findings
+pub mod Standing
+pub mod Sameness
+pub mod View

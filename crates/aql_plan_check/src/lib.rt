@@ -1,10 +1,20 @@
-//! Whether a plan is well formed.
+//! Whether a plan is well formed: the shape of one with a result, what its nodes need, and what is
+//! known of the collections.
 #![tactic(auto)]
 
+mod aggregates;
+mod bounds;
+mod collections;
+mod equality;
+mod fits;
 mod found;
+mod plain;
 mod rows;
 mod sets;
+mod shapes;
+mod standing;
 mod uses;
+mod walk;
 
 ghost use Rattle.std.specs.Prelude.{[], ◌↔◌, IfOk, IsTrue};
 ghost use Rattle.aql_plan.specs.View.{plan_tree};
@@ -12,11 +22,13 @@ ghost use Rattle.aql_plan.specs.WellFormed.{IsWellFormed};
 
 use crate::sets::{distinct, sets_numbers};
 use crate::uses::result_finds;
+use crate::{collections_fit, has_result};
 use aql_plan::{Facts, Plan};
-use aql_plan_shape::{collections_fit, has_result};
 use aql_value::OutOfMemory;
+pub use collections::collections_fit;
 use indexmap::IndexSet;
 use std::alloc::Global;
+pub use walk::has_result;
 
 /// Whether a query's plan is well formed where this is known of the collections.
 pub fn well_formed(alloc: Global, plan: &Plan, facts: &Facts) -> Result<bool, OutOfMemory>

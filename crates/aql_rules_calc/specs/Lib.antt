@@ -5,3 +5,7 @@ pub mod ReduceExtractionToProjection
 pub mod Projections
 pub mod Readers
 pub mod laws
+pub mod SimplifyConditions
+pub mod Members
+pub mod ReplaceOrWithIn
+pub mod Operations

@@ -4,12 +4,11 @@
 use Rattle.std.specs.Prelude.{ℕ, ◌≡◌, ◌+◌, List, Bool, true, false, not, Option, None}
 use Rattle.std.specs.List.{list_all}
 use Rattle.aql_tree.specs.declared.syntax.Ident.{Ident}
-use Rattle.aql_meaning.specs.Uses.{Uses}
+use Rattle.aql_meaning.specs.Uses.{Uses, is_used}
 use Rattle.aql_plan.specs.Plan.{Plan, Singleton, Over, Node, EnumerateCollection, EnumerateList, Traversal, Calculation, Subquery, Sort}
 use Rattle.aql_plan.specs.Needs.{sets}
-use Rattle.aql_rewrite_plan.specs.declared.swap.Rename.{Rename}
-use Rattle.aql_rewrite_plan.specs.Nodes.{uses_alone}
-use Rattle.aql_rewrite_plan.specs.Swaps.{is_used}
+use Rattle.aql_rewrite.specs.declared.swap.Rename.{Rename}
+use Rattle.aql_rewrite.specs.Nodes.{uses_alone}
 
 -- the nodes that may make many rows of one
 abbrev pub enumerates : Node → Bool

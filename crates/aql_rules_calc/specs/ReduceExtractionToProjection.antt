@@ -14,7 +14,7 @@ use Rattle.aql_meaning.specs.Uses.{Use, Whole, Part, Uses}
 use Rattle.aql_plan.specs.declared.facts.Facts.{Facts}
 use Rattle.aql_plan.specs.Facts.{attributes_in}
 use Rattle.aql_plan.specs.Plan.{Reading, Plan, Singleton, Over, Node, EnumerateCollection, Index, Subquery}
-use Rattle.aql_rewrite_plan.specs.declared.swap.Rename.{Rename}
+use Rattle.aql_rewrite.specs.declared.swap.Rename.{Rename}
 
 -- x is used as a whole
 abbrev pub is_whole : Ident → Use → Bool

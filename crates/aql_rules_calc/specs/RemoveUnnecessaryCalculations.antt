@@ -2,10 +2,9 @@
 use Rattle.std.specs.Prelude.{◌≡◌, false, Option, None}
 use Rattle.aql_tree.specs.declared.syntax.Ident.{Ident}
 use Rattle.aql_tree.specs.Tree.{ExprTree}
-use Rattle.aql_meaning.specs.Uses.{Uses}
+use Rattle.aql_meaning.specs.Uses.{Uses, is_used}
 use Rattle.aql_plan.specs.Plan.{Plan, Over, Calculation, Subquery}
-use Rattle.aql_rewrite_plan.specs.declared.swap.Rename.{Rename}
-use Rattle.aql_rewrite_plan.specs.Swaps.{is_used}
+use Rattle.aql_rewrite.specs.declared.swap.Rename.{Rename}
 
 pub data Removes : Uses → Plan → Plan → Option Rename → Type 0 where
   calculation : {us : Uses} {b : Plan} {x : Ident} {e : ExprTree} → is_used x us ≡ false

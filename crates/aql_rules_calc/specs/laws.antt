@@ -1,13 +1,14 @@
-pub mod Unused
-pub mod Apart
 pub mod Needed
 pub mod UnnecessaryCalculations
 pub mod BoundRows
 pub mod Moved
 pub mod SameUsed
 pub mod CalculationsExchanged
-pub mod RowsHold
 pub mod CalculatedTwice
 pub mod Attributes
 pub mod NamesUsed
 pub mod Projected
+pub mod AttributesSet
+pub mod PartTests
+pub mod Simplified
+pub mod OrWithIn

@@ -5,15 +5,13 @@ ghost use Rattle.aql_tree.specs.declared.syntax.Ident.TheVariants.{Num};
 ghost use Rattle.aql_plan.specs.Needs.{sets};
 ghost use Rattle.aql_plan.specs.Plan.{top};
 ghost use Rattle.aql_plan.specs.View.{plan_tree};
-ghost use Rattle.aql_rewrite_plan.specs.Nodes.{uses_alone};
+ghost use Rattle.aql_rewrite.specs.Nodes.{uses_alone};
 ghost use Rattle.aql_rules_calc.specs.MoveCalculationsUp.{enumerates as spec_enumerates};
 ghost use Rattle.aql_rules_calc.specs.MoveCalculationsUp.{may_pass as spec_may_pass, none_used};
 
 use crate::needs::node_uses;
-use aql_plan::{Facts, Plan};
-use aql_rewrite_kinds::ExchangeRule;
-use aql_rewrite_plan::{Rule, Swap};
-use aql_uses::Uses;
+use aql_plan::{Facts, Plan, Uses};
+use aql_rewrite::{ExchangeRule, Rule, Swap};
 use aql_value::OutOfMemory;
 use std::alloc::Global;
 

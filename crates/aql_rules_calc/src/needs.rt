@@ -2,16 +2,15 @@
 
 ghost use Rattle.std.specs.Prelude.{◌≡◌, ◌||◌, cond, IfOk};
 ghost use Rattle.aql_tree.specs.declared.syntax.Ident.TheVariants.{Num};
-ghost use Rattle.aql_meaning.specs.Uses.{Uses as spec_Uses};
+ghost use Rattle.aql_meaning.specs.Uses.{Uses as spec_Uses, is_used as spec_is_used};
 ghost use Rattle.aql_plan.specs.Needs.{needs};
 ghost use Rattle.aql_plan.specs.Plan.{top};
 ghost use Rattle.aql_plan.specs.View.{plan_tree};
-ghost use Rattle.aql_rewrite_plan.specs.Nodes.{uses_alone, gives_new_rows as spec_gives_new_rows};
-ghost use Rattle.aql_rewrite_plan.specs.Nodes.{is_collect as spec_is_collect};
-ghost use Rattle.aql_rewrite_plan.specs.Swaps.{is_used as spec_is_used};
+ghost use Rattle.aql_rewrite.specs.Nodes.{uses_alone, gives_new_rows as spec_gives_new_rows};
+ghost use Rattle.aql_rewrite.specs.Nodes.{is_collect as spec_is_collect};
 
 use aql_plan::{Plan, add_own_uses};
-use aql_rewrite_plan::is_used;
+use aql_rewrite::is_used;
 use aql_value::{OutOfMemory, Seq};
 use std::alloc::Global;
 

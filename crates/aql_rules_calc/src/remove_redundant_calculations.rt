@@ -9,17 +9,14 @@ ghost use Rattle.aql_plan.specs.Plan as spec;
 ghost use Rattle.aql_plan.specs.Plan.{top};
 ghost use Rattle.aql_plan.specs.View.{plan_tree};
 ghost use Rattle.aql_rules_calc.specs.Readers.{calculation_in as spec_calculation_in};
-ghost use Rattle.aql_rewrite_plan.specs.Plain.{NodePlain};
+ghost use Rattle.aql_rewrite.specs.Plain.{NodePlain};
 ghost use Rattle.aql_rules_calc.specs.RemoveRedundantCalculations.{IsNotOf, Calculates};
 ghost use Rattle.aql_rules_calc.specs.RemoveRedundantCalculations.{IsRedundant, IsNotRedundant};
 
 use crate::needs::gives_new_rows;
-use aql_plan::{Facts, Plan};
-use aql_rewrite_expr::same_expr;
-use aql_rewrite_kinds::RemovingRule;
-use aql_rewrite_plan::{Rename, Rule, Swap};
+use aql_plan::{Facts, Plan, Uses};
+use aql_rewrite::{RemovingRule, Rename, Rule, Swap, same_expr};
 use aql_tree::Expr;
-use aql_uses::Uses;
 use aql_value::OutOfMemory;
 use std::alloc::Global;
 

@@ -6,10 +6,8 @@ ghost use Rattle.aql_plan.specs.Plan.{top};
 ghost use Rattle.aql_plan.specs.View.{plan_tree};
 ghost use Rattle.aql_rules_calc.specs.Readers.{value_var as spec_value_var};
 
-use aql_plan::{Facts, Plan};
-use aql_rewrite_kinds::PartRule;
-use aql_rewrite_plan::{Rule, Swap, is_used};
-use aql_uses::Uses;
+use aql_plan::{Facts, Plan, Uses};
+use aql_rewrite::{PartRule, Rule, Swap, is_used};
 use aql_value::OutOfMemory;
 use std::alloc::Global;
 

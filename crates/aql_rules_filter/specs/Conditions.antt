@@ -1,8 +1,8 @@
 -- Conditions of filters, and their items: the parts of an `&&` chain, or the condition itself.
 use Rattle.std.specs.Prelude.{List, [], ◌∷◌, ◌++◌, true, Option, Some, None}
 use Rattle.aql_value.specs.Datum.{Datum, boolean}
-use Rattle.aql_func.specs.declared.operators.BinOp.{BinOp}
-use Rattle.aql_func.specs.declared.operators.BinOp.TheVariants.{And}
+use Rattle.aql_value.specs.declared.operators.BinOp.{BinOp}
+use Rattle.aql_value.specs.declared.operators.BinOp.TheVariants.{And}
 use Rattle.aql_tree.specs.Tree.{ExprTree, literal, chain, MaybeExpr, no_expr, one_expr, LinkTrees, no_links, link_then}
 use Rattle.aql_plan.specs.FirstPlan.{parts}
 

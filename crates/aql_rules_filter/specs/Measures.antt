@@ -1,7 +1,7 @@
 -- How many filters a plan has, which the rules lower.
 use Rattle.std.specs.Prelude.{ℕ}
 use Rattle.aql_plan.specs.Plan.{Plan, Node, Filter}
-use Rattle.aql_rewrite_kinds.specs.Sums.{total}
+use Rattle.aql_rewrite.specs.Sums.{total}
 
 abbrev pub is_filter : Node → ℕ
 is_filter (Filter e) = 1

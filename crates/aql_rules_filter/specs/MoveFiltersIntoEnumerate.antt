@@ -5,7 +5,7 @@ use Rattle.aql_tree.specs.Tree.{ExprTree, ExprTrees, one_expr}
 use Rattle.aql_meaning.specs.Documents.{Last}
 use Rattle.aql_meaning.specs.Uses.{Uses}
 use Rattle.aql_plan.specs.Plan.{Reading, Plan, Over, EnumerateCollection, Index, Filter}
-use Rattle.aql_rewrite_plan.specs.declared.swap.Rename.{Rename}
+use Rattle.aql_rewrite.specs.declared.swap.Rename.{Rename}
 use Rattle.aql_rules_filter.specs.Conditions.{joined}
 
 -- the reading with another filter

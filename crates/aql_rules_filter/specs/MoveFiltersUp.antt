@@ -5,11 +5,10 @@ use Rattle.std.specs.Prelude.{ℕ, ◌≡◌, ◌+◌, List, Bool, true, false, 
 use Rattle.std.specs.List.{list_all}
 use Rattle.aql_tree.specs.declared.syntax.Ident.{Ident}
 use Rattle.aql_tree.specs.Tree.{ExprTree}
-use Rattle.aql_meaning.specs.Uses.{Uses, uses}
+use Rattle.aql_meaning.specs.Uses.{Uses, uses, is_used}
 use Rattle.aql_plan.specs.Plan.{Plan, Singleton, Over, Node, EnumerateCollection, EnumerateList, Traversal, Calculation, Subquery, Filter, Sort}
 use Rattle.aql_plan.specs.Needs.{sets}
-use Rattle.aql_rewrite_plan.specs.declared.swap.Rename.{Rename}
-use Rattle.aql_rewrite_plan.specs.Swaps.{is_used}
+use Rattle.aql_rewrite.specs.declared.swap.Rename.{Rename}
 
 -- the nodes with which a Filter may swap places
 abbrev pub may_swap : Node → Bool

@@ -4,10 +4,9 @@
 use Rattle.std.specs.Prelude.{ℕ, ◌≡◌, ◌+◌, ◌++◌, length, List, Bool, true, false, not, ◌&&◌, Option, Some, None, option_to_list}
 use Rattle.aql_tree.specs.declared.syntax.Ident.{Ident}
 use Rattle.aql_tree.specs.Tree.{ExprTree, MaybeExpr, no_expr, one_expr, TraversalShape}
-use Rattle.aql_meaning.specs.Uses.{Uses, uses, maybe_uses}
+use Rattle.aql_meaning.specs.Uses.{Uses, uses, maybe_uses, is_used}
 use Rattle.aql_plan.specs.Plan.{Plan, Over, Node, Traversal, Filter}
-use Rattle.aql_rewrite_plan.specs.declared.swap.Rename.{Rename}
-use Rattle.aql_rewrite_plan.specs.Swaps.{is_used}
+use Rattle.aql_rewrite.specs.declared.swap.Rename.{Rename}
 use Rattle.aql_rules_filter.specs.Measures.{is_filter}
 use Rattle.aql_rules_filter.specs.MoveFiltersUp.{none_used}
 

@@ -6,7 +6,7 @@ use Rattle.aql_value.specs.Truth.{truth}
 use Rattle.aql_tree.specs.Tree.{literal}
 use Rattle.aql_meaning.specs.Uses.{Uses}
 use Rattle.aql_plan.specs.Plan.{Plan, Over, Filter, NoResults}
-use Rattle.aql_rewrite_plan.specs.declared.swap.Rename.{Rename}
+use Rattle.aql_rewrite.specs.declared.swap.Rename.{Rename}
 
 pub data Removes : Uses → Plan → Plan → Option Rename → Type 0 where
   passing : {us : Uses} {b : Plan} {v : Datum} → truth v ≡ true

@@ -1,6 +1,5 @@
 pub mod Filtered
 pub mod Filters
-pub mod Flat
 pub mod Permuted
 pub mod Inserted
 pub mod Joined

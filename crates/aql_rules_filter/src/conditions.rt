@@ -5,14 +5,13 @@ ghost use Rattle.aql_value.specs.View.{datum_of};
 ghost use Rattle.aql_tree.specs.Tree.{one_expr};
 ghost use Rattle.aql_tree.specs.View.{tree, maybe, links, link_part};
 ghost use Rattle.aql_plan.specs.FirstPlan.{all_and, right_sides, parts};
-ghost use Rattle.aql_rewrite_expr.specs.View.{lent};
+ghost use Rattle.aql_rewrite.specs.ExprView.{lent};
 ghost use Rattle.aql_rules_filter.specs.Conditions.{literal_in as spec_literal_in, filter_items, and_link};
 ghost use Rattle.aql_rules_filter.specs.Conditions.{all_of as spec_all_of, with_more as spec_with_more};
 ghost use Rattle.aql_rules_filter.specs.Conditions.{joined as spec_joined};
 
-use aql_copy::copy_expr;
 use aql_func::BinOp;
-use aql_tree::{Expr, Link, Links};
+use aql_tree::{Expr, Link, Links, copy_expr};
 use aql_value::{OutOfMemory, Seq, Value};
 use std::alloc::Global;
 

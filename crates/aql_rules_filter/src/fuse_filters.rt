@@ -2,10 +2,8 @@
 
 use crate::conditions::joined;
 use crate::readers::{filter_of, filter_over};
-use aql_plan::{Facts, Plan};
-use aql_rewrite_kinds::PartRule;
-use aql_rewrite_plan::{Rule, Swap};
-use aql_uses::Uses;
+use aql_plan::{Facts, Plan, Uses};
+use aql_rewrite::{PartRule, Rule, Swap};
 use aql_value::OutOfMemory;
 use std::alloc::Global;
 

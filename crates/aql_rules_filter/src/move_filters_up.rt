@@ -2,11 +2,9 @@
 
 use crate::readers::{filter_of, filter_over};
 use crate::swapping::{may_swap, uses_of};
-use aql_copy::copy_expr;
-use aql_plan::{Facts, Plan};
-use aql_rewrite_kinds::ExchangeRule;
-use aql_rewrite_plan::{Rule, Swap};
-use aql_uses::Uses;
+use aql_plan::{Facts, Plan, Uses};
+use aql_rewrite::{ExchangeRule, Rule, Swap};
+use aql_tree::copy_expr;
 use aql_value::OutOfMemory;
 use std::alloc::Global;
 

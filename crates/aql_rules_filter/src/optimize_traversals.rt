@@ -5,19 +5,16 @@ ghost use Rattle.std.specs.Prelude.{◌≡◌, IfOk, MatchOption, None, Some};
 ghost use Rattle.aql_tree.specs.View.{tree};
 ghost use Rattle.aql_plan.specs.Plan as spec;
 ghost use Rattle.aql_plan.specs.View.{plan_tree};
-ghost use Rattle.aql_rewrite_plan.specs.Places.{Stays};
-ghost use Rattle.aql_rewrite_plan.specs.View.{above_uses};
+ghost use Rattle.aql_rewrite.specs.Places.{Stays};
+ghost use Rattle.aql_rewrite.specs.View.{above_uses};
 ghost use Rattle.aql_rules_filter.specs.OptimizeTraversals.{Optimizes};
 ghost use Rattle.aql_rules_filter.specs.Readers.{filter_in};
 
 use crate::readers::{filter_of, open_path, traversal_of, with_filter, without_edge, without_path};
 use crate::swapping::{is_gone, is_unused, test_uses, uses_of};
-use aql_copy::copy_expr;
-use aql_plan::{Facts, Plan};
-use aql_rewrite_kinds::PartRule;
-use aql_rewrite_plan::{Rule, Swap};
-use aql_tree::Expr;
-use aql_uses::Uses;
+use aql_plan::{Facts, Plan, Uses};
+use aql_rewrite::{PartRule, Rule, Swap};
+use aql_tree::{Expr, copy_expr};
 use aql_value::OutOfMemory;
 use std::alloc::Global;
 
@@ -77,7 +74,7 @@ pub struct OptimizeTraversals;
 
 impl Rule for OptimizeTraversals {
     ghost use Rattle.std.specs.Prelude.{false};
-    ghost use Rattle.aql_rewrite_kinds.specs.Sums.{total};
+    ghost use Rattle.aql_rewrite.specs.Sums.{total};
     ghost use Rattle.aql_rules_filter.specs.OptimizeTraversals.{parts_to_go};
     ghost use Rattle.aql_rules_filter.specs.laws.TraversalsOptimized.{optimizes_refine, optimizes_keep, optimizes_fall};
 

@@ -1,10 +1,8 @@
 //! A Filter with a literal goes where this is true-like, and becomes NoResults where it is not.
 
 use crate::conditions::literal_in;
-use aql_plan::{Facts, Plan};
-use aql_rewrite_kinds::PartRule;
-use aql_rewrite_plan::{Rule, Swap};
-use aql_uses::Uses;
+use aql_plan::{Facts, Plan, Uses};
+use aql_rewrite::{PartRule, Rule, Swap};
 use aql_value::{OutOfMemory, truthy};
 use std::alloc::Global;
 

@@ -7,15 +7,14 @@ ghost use Rattle.aql_meaning.specs.Uses.{uses, maybe_uses};
 ghost use Rattle.aql_plan.specs.Needs.{sets};
 ghost use Rattle.aql_plan.specs.Plan.{top};
 ghost use Rattle.aql_plan.specs.View.{plan_tree};
-ghost use Rattle.aql_uses.specs.Used.{uses_tree};
-ghost use Rattle.aql_rewrite_plan.specs.View.{above_uses};
+ghost use Rattle.aql_plan.specs.Used.{uses_tree};
+ghost use Rattle.aql_rewrite.specs.View.{above_uses};
 ghost use Rattle.aql_rules_filter.specs.MoveFiltersUp.{may_swap as spec_may_swap, none_used};
 ghost use Rattle.aql_rules_filter.specs.OptimizeTraversals.{tests_use, is_gone as spec_is_gone};
 
-use aql_plan::Plan;
-use aql_rewrite_plan::is_used;
+use aql_plan::{Plan, Uses, add_uses};
+use aql_rewrite::is_used;
 use aql_tree::Expr;
-use aql_uses::{Uses, add_uses};
 use aql_value::{OutOfMemory, Seq};
 use std::alloc::Global;
 

@@ -6,8 +6,8 @@ use Rattle.aql_tree.specs.declared.syntax.Key.{Key, the_lemmas}
 use Rattle.aql_tree.specs.Tree.{ExprTree}
 use Rattle.aql_tree.specs.View.{tree, key_part}
 use Rattle.aql_plan.specs.View.{key_trees}
-use Rattle.aql_rewrite_expr.specs.Constant.{IsConstant, AreConstant, no_more, constant_then}
-use Rattle.aql_rewrite_expr.specs.Parts.{list_parts}
+use Rattle.aql_rewrite.specs.Constant.{IsConstant, AreConstant, no_more, constant_then}
+use Rattle.aql_rewrite.specs.Parts.{list_parts}
 
 abbrev pub Constant : List Key → Type 0
 Constant keys = AreConstant (list_parts (key_trees keys))

@@ -4,10 +4,9 @@
 use Rattle.std.specs.Prelude.{◌≡◌, Bool, true, false, Option, None}
 use Rattle.aql_tree.specs.declared.syntax.Ident.{Ident}
 use Rattle.aql_tree.specs.Tree.{ExprTree, variable}
-use Rattle.aql_meaning.specs.Uses.{Uses}
+use Rattle.aql_meaning.specs.Uses.{Uses, is_used}
 use Rattle.aql_plan.specs.Plan.{Plan, Singleton, Over, EnumerateList, Calculation, Subquery, Collect, Return}
-use Rattle.aql_rewrite_plan.specs.declared.swap.Rename.{Rename}
-use Rattle.aql_rewrite_plan.specs.Swaps.{is_used}
+use Rattle.aql_rewrite.specs.declared.swap.Rename.{Rename}
 
 -- the start row alone, with values that are set in it
 abbrev pub is_single : Plan → Bool

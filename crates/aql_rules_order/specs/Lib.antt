@@ -4,3 +4,7 @@ pub mod RemoveCollectVariables
 pub mod SortLimit
 pub mod Readers
 pub mod laws
+pub mod InterchangeAdjacentEnumerations
+pub mod StandsFor
+pub mod View
+pub mod Worked

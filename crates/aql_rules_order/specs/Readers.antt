@@ -2,9 +2,8 @@
 use Rattle.std.specs.Prelude.{ℕ, Bool, true, false, not, ◌&&◌, Option, Some, None}
 use Rattle.aql_tree.specs.declared.syntax.Ident.{Ident}
 use Rattle.aql_tree.specs.Tree.{ExprTree, variable}
-use Rattle.aql_meaning.specs.Uses.{Uses}
+use Rattle.aql_meaning.specs.Uses.{Uses, is_used}
 use Rattle.aql_plan.specs.Plan.{Plan, Over, Node, EnumerateList, Subquery, Sort, Return}
-use Rattle.aql_rewrite_plan.specs.Swaps.{is_used}
 use Rattle.aql_rules_order.specs.InlineSubqueries.{is_single, has_collect}
 
 -- a Sort without limit

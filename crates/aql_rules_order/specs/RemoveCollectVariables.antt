@@ -5,11 +5,10 @@ use Rattle.std.specs.List.{list_all}
 use Rattle.aql_tree.specs.declared.syntax.Ident.{Ident}
 use Rattle.aql_tree.specs.Tree.{ExprTrees, AggregateTrees, no_aggregates, aggregate_then, IntoTree, no_into, into}
 use Rattle.aql_meaning.specs.declared.grouping.Stage.{Stage}
-use Rattle.aql_meaning.specs.Uses.{Uses}
+use Rattle.aql_meaning.specs.Uses.{Uses, is_used}
 use Rattle.aql_meaning.specs.Visible.{aggregate_vars, into_var}
 use Rattle.aql_plan.specs.Plan.{Plan, Over, Node, Collect}
-use Rattle.aql_rewrite_plan.specs.declared.swap.Rename.{Rename}
-use Rattle.aql_rewrite_plan.specs.Swaps.{is_used}
+use Rattle.aql_rewrite.specs.declared.swap.Rename.{Rename}
 
 -- the aggregates whose variables are used
 abbrev pub used_aggregates : Uses → AggregateTrees → AggregateTrees

@@ -5,9 +5,9 @@ use Rattle.std.specs.Prelude.{◌≡◌, List, Bool, true, false, Option, None}
 use Rattle.aql_tree.specs.Tree.{ExprTrees}
 use Rattle.aql_meaning.specs.Uses.{Uses}
 use Rattle.aql_plan.specs.Plan.{Plan, Over, Node, EnumerateCollection, EnumerateList, Traversal, Calculation, Subquery, Filter, Sort, Collect}
-use Rattle.aql_rewrite_expr.specs.Constant.{AreConstant}
-use Rattle.aql_rewrite_expr.specs.Parts.{list_parts}
-use Rattle.aql_rewrite_plan.specs.declared.swap.Rename.{Rename}
+use Rattle.aql_rewrite.specs.Constant.{AreConstant}
+use Rattle.aql_rewrite.specs.Parts.{list_parts}
+use Rattle.aql_rewrite.specs.declared.swap.Rename.{Rename}
 
 -- a Sort without limit whose keys are constant: it may give its rows in any order
 abbrev pub IsIdle : Node → Type 0

@@ -5,7 +5,7 @@ use Rattle.std.specs.Prelude.{ℕ, ◌≡◌, ◌+◌, List, Bool, true, false, 
 use Rattle.aql_tree.specs.Tree.{ExprTrees}
 use Rattle.aql_meaning.specs.Uses.{Uses}
 use Rattle.aql_plan.specs.Plan.{Plan, Over, Node, Calculation, Subquery, Sort, Limit}
-use Rattle.aql_rewrite_plan.specs.declared.swap.Rename.{Rename}
+use Rattle.aql_rewrite.specs.declared.swap.Rename.{Rename}
 
 -- nodes that give one row for each
 abbrev pub sets_value : Node → Bool

@@ -7,3 +7,9 @@ pub mod UsedAlone
 pub mod VariablesDropped
 pub mod SortsLimited
 pub mod SubqueriesInlined
+pub mod Orders
+pub mod Grid
+pub mod Loops
+pub mod Interchanged
+pub mod Runs
+pub mod Built

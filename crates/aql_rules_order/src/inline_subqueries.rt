@@ -8,20 +8,17 @@ ghost use Rattle.aql_meaning.specs.Row.{same_ident};
 ghost use Rattle.aql_plan.specs.Plan as spec;
 ghost use Rattle.aql_plan.specs.Plan.{top};
 ghost use Rattle.aql_plan.specs.View.{plan_tree};
-ghost use Rattle.aql_rewrite_plan.specs.Nodes.{is_collect as spec_is_collect};
-ghost use Rattle.aql_rewrite_plan.specs.View.{above_uses};
+ghost use Rattle.aql_rewrite.specs.Nodes.{is_collect as spec_is_collect};
+ghost use Rattle.aql_rewrite.specs.View.{above_uses};
 ghost use Rattle.aql_rules_order.specs.InlineSubqueries.{is_single as spec_is_single};
 ghost use Rattle.aql_rules_order.specs.InlineSubqueries.{has_collect as spec_has_collect};
 ghost use Rattle.aql_rules_order.specs.InlineSubqueries.{started_from as spec_started_from};
 ghost use Rattle.aql_rules_order.specs.Readers.{over_variable, over_subquery, over_return};
 ghost use Rattle.aql_rules_order.specs.Readers.{may_inline as spec_may_inline};
 
-use aql_copy::copy_expr;
-use aql_plan::{Facts, Plan};
-use aql_rewrite_kinds::PartRule;
-use aql_rewrite_plan::{Rule, Swap, is_used};
-use aql_tree::{Expr, Ident};
-use aql_uses::Uses;
+use aql_plan::{Facts, Plan, Uses};
+use aql_rewrite::{PartRule, Rule, Swap, is_used};
+use aql_tree::{Expr, Ident, copy_expr};
 use aql_value::OutOfMemory;
 use std::alloc::Global;
 

@@ -1,14 +1,18 @@
 //! Rules on sorts, subqueries and what COLLECT sets: each stands in the file of the name that
 //! plans print.
+//! The order of FOR loops over collections.
 #![tactic(auto)]
 
 mod inline_subqueries;
+mod interchange_adjacent_enumerations;
 mod readers;
 mod remove_collect_variables;
 mod remove_redundant_sorts;
 mod sort_limit;
+pub mod worked;
 
 pub use inline_subqueries::InlineSubqueries;
+pub use interchange_adjacent_enumerations::candidates;
 pub use remove_collect_variables::RemoveCollectVariables;
 pub use remove_redundant_sorts::RemoveRedundantSorts;
 pub use sort_limit::SortLimit;

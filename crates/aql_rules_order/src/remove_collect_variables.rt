@@ -5,16 +5,15 @@ ghost use Rattle.std.specs.List.{AllByRecursion};
 ghost use Rattle.aql_tree.specs.View.{AggregatePart, aggregate_part, into_part, aggregates as aggregate_trees, into_tree};
 ghost use Rattle.aql_meaning.specs.Numbered.{IsNumber};
 ghost use Rattle.aql_meaning.specs.Visible.{aggregate_vars, into_var};
-ghost use Rattle.aql_rewrite_plan.specs.Swaps.{is_used as spec_is_used};
-ghost use Rattle.aql_rewrite_plan.specs.View.{above_uses};
+ghost use Rattle.aql_meaning.specs.Uses.{is_used as spec_is_used};
+ghost use Rattle.aql_rewrite.specs.View.{above_uses};
 ghost use Rattle.aql_rules_order.specs.RemoveCollectVariables.{all_used, used_into};
 
-use aql_copy::{copy_ident, copy_into, copy_lets, copy_maybe};
-use aql_plan::{Facts, Plan};
-use aql_rewrite_kinds::PartRule;
-use aql_rewrite_plan::{Rule, Swap, is_used};
-use aql_tree::{AggregateItem, Aggregates, Ident, Into};
-use aql_uses::Uses;
+use aql_plan::{Facts, Plan, Uses};
+use aql_rewrite::{PartRule, Rule, Swap, is_used};
+use aql_tree::{
+    AggregateItem, Aggregates, Ident, Into, copy_ident, copy_into, copy_lets, copy_maybe,
+};
 use aql_value::{OutOfMemory, Seq};
 use std::alloc::Global;
 
@@ -115,7 +114,7 @@ pub struct RemoveCollectVariables;
 
 impl Rule for RemoveCollectVariables {
     ghost use Rattle.std.specs.Prelude.{false};
-    ghost use Rattle.aql_rewrite_kinds.specs.Sums.{total};
+    ghost use Rattle.aql_rewrite.specs.Sums.{total};
     ghost use Rattle.aql_rules_order.specs.RemoveCollectVariables.{Drops, vars_to_go};
     ghost use Rattle.aql_rules_order.specs.laws.VariablesDropped.{drops_refine, drops_keep, drops_fall};
 

@@ -4,19 +4,16 @@ ghost use Rattle.std.specs.Prelude.{◌≡◌, ◌↔◌, IsTrue, IfOk, MatchOpt
 ghost use Rattle.aql_plan.specs.Plan as spec;
 ghost use Rattle.aql_plan.specs.Plan.{top};
 ghost use Rattle.aql_plan.specs.View.{plan_tree, key_trees};
-ghost use Rattle.aql_rewrite_expr.specs.Constant.{AreConstant};
-ghost use Rattle.aql_rewrite_expr.specs.Parts.{list_parts};
+ghost use Rattle.aql_rewrite.specs.Constant.{AreConstant};
+ghost use Rattle.aql_rewrite.specs.Parts.{list_parts};
 ghost use Rattle.aql_rules_order.specs.RemoveRedundantSorts.{IsIdle, WithoutSort};
 ghost use Rattle.aql_rules_order.specs.RemoveRedundantSorts.{goes_by_row as spec_goes_by_row};
 ghost use Rattle.aql_rules_order.specs.RemoveRedundantSorts.{ignores_order as spec_ignores_order};
 
 use crate::readers::is_open_sort;
-use aql_plan::{Facts, Plan};
-use aql_rewrite_expr::is_constant;
-use aql_rewrite_kinds::PartRule;
-use aql_rewrite_plan::{Rule, Swap};
+use aql_plan::{Facts, Plan, Uses};
+use aql_rewrite::{PartRule, Rule, Swap, is_constant};
 use aql_tree::Key;
-use aql_uses::Uses;
 use aql_value::OutOfMemory;
 use std::alloc::Global;
 

@@ -7,10 +7,8 @@ ghost use Rattle.aql_plan.specs.View.{plan_tree};
 ghost use Rattle.aql_rules_order.specs.SortLimit.{Limited, sets_value as spec_sets_value};
 
 use crate::readers::{is_open_sort, with_limit};
-use aql_plan::{Facts, Plan};
-use aql_rewrite_kinds::PartRule;
-use aql_rewrite_plan::{Rule, Swap};
-use aql_uses::Uses;
+use aql_plan::{Facts, Plan, Uses};
+use aql_rewrite::{PartRule, Rule, Swap};
 use aql_value::OutOfMemory;
 use std::alloc::Global;
 
@@ -51,7 +49,7 @@ pub struct SortLimit;
 
 impl Rule for SortLimit {
     ghost use Rattle.std.specs.Prelude.{false};
-    ghost use Rattle.aql_rewrite_kinds.specs.Sums.{total};
+    ghost use Rattle.aql_rewrite.specs.Sums.{total};
     ghost use Rattle.aql_rules_order.specs.SortLimit.{Limits, is_unlimited};
     ghost use Rattle.aql_rules_order.specs.laws.SortsLimited.{limits_refine, limits_keep, limits_fall};
 

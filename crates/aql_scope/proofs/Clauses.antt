@@ -11,9 +11,9 @@ use Rattle.aql_tree.specs.declared.syntax.Ident.{Ident}
 use Rattle.aql_tree.specs.declared.syntax.Ident.TheVariants.{Num}
 use Rattle.aql_tree.specs.Tree.{ExprTree, variable, subquery, one_expr, ClauseTree, let_be, into, QueryTree}
 use Rattle.aql_tree.specs.View.{tree, maybe, clause_tree, query_tree, into_tree, into_part}
-use Rattle.aql_lift.specs.Numbering.{Numbering, text_of}
-use Rattle.aql_lift.specs.Lifting as spec
-use Rattle.aql_lift.specs.Lifting.{Scoped, over, declares}
+use Rattle.aql_scope.specs.Numbering.{Numbering, text_of}
+use Rattle.aql_scope.specs.Lifting as spec
+use Rattle.aql_scope.specs.Lifting.{Scoped, over, declares}
 use Rattle.aql_scope.specs.declared.numbers.Numbers.{Numbers}
 use Rattle.aql_scope.specs.Lifts.{Progress, progress, Lifts}
 use Rattle.aql_scope.proofs.Turns.{progress_is, Given, over_given}

@@ -8,9 +8,9 @@ use Rattle.aql_tree.specs.declared.syntax.Ident.{Ident}
 use Rattle.aql_tree.specs.declared.syntax.Ident.TheVariants.{Num}
 use Rattle.aql_tree.specs.Tree.{ExprTree, variable, subquery, ClauseTree, for_each, let_be, ClauseTrees, no_clauses, clause_then}
 use Rattle.aql_tree.specs.View.{clauses}
-use Rattle.aql_lift.specs.Numbering.{Numbering, text_of}
-use Rattle.aql_lift.specs.Lifting as spec
-use Rattle.aql_lift.specs.Lifting.{NumberedSubquery, Scoped, ScopedClause, over, declares, with_lets, append_clauses}
+use Rattle.aql_scope.specs.Numbering.{Numbering, text_of}
+use Rattle.aql_scope.specs.Lifting as spec
+use Rattle.aql_scope.specs.Lifting.{NumberedSubquery, Scoped, ScopedClause, over, declares, with_lets, append_clauses}
 use Rattle.aql_scope.specs.declared.numbers.Numbers.{Numbers}
 use Rattle.aql_scope.specs.Lifts.{Progress, progress, let_of, Lifts, bound}
 use Rattle.aql_scope.proofs.Turns.{progress_is, Given, before, lifts_over}

@@ -6,9 +6,9 @@ use Rattle.aql_tree.specs.declared.syntax.Let.{Let, the_lemmas as let_lemmas}
 use Rattle.aql_tree.specs.declared.syntax.AggregateItem.{AggregateItem, the_lemmas as aggregate_lemmas}
 use Rattle.aql_tree.specs.Tree.{ExprTree, MaybeExpr, no_expr, one_expr, computed_then, StepTrees, inline_then}
 use Rattle.aql_tree.specs.View.{tree, maybe, MemberPart, named, computed, members, StepPart, name, at, inline, steps, link_part, key_part, let_part, aggregate_part}
-use Rattle.aql_lift.specs.Numbering.{Numbering}
-use Rattle.aql_lift.specs.Lifting as spec
-use Rattle.aql_lift.specs.Lifting.{Scoped, as_it_is, both, three}
+use Rattle.aql_scope.specs.Numbering.{Numbering}
+use Rattle.aql_scope.specs.Lifting as spec
+use Rattle.aql_scope.specs.Lifting.{Scoped, as_it_is, both, three}
 use Rattle.aql_scope.specs.Lifts.{member_then, step_then, option_of, one_member, one_step}
 use Rattle.aql_scope.proofs.Turns.{three_both}
 

@@ -9,9 +9,9 @@ use Rattle.aql_tree.specs.declared.syntax.AggregateItem.{AggregateItem}
 use Rattle.aql_tree.specs.Tree.{ExprTree, MaybeExpr, expr_then, AggregateTrees, aggregate_then}
 use Rattle.aql_tree.specs.View.{tree, trees, maybe, LetPart, let_part, AggregatePart, aggregate_part, aggregates}
 use Rattle.aql_meaning.specs.Visible.{aggregate_vars}
-use Rattle.aql_lift.specs.Numbering.{Numbering, enter, text_of}
-use Rattle.aql_lift.specs.Lifting as spec
-use Rattle.aql_lift.specs.Lifting.{Scoped, ScopedClause, declares}
+use Rattle.aql_scope.specs.Numbering.{Numbering, enter, text_of}
+use Rattle.aql_scope.specs.Lifting as spec
+use Rattle.aql_scope.specs.Lifting.{Scoped, ScopedClause, declares}
 use Rattle.aql_scope.specs.declared.numbers.Numbers.{Numbers}
 use Rattle.aql_scope.specs.Lifts.{Progress, progress}
 use Rattle.aql_scope.proofs.Turns.{Given, Goes, Unvisited, turn_there, from_here}

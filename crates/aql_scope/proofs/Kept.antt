@@ -6,8 +6,8 @@ use Rattle.aql_value.specs.Database.{Database}
 use Rattle.aql_tree.specs.Tree.{QueryTree}
 use Rattle.aql_meaning.specs.Row.{empty_row}
 use Rattle.aql_meaning.specs.Meaning.{IsAnswer}
-use Rattle.aql_lift.specs.Lifting.{scope_query}
-use Rattle.aql_lift.proofs.Answers.{scoped_back}
+use Rattle.aql_scope.specs.Lifting.{scope_query}
+use Rattle.aql_scope.proofs.Answers.{scoped_back}
 use Rattle.aql_doc.specs.Held.{Held}
 use Rattle.aql_scope.specs.Faults.{outermost, first_fault}
 use Rattle.aql_scope.proofs.PrunesPlain.{no_fault_plain_prunes}

@@ -10,3 +10,13 @@ pub mod Queries
 pub mod Elements
 pub mod Groups
 pub mod Clauses
+pub mod Alike
+pub mod Named
+pub mod Walk
+pub mod Lists
+pub mod Lets
+pub mod Traversals
+pub mod Rows
+pub mod LiftedGroups
+pub mod Answers
+pub mod Computed

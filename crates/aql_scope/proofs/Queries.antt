@@ -4,9 +4,9 @@ use Rattle.std.proofs.lemmas.List.{drop_all}
 use Rattle.aql_tree.specs.declared.syntax.Clause.{Clause}
 use Rattle.aql_tree.specs.Tree.{ExprTree, no_clauses, clause_then, QueryTree, query}
 use Rattle.aql_tree.specs.View.{clause_tree, clauses}
-use Rattle.aql_lift.specs.Numbering.{Numbering}
-use Rattle.aql_lift.specs.Lifting as spec
-use Rattle.aql_lift.specs.Lifting.{NumberedSubquery, Scoped, ScopedClause, ScopedClauses, with_lets, append_clauses}
+use Rattle.aql_scope.specs.Numbering.{Numbering}
+use Rattle.aql_scope.specs.Lifting as spec
+use Rattle.aql_scope.specs.Lifting.{NumberedSubquery, Scoped, ScopedClause, ScopedClauses, with_lets, append_clauses}
 use Rattle.aql_scope.specs.Lifts.{Progress, let_of}
 use Rattle.aql_scope.proofs.Turns.{Given, before, from_here}
 use Rattle.aql_scope.proofs.Parts.{before_clauses}

@@ -6,7 +6,7 @@ use Rattle.std.proofs.Math.Seq.{drop-cons, take-append_seam}
 use Rattle.std.proofs.lemmas.List.{map-append, drop_all, get_or-set_other, length-set, take_all, take_more_set}
 use Rattle.aql_value.specs.declared.memory.OutOfMemory.{OutOfMemory}
 use Rattle.aql_tree.specs.Tree.{ClauseTree}
-use Rattle.aql_lift.specs.Lifting.{NumberedSubquery, Scoped, as_it_is, over, both, three}
+use Rattle.aql_scope.specs.Lifting.{NumberedSubquery, Scoped, as_it_is, over, both, three}
 use Rattle.aql_scope.specs.Lifts.{Progress, let_of, after, Lifts}
 
 pub progress_is : (cs ds : List ClauseTree) (said more : List (List ℕ)) (n m : ℕ) → cs ≡ ds → said ≡ more → n ≡ m

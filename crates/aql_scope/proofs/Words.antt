@@ -15,7 +15,7 @@ use Rattle.aql_tree.specs.Tree.{ExprTree, TraversalOptions, named_then}
 use Rattle.aql_tree.specs.View.{tree, MemberPart, named, computed, members, trees}
 use Rattle.aql_meaning.specs.Options.{set_all, options_of}
 use Rattle.aql_meaning.specs.Row.{same_ident}
-use Rattle.aql_lift.specs.Numbering.{Numbering, number_of, numbered_variable, idents, variable_members}
+use Rattle.aql_scope.specs.Numbering.{Numbering, number_of, numbered_variable, idents, variable_members}
 use Rattle.aql_scope.specs.declared.faults.ScopeFault.{ScopeFault}
 use Rattle.aql_meaning.specs.Groups.{into_names}
 use Rattle.aql_meaning.specs.Visible.{onto}

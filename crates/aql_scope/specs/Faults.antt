@@ -12,7 +12,7 @@ use Rattle.aql_tree.specs.declared.syntax.Ident.TheVariants.{Name, Num}
 use Rattle.aql_tree.specs.Tree.{TraversalShape, ExprTree, literal, variable, current, array_literal, object_literal, access, function_call, unary_of, chain, array_comparison, ternary, range_of, subquery, ExprTrees, no_exprs, expr_then, MaybeExpr, no_expr, one_expr, MemberTrees, no_members, named_then, computed_then, StepTrees, no_steps, name_then, at_then, inline_then, LinkTrees, no_links, link_then, ClauseTree, for_each, for_documents, traversal, filter_by, let_be, sort_by, limit, collect, AggregateTrees, no_aggregates, aggregate_then, IntoTree, no_into, into, ClauseTrees, no_clauses, clause_then, QueryTree, query}
 use Rattle.aql_meaning.specs.Row.{same_ident}
 use Rattle.aql_meaning.specs.Visible.{onto, vars_after, aggregate_vars}
-use Rattle.aql_lift.specs.Numbering.{text_of}
+use Rattle.aql_scope.specs.Numbering.{text_of}
 use Rattle.aql_doc.specs.Held.{Held}
 use Rattle.aql_doc.specs.Declarations.{place_of}
 use Rattle.aql_scope.specs.declared.faults.ScopeFault.{ScopeFault}

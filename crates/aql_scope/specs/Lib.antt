@@ -2,3 +2,9 @@ pub mod Options
 pub mod Faults
 pub mod Places
 pub mod Lifts
+pub mod Numbering
+pub mod Lifting
+pub mod Prunes
+pub mod Theorem
+pub mod laws
+pub mod Worked

@@ -8,8 +8,8 @@ use Rattle.aql_tree.specs.declared.syntax.Ident.TheVariants.{Num}
 use Rattle.aql_tree.specs.Tree.{ExprTree, MaybeExpr, no_expr, one_expr, ClauseTree, let_be, subquery, QueryTree, MemberTrees, named_then, computed_then, StepTrees, name_then, at_then, inline_then}
 use Rattle.aql_tree.specs.View as view
 use Rattle.aql_tree.specs.View.{clause_tree, MemberPart, named, computed, StepPart}
-use Rattle.aql_lift.specs.Numbering.{Numbering}
-use Rattle.aql_lift.specs.Lifting.{NumberedSubquery, Scoped, as_it_is, over, both, declares, expr, maybe, clause}
+use Rattle.aql_scope.specs.Numbering.{Numbering}
+use Rattle.aql_scope.specs.Lifting.{NumberedSubquery, Scoped, as_it_is, over, both, declares, expr, maybe, clause}
 use Rattle.aql_scope.specs.declared.names.Scope.{Scope}
 use Rattle.aql_scope.specs.declared.numbers.Numbers.{Numbers}
 use Rattle.aql_scope.specs.declared.numbers.Walk.{Walk}

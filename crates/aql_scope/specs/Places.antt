@@ -1,6 +1,6 @@
 -- Where the program stands, as the definition of faults sees it, and what it answers there.
 use Rattle.std.specs.Prelude.{◌≡◌, ◌⊎◌, true, Option, Some, None, Result, Ok, Err}
-use Rattle.aql_lift.specs.Numbering.{idents}
+use Rattle.aql_scope.specs.Numbering.{idents}
 use Rattle.aql_scope.specs.declared.faults.ScopeFault.{ScopeFault}
 use Rattle.aql_scope.specs.declared.faults.ScopeFault.TheVariants.{Memory}
 use Rattle.aql_scope.specs.declared.names.At.{At}

@@ -5,7 +5,7 @@ ghost use Rattle.aql_func.specs.Names.{function_named};
 ghost use Rattle.aql_func.specs.Aggregates.{aggregate_named};
 ghost use Rattle.aql_aggregate.specs.View.{aggregate_of};
 ghost use Rattle.aql_tree.specs.View.{tree, maybe};
-ghost use Rattle.aql_lift.specs.Numbering.{idents, text_of};
+ghost use Rattle.aql_scope.specs.Numbering.{idents, text_of};
 ghost use Rattle.aql_doc.specs.Declarations.{place_of};
 ghost use Rattle.aql_scope.specs.declared.faults.ScopeFault.TheVariants.{BadOption};
 ghost use Rattle.aql_scope.specs.Faults as spec;

@@ -5,7 +5,7 @@ ghost use Rattle.aql_tree.specs.View.{tree, trees, maybe, aggregates, into_tree,
 ghost use Rattle.aql_tree.specs.View.{clause_tree, key_part, let_part, aggregate_part, into_part};
 ghost use Rattle.aql_tree.specs.View.{collect_part, collect_clause, traversal_part, traversal_clause};
 ghost use Rattle.aql_meaning.specs.Visible.{onto, aggregate_vars};
-ghost use Rattle.aql_lift.specs.Numbering.{idents};
+ghost use Rattle.aql_scope.specs.Numbering.{idents};
 ghost use Rattle.aql_scope.specs.Faults as spec;
 ghost use Rattle.aql_scope.specs.Places.{place, Judges};
 

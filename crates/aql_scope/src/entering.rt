@@ -4,7 +4,7 @@ ghost use Rattle.std.specs.Prelude.{◌≡◌, map, option_to_list, OnOk};
 ghost use Rattle.aql_tree.specs.View.{aggregates, clause_tree, let_part, aggregate_part};
 ghost use Rattle.aql_tree.specs.View.{traversal_part, traversal_clause, collect_part, collect_clause};
 ghost use Rattle.aql_meaning.specs.Visible.{onto, vars_after, aggregate_vars};
-ghost use Rattle.aql_lift.specs.Numbering.{idents};
+ghost use Rattle.aql_scope.specs.Numbering.{idents};
 
 use crate::Made;
 use crate::names::{NameList, Scope};

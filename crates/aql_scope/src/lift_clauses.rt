@@ -3,8 +3,8 @@
 ghost use Rattle.std.specs.Prelude.{◌≡◌, suc, [], ◌∷◌, ◌++◌, map, IfOk, OnOk};
 ghost use Rattle.aql_tree.specs.Tree.{let_be};
 ghost use Rattle.aql_tree.specs.View.{tree, trees, query_tree, clause_tree, key_part};
-ghost use Rattle.aql_lift.specs.Numbering.{number_of, from_name, text_of};
-ghost use Rattle.aql_lift.specs.Lifting as spec;
+ghost use Rattle.aql_scope.specs.Numbering.{number_of, from_name, text_of};
+ghost use Rattle.aql_scope.specs.Lifting as spec;
 ghost use Rattle.aql_scope.specs.Lifts.{Walks, LiftsClause, LiftsQuery, bound, visible};
 
 use crate::Made;

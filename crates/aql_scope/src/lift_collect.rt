@@ -8,8 +8,8 @@ ghost use Rattle.aql_tree.specs.View.{collect_part, collect_clause};
 ghost use Rattle.aql_tree.specs.declared.syntax.Ident.TheVariants.{Name};
 ghost use Rattle.aql_meaning.specs.Groups.{into_names};
 ghost use Rattle.aql_meaning.specs.Visible.{aggregate_vars, into_var};
-ghost use Rattle.aql_lift.specs.Numbering.{number_of, numbered_variable, idents, enter, variable_members};
-ghost use Rattle.aql_lift.specs.Lifting as spec;
+ghost use Rattle.aql_scope.specs.Numbering.{number_of, numbered_variable, idents, enter, variable_members};
+ghost use Rattle.aql_scope.specs.Lifting as spec;
 ghost use Rattle.aql_scope.specs.Lifts.{Walks, LiftsClause, visible};
 
 use crate::Made;

@@ -5,8 +5,8 @@ ghost use Rattle.aql_tree.specs.Tree.{variable, let_be};
 ghost use Rattle.aql_tree.specs.View.{tree, trees, maybe, members, steps, links, clause_tree};
 ghost use Rattle.aql_tree.specs.View.{step_part, member_part, link_part};
 ghost use Rattle.aql_tree.specs.declared.syntax.Ident.TheVariants.{Num};
-ghost use Rattle.aql_lift.specs.Numbering.{number_of, numbered_variable};
-ghost use Rattle.aql_lift.specs.Lifting as spec;
+ghost use Rattle.aql_scope.specs.Numbering.{number_of, numbered_variable};
+ghost use Rattle.aql_scope.specs.Lifting as spec;
 ghost use Rattle.aql_scope.specs.Lifts.{Walks, visible, one_member, one_step};
 
 use crate::Made;

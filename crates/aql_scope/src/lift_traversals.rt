@@ -4,8 +4,8 @@ ghost use Rattle.std.specs.Prelude.{◌≡◌, suc, ◌∷◌, ◌++◌, map, op
 ghost use Rattle.aql_tree.specs.View.{tree, maybe};
 ghost use Rattle.aql_tree.specs.View.{traversal_part, traversal_clause};
 ghost use Rattle.aql_tree.specs.declared.syntax.Ident.TheVariants.{Num};
-ghost use Rattle.aql_lift.specs.Numbering.{text_of, maybe_number, enter, number_after};
-ghost use Rattle.aql_lift.specs.Lifting as spec;
+ghost use Rattle.aql_scope.specs.Numbering.{text_of, maybe_number, enter, number_after};
+ghost use Rattle.aql_scope.specs.Lifting as spec;
 ghost use Rattle.aql_scope.specs.Lifts.{LiftsClause, visible};
 
 use crate::Made;

@@ -1,7 +1,7 @@
 //! The visible names and their numbers.
 
 ghost use Rattle.std.specs.Prelude.{◌≡◌, [], ◌∷◌, ◌++◌, suc, length, reverse, IfOk, OnOk};
-ghost use Rattle.aql_lift.specs.Numbering.{number_of, idents, text_of};
+ghost use Rattle.aql_scope.specs.Numbering.{number_of, idents, text_of};
 ghost use Rattle.aql_tree.specs.declared.syntax.Ident.TheVariants.{Num};
 ghost use Rattle.aql_meaning.specs.Row.{same_ident};
 ghost use Rattle.aql_scope.specs.Faults.{is_among, inline};
@@ -9,9 +9,8 @@ ghost use Rattle.aql_scope.specs.Places.{place, place_within};
 ghost use Rattle.aql_meaning.specs.Groups.{names_of};
 
 use crate::Made;
-use aql_copy::copy_ident;
 use aql_doc::Catalog;
-use aql_tree::Ident;
+use aql_tree::{Ident, copy_ident};
 use aql_value::{Names, Text};
 use std::alloc::Global;
 use std::marker::Model;
@@ -29,7 +28,7 @@ impl Drop for NameList {
 }
 
 impl Model for NameList {
-    ghost use Rattle.aql_lift.specs.Numbering.{Numbering};
+    ghost use Rattle.aql_scope.specs.Numbering.{Numbering};
 
     ghost Value = { Numbering };
 

@@ -2,7 +2,7 @@
 
 ghost use Rattle.std.specs.Prelude.{◌≡◌, [], ◌∷◌, ◌++◌, suc, codes, IfOk, OnOk};
 ghost use Rattle.aql_tree.specs.declared.syntax.Ident.TheVariants.{Num};
-ghost use Rattle.aql_lift.specs.Numbering.{text_of};
+ghost use Rattle.aql_scope.specs.Numbering.{text_of};
 
 use crate::Made;
 use crate::names::{NameList, spelling};

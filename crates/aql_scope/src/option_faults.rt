@@ -2,7 +2,7 @@
 
 ghost use Rattle.std.specs.Prelude.{◌≡◌, [], map, option_to_list};
 ghost use Rattle.aql_tree.specs.View.{tree, members, member_part, traversal_part};
-ghost use Rattle.aql_lift.specs.Numbering.{idents};
+ghost use Rattle.aql_scope.specs.Numbering.{idents};
 ghost use Rattle.aql_scope.specs.Options.{no_settings};
 ghost use Rattle.aql_scope.specs.Faults as spec;
 ghost use Rattle.aql_scope.specs.Places.{place, Judges};

@@ -4,7 +4,7 @@ ghost use Rattle.aql_value.specs.Database.{Database};
 ghost use Rattle.aql_tree.specs.View.{query_tree};
 ghost use Rattle.aql_meaning.specs.Row.{empty_row};
 ghost use Rattle.aql_meaning.specs.Meaning.{IsAnswer};
-ghost use Rattle.aql_lift.specs.Lifting.{scope_query};
+ghost use Rattle.aql_scope.specs.Lifting.{scope_query};
 ghost use Rattle.aql_scope.specs.Faults as spec;
 ghost use Rattle.aql_scope.specs.declared.faults.ScopeFault.TheVariants.{Memory};
 

@@ -10,7 +10,7 @@ use Rattle.aql_meaning.specs.Lifted.{IsLifted}
 use Rattle.aql_doc.specs.Held.{Held, database}
 use Rattle.aql_doc.specs.Limits.{IsWithinLimits}
 use Rattle.aql_script.specs.declared.loading.Loaded.{Loaded}
-use Rattle.aql_lift.proofs.Walk.{scoped_is_lifted}
+use Rattle.aql_scope.proofs.Walk.{scoped_is_lifted}
 use Rattle.aql_plan.specs.declared.facts.Facts.{Facts}
 use Rattle.aql_plan.specs.declared.plan.Plan.{Plan}
 use Rattle.aql_plan.specs.declared.rules.RuleName.{RuleName}
@@ -22,21 +22,21 @@ use Rattle.aql_plan.specs.Refines.{world, Refines, Answers as PlanAnswers}
 use Rattle.aql_plan.specs.Runs.{World}
 use Rattle.aql_plan.specs.WellFormed.{IsWellFormed}
 use Rattle.aql_plan_laws.proofs.FirstAnswers.{first_answers}
-use Rattle.aql_exec_plan.specs.Runnable.{HasExecutors}
+use Rattle.aql_engine.specs.Runnable.{HasExecutors}
 use Rattle.aql_shard.specs.Holding.{Holding}
 use Rattle.aql_shard.specs.Held.{stock, nothing_counted}
 use Rattle.aql_shard.specs.Known.{facts_of}
 use Rattle.aql_build.specs.Resolved.{IsResolved}
 use Rattle.aql_build.specs.Theorem.{ScopingGivesIt}
-use Rattle.aql_build_limits.specs.Theorem.{TextLimitsEnd}
+use Rattle.aql_build.specs.TextLimits.{TextLimitsEnd}
 use Rattle.aql_opt.specs.declared.rule_sets.Rules.{Rules}
 use Rattle.aql_opt.specs.Theorem.{FactsFit}
-use Rattle.aql_optimise.specs.Chosen.{Chosen}
+use Rattle.aql_opt.specs.Chosen.{Chosen}
 use Rattle.aql_engine.specs.declared.engine.Ran.{Ran}
 use Rattle.aql_engine.specs.Engine.{CanRun, Adds}
-use Rattle.aql_front.specs.declared.faults.QueryFault.{QueryFault}
-use Rattle.aql_front.specs.declared.faults.QueryFault.TheVariants.{TooLong, Lexical, TooDeep, TooManyClauses, NotInGrammar, TraversalTooDeep, Scope, Memory}
-use Rattle.aql_front.specs.Reading.{IsWritten, IsScoped, Refuses}
+use Rattle.aql_top.specs.declared.query_faults.QueryFault.{QueryFault}
+use Rattle.aql_top.specs.declared.query_faults.QueryFault.TheVariants.{TooLong, Lexical, TooDeep, TooManyClauses, NotInGrammar, TraversalTooDeep, Scope, Memory}
+use Rattle.aql_top.specs.Reading.{IsWritten, IsScoped, Refuses}
 use Rattle.aql_top.specs.Forms.{HasQuery, Answers, answer_text}
 use Rattle.aql_top.specs.Entries.{IsChosenPlan, AddsChosen}
 use Rattle.aql_top.specs.Faults.{of_query, HasNoLines}

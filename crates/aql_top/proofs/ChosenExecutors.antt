@@ -11,11 +11,11 @@ use Rattle.aql_plan.specs.declared.rules.RuleName.{RuleName}
 use Rattle.aql_plan.specs.declared.rules.RuleName.TheVariants as rule
 use Rattle.aql_plan.specs.Exprs.{map_plan, map_node}
 use Rattle.aql_plan.specs.Plan.{Plan, Singleton, Over, Node, EnumerateCollection, Index, EnumerateList, Traversal, Calculation, Subquery, Filter, Sort, Collect, Return, Distribute, Gather}
-use Rattle.aql_exec_plan.specs.Runnable.{HasExecutors, HasExecutor}
-use Rattle.aql_rewrite_plan.specs.declared.swap.Rename.{Rename}
-use Rattle.aql_rewrite_plan.specs.NodeExprs.{over_exprs}
-use Rattle.aql_rewrite_plan.specs.Places.{Rewriting, First, below, here, body, Reaches, at_once, next, renamed_by}
-use Rattle.aql_rewrite_node_exprs.specs.AtExprs.{AtExprs}
+use Rattle.aql_engine.specs.Runnable.{HasExecutors, HasExecutor}
+use Rattle.aql_rewrite.specs.declared.swap.Rename.{Rename}
+use Rattle.aql_rewrite.specs.NodeExprs.{over_exprs}
+use Rattle.aql_rewrite.specs.Places.{Rewriting, First, below, here, body, Reaches, at_once, next, renamed_by}
+use Rattle.aql_passes.specs.AtExprs.{AtExprs}
 use Rattle.aql_rules_calc.specs.MoveCalculationsUp.{Moves, swapped as calculation_moved}
 use Rattle.aql_rules_calc.specs.ReduceExtractionToProjection.{Reduces, enumeration, by_index}
 use Rattle.aql_rules_calc.specs.RemoveRedundantCalculations.{Redundant, calculated_twice}
@@ -30,11 +30,11 @@ use Rattle.aql_rules_order.specs.RemoveRedundantSorts.{WithoutSort, Unsorts, con
 use Rattle.aql_rules_order.specs.SortLimit.{Limited, Limits, limited}
 use Rattle.aql_rules_filter.specs.MoveFiltersIntoEnumerate.{MovesIn, into_enumerate, into_index}
 use Rattle.aql_opt.specs.declared.rule_sets.Rules.{Rules}
-use Rattle.aql_rules_conditions.specs.SimplifyConditions.{Simplifies}
-use Rattle.aql_rules_conditions.specs.ReplaceOrWithIn.{Replaces}
-use Rattle.aql_optimise.specs.Passes.{IsPassOf}
-use Rattle.aql_rules_join.specs.laws.Interchanged.{Interchanged, Reordered, candidates_reordered}
-use Rattle.aql_optimise.specs.Chosen.{RunsRule, switched_off, unchanged, changed, AfterRules, at_first, and_then, CandidatesBy, alone, interchanged, EndsAs, first_rules, later_rules, Chosen}
+use Rattle.aql_rules_calc.specs.SimplifyConditions.{Simplifies}
+use Rattle.aql_rules_calc.specs.ReplaceOrWithIn.{Replaces}
+use Rattle.aql_opt.specs.Passes.{IsPassOf}
+use Rattle.aql_rules_order.specs.laws.Interchanged.{Interchanged, Reordered, candidates_reordered}
+use Rattle.aql_opt.specs.Chosen.{RunsRule, switched_off, unchanged, changed, AfterRules, at_first, and_then, CandidatesBy, alone, interchanged, EndsAs, first_rules, later_rules, Chosen}
 
 -- ---- other expressions, and other names
 

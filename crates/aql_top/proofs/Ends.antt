@@ -8,10 +8,10 @@ use Rattle.aql_script.specs.declared.loading.Loaded.{Loaded}
 use Rattle.aql_script.specs.declared.faults.LoadFault.{LoadFault}
 use Rattle.aql_script.specs.declared.faults.LoadFault.TheVariants as load
 use Rattle.aql_tree.specs.Tree.{QueryTree}
-use Rattle.aql_front.specs.declared.faults.QueryFault.{QueryFault}
-use Rattle.aql_front.specs.declared.faults.QueryFault.TheVariants as query
-use Rattle.aql_front.specs.Reading.{Refuses}
-use Rattle.aql_front.proofs.Once.{only_query, only_fault}
+use Rattle.aql_top.specs.declared.query_faults.QueryFault.{QueryFault}
+use Rattle.aql_top.specs.declared.query_faults.QueryFault.TheVariants as query
+use Rattle.aql_top.specs.Reading.{Refuses}
+use Rattle.aql_top.proofs.Once.{only_query, only_fault}
 use Rattle.aql_top.specs.Forms.{TakesWords, HasQuery, Accepts, HasQueryFault}
 use Rattle.aql_opt.specs.declared.rule_sets.Rules.{Rules}
 use Rattle.aql_top.specs.Entries.{PrintsEntry, AddsAtMostOne, IsEntered}

@@ -4,7 +4,7 @@ use Rattle.aql_tree.specs.Tree.{ExprTree, subquery, ClauseTree, filter_by, let_b
 use Rattle.aql_plan.specs.declared.facts.Facts.{Facts}
 use Rattle.aql_plan.specs.Plan.{Plan, Singleton, Over, Filter}
 use Rattle.aql_plan.specs.FirstPlan.{parts, filters, after_clause, after_clauses, first_plan}
-use Rattle.aql_exec_plan.specs.Runnable.{HasExecutors}
+use Rattle.aql_engine.specs.Runnable.{HasExecutors}
 
 filters_have : (b : Plan) (es : List ExprTree) → HasExecutors b → HasExecutors (filters b es)
 filters_have b [] h = h

@@ -3,3 +3,4 @@ pub mod Executors
 pub mod ChosenExecutors
 pub mod Answering
 pub mod Ends
+pub mod Once

@@ -7,9 +7,9 @@ use Rattle.aql_script.specs.declared.loading.Loaded.{Loaded}
 use Rattle.aql_script.specs.declared.faults.LoadFault.{LoadFault}
 use Rattle.aql_script.specs.declared.faults.LoadFault.TheVariants.{Read, Limit, Line, Memory}
 use Rattle.aql_script.specs.declared.faults.LimitKind.TheVariants.{ScriptBytes}
-use Rattle.aql_front.specs.Reading.{Refuses}
-use Rattle.aql_front.specs.declared.faults.QueryFault.{QueryFault}
-use Rattle.aql_front.specs.declared.faults.QueryFault.TheVariants as query
+use Rattle.aql_top.specs.Reading.{Refuses}
+use Rattle.aql_top.specs.declared.query_faults.QueryFault.{QueryFault}
+use Rattle.aql_top.specs.declared.query_faults.QueryFault.TheVariants as query
 use Rattle.aql_top.specs.Forms.{TakesWords, HasQuery, Answers, IsScriptWith, Accepts, Allows}
 use Rattle.aql_top.specs.Forms.{answer_text}
 use Rattle.aql_opt.specs.declared.rule_sets.Rules.{Rules}

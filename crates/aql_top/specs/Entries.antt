@@ -6,9 +6,9 @@ use Rattle.aql_io.specs.Bytes.{AppendsPrefix}
 use Rattle.aql_doc.specs.Held.{database}
 use Rattle.aql_tree.specs.Tree.{QueryTree}
 use Rattle.aql_script.specs.declared.loading.Loaded.{Loaded}
-use Rattle.aql_lift.specs.Lifting.{scope_query}
+use Rattle.aql_scope.specs.Lifting.{scope_query}
 use Rattle.aql_scope.specs.Faults.{first_fault}
-use Rattle.aql_front.specs.Reading.{IsWritten}
+use Rattle.aql_top.specs.Reading.{IsWritten}
 use Rattle.aql_plan.specs.declared.facts.Facts.{Facts}
 use Rattle.aql_plan.specs.declared.plan.Plan.{Plan}
 use Rattle.aql_plan.specs.declared.rules.RuleName.{RuleName}
@@ -16,7 +16,7 @@ use Rattle.aql_plan.specs.Facts.{Meets}
 use Rattle.aql_plan.specs.View.{plan_tree}
 use Rattle.aql_plan.specs.FirstPlan.{first_plan}
 use Rattle.aql_opt.specs.declared.rule_sets.Rules.{Rules}
-use Rattle.aql_optimise.specs.Chosen.{Chosen}
+use Rattle.aql_opt.specs.Chosen.{Chosen}
 use Rattle.aql_engine.specs.declared.engine.Ran.{Ran}
 use Rattle.aql_top.specs.Forms.{answer_text, IsScriptWith}
 

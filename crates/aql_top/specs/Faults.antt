@@ -5,10 +5,10 @@ use Rattle.aql_script.specs.Texts.{fault_text}
 use Rattle.aql_script.specs.declared.loading.Loaded.{Loaded}
 use Rattle.aql_script.specs.declared.faults.LoadFault.{LoadFault}
 use Rattle.aql_script.specs.declared.faults.LoadFault.TheVariants as load
-use Rattle.aql_front.specs.declared.faults.QueryFault.{QueryFault}
-use Rattle.aql_front.specs.declared.faults.QueryFault.TheVariants as query
-use Rattle.aql_front.specs.Reading.{Refuses}
-use Rattle.aql_front.specs.Texts.{query_fault_text}
+use Rattle.aql_top.specs.declared.query_faults.QueryFault.{QueryFault}
+use Rattle.aql_top.specs.declared.query_faults.QueryFault.TheVariants as query
+use Rattle.aql_top.specs.Reading.{Refuses}
+use Rattle.aql_top.specs.Texts.{query_fault_text}
 use Rattle.aql_top.specs.Forms.{TakesWords, Accepts, HasQueryFault}
 use Rattle.aql_top.specs.Reasons.{fault_status, query_status, as_line}
 use Rattle.aql_top.specs.declared.faults.RunFault.{RunFault}

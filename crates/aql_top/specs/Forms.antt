@@ -9,8 +9,8 @@ use Rattle.aql_doc.specs.Held.{database}
 use Rattle.aql_script.specs.Script.{IsScript}
 use Rattle.aql_script.specs.declared.loading.Loaded.{Loaded}
 use Rattle.aql_scope.specs.Faults.{first_fault}
-use Rattle.aql_front.specs.Reading.{IsWritten, Refuses}
-use Rattle.aql_front.specs.declared.faults.QueryFault.{QueryFault}
+use Rattle.aql_top.specs.Reading.{IsWritten, Refuses}
+use Rattle.aql_top.specs.declared.query_faults.QueryFault.{QueryFault}
 
 -- the words of the command line: the program's name alone
 abbrev pub TakesWords : List (List ℕ) → Type 0

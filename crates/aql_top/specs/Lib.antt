@@ -2,3 +2,6 @@ pub mod Forms
 pub mod Entries
 pub mod Faults
 pub mod Reasons
+pub mod Causes
+pub mod Reading
+pub mod Texts

@@ -7,9 +7,9 @@ use Rattle.aql_script.specs.Script.{HasFault, IsOfBytes}
 use Rattle.aql_script.specs.Texts.{fault_text}
 use Rattle.aql_script.specs.declared.faults.LoadFault.{LoadFault}
 use Rattle.aql_script.specs.declared.faults.LoadFault.TheVariants.{Read, Limit, Line, Memory}
-use Rattle.aql_front.specs.declared.faults.QueryFault.{QueryFault}
-use Rattle.aql_front.specs.declared.faults.QueryFault.TheVariants as query
-use Rattle.aql_front.specs.Texts.{query_fault_text}
+use Rattle.aql_top.specs.declared.query_faults.QueryFault.{QueryFault}
+use Rattle.aql_top.specs.declared.query_faults.QueryFault.TheVariants as query
+use Rattle.aql_top.specs.Texts.{query_fault_text}
 use Rattle.aql_top.specs.Forms.{Allows, HasQueryFault}
 
 -- the exit status of a fault of the script, and of its query

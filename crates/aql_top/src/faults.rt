@@ -1,4 +1,4 @@
-use aql_front::QueryFault;
+use crate::QueryFault;
 use aql_io::WriteFailed;
 use aql_script::LoadFault;
 use aql_value::OutOfMemory;

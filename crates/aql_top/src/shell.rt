@@ -11,8 +11,8 @@ ghost use Rattle.aql_top.specs.declared.faults.RunFault.TheVariants.{Memory};
 
 use crate::answer::answer;
 use crate::faults::RunFault;
+use crate::{QueryFault, query_fault_text};
 use aql_engine::Engine;
-use aql_front::{QueryFault, query_fault_text};
 use aql_io::{Sink, Source, write_all};
 use aql_opt::Rules;
 use aql_script::{LoadFault, fault_text, load};

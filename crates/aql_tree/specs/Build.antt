@@ -2,7 +2,7 @@
 -- the trees themselves are those of Tree, in the order of the AQL manual's grammar.
 use Rattle.std.specs.Prelude.{ℕ, ℤ, Bool, false, List, ◌∷◌, Option, Some, None}
 use Rattle.aql_value.specs.Datum as value
-use Rattle.aql_func.specs.declared.operators.BinOp.{BinOp}
+use Rattle.aql_value.specs.declared.operators.BinOp.{BinOp}
 use Rattle.aql_tree.specs.declared.syntax.Ident.{Ident}
 use Rattle.aql_tree.specs.declared.syntax.Ident.TheVariants.{Name}
 use Rattle.aql_tree.specs.declared.syntax.Direction.{Direction}

@@ -3,8 +3,8 @@
 -- operators, high-level operations and graph traversals.
 use Rattle.std.specs.Prelude.{ℕ, Bool, List, Option}
 use Rattle.aql_value.specs.Datum.{Datum}
-use Rattle.aql_func.specs.declared.operators.BinOp.{BinOp}
-use Rattle.aql_func.specs.declared.operators.UnaryOp.{UnaryOp}
+use Rattle.aql_value.specs.declared.operators.BinOp.{BinOp}
+use Rattle.aql_value.specs.declared.operators.UnaryOp.{UnaryOp}
 use Rattle.aql_tree.specs.declared.syntax.Ident.{Ident}
 use Rattle.aql_tree.specs.declared.syntax.QuantKind.{QuantKind}
 use Rattle.aql_tree.specs.declared.syntax.Direction.{Direction}

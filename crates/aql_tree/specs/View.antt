@@ -3,7 +3,7 @@
 -- are folds that the toolchain generates; the steps below say what each form becomes.
 use Rattle.std.specs.Prelude.{ℕ, Bool, List, [], ◌∷◌, Option, Some, None, option_map, map}
 use Rattle.aql_value.specs.View.{datum_of}
-use Rattle.aql_func.specs.declared.operators.BinOp.{BinOp}
+use Rattle.aql_value.specs.declared.operators.BinOp.{BinOp}
 use Rattle.aql_tree.specs.Tree.{TraversalShape, TraversalOptions, ExprTree, literal, variable, current, array_literal, object_literal}
 use Rattle.aql_tree.specs.Tree.{access, function_call, unary_of, chain, array_comparison, ternary, range_of, subquery}
 use Rattle.aql_tree.specs.Tree.{ExprTrees, no_exprs, expr_then, MaybeExpr, no_expr, one_expr, MemberTrees}

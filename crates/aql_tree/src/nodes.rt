@@ -9,8 +9,7 @@ use crate::{
     AggregateItem, Aggregates, Clause, Collect, Expr, Ident, Into, Key, Let, Lets, Link, QuantKind,
     Query, Step,
 };
-use aql_func::{BinOp, UnaryOp};
-use aql_value::{OutOfMemory, Seq, Text};
+use aql_value::{BinOp, OutOfMemory, Seq, Text, UnaryOp};
 use std::alloc::Global;
 
 fn boxed(alloc: Global, expr: Expr) -> Result<Box<Expr>, OutOfMemory>

@@ -1,5 +1,4 @@
-use aql_func::{BinOp, UnaryOp};
-use aql_value::{Names, Seq, Text, Value};
+use aql_value::{BinOp, Names, Seq, Text, UnaryOp, Value};
 
 /// A variable: a name as it is written before scoping, a number after it.
 pub enum Ident {

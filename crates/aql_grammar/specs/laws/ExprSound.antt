@@ -7,7 +7,7 @@ use Rattle.aql_lex.specs.declared.vocabulary.Symbol.{Symbol}
 use Rattle.aql_lex.specs.declared.vocabulary.Symbol.TheVariants as s
 use Rattle.aql_lex.specs.declared.vocabulary.Keyword.{Keyword}
 use Rattle.aql_lex.specs.declared.vocabulary.Keyword.TheVariants as w
-use Rattle.aql_func.specs.declared.operators.UnaryOp.{UnaryOp}
+use Rattle.aql_value.specs.declared.operators.UnaryOp.{UnaryOp}
 use Rattle.aql_tree.specs.Tree.{ExprTree, QueryTree, unary_of, range_of, subquery}
 use Rattle.aql_tree.specs.Tree as tree
 use Rattle.aql_tree.specs.View.{MemberPart, StepPart, LinkPart}

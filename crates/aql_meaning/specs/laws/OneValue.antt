@@ -7,8 +7,8 @@ use Rattle.aql_value.specs.Parts.{list, elements, at_name, at_value}
 use Rattle.aql_value.specs.Convert.{to_number, to_text}
 use Rattle.aql_value.specs.Database.{Database}
 use Rattle.aql_value.specs.Truth.{truth}
-use Rattle.aql_func.specs.declared.operators.BinOp.{BinOp}
-use Rattle.aql_func.specs.declared.operators.BinOp.TheVariants.{And, Or}
+use Rattle.aql_value.specs.declared.operators.BinOp.{BinOp}
+use Rattle.aql_value.specs.declared.operators.BinOp.TheVariants.{And, Or}
 use Rattle.aql_func.specs.Operators.{binary, unary, range}
 use Rattle.aql_func.specs.Named.{call_named}
 use Rattle.aql_tree.specs.Tree.{ExprTree, literal, variable, current, array_literal, object_literal, access, function_call, unary_of, chain, array_comparison, ternary, range_of, subquery, ExprTrees, no_exprs, expr_then, MaybeExpr, no_expr, one_expr, MemberTrees, no_members, named_then, computed_then, StepTrees, no_steps, name_then, at_then, inline_then, LinkTrees, no_links, link_then}

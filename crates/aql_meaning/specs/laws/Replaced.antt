@@ -9,8 +9,8 @@ use Rattle.aql_value.specs.Parts.{list, elements, at_name, at_value}
 use Rattle.aql_value.specs.Convert.{to_number, to_text}
 use Rattle.aql_value.specs.Database.{Database}
 use Rattle.aql_value.specs.Truth.{truth}
-use Rattle.aql_func.specs.declared.operators.BinOp.{BinOp}
-use Rattle.aql_func.specs.declared.operators.BinOp.TheVariants.{And, Or}
+use Rattle.aql_value.specs.declared.operators.BinOp.{BinOp}
+use Rattle.aql_value.specs.declared.operators.BinOp.TheVariants.{And, Or}
 use Rattle.aql_func.specs.Operators.{binary, unary, range}
 use Rattle.aql_func.specs.Named.{call_named}
 use Rattle.aql_tree.specs.declared.syntax.Ident.{Ident}

@@ -2,8 +2,8 @@
 use Rattle.std.specs.Prelude.{negsuc, List, [], ◌∷◌, true, false, Some, codes}
 use Rattle.aql_value.specs.Datum.{Datum, number, null, boolean, text}
 use Rattle.aql_value.specs.Parts.{list, record_of}
-use Rattle.aql_func.specs.declared.operators.BinOp.TheVariants.{And, Or, Eq, Lt, Gt, IsIn, Like, Add, Sub, Mul, Div, Rem}
-use Rattle.aql_func.specs.declared.operators.UnaryOp.TheVariants.{Minus, Not}
+use Rattle.aql_value.specs.declared.operators.BinOp.TheVariants.{And, Or, Eq, Lt, Gt, IsIn, Like, Add, Sub, Mul, Div, Rem}
+use Rattle.aql_value.specs.declared.operators.UnaryOp.TheVariants.{Minus, Not}
 use Rattle.aql_tree.specs.declared.syntax.QuantKind.TheVariants as quant
 use Rattle.aql_tree.specs.Tree.{ExprTree, literal, current, unary_of, array_comparison, range_of}
 use Rattle.aql_tree.specs.Build as build

@@ -4,7 +4,7 @@ use Prim.Native.String.{String}
 use Rattle.aql_value.specs.Datum.{Datum, null, boolean}
 use Rattle.aql_value.specs.Parts.{list}
 use Rattle.aql_value.specs.Database.{Database}
-use Rattle.aql_func.specs.declared.operators.BinOp.TheVariants.{Eq}
+use Rattle.aql_value.specs.declared.operators.BinOp.TheVariants.{Eq}
 use Rattle.aql_tree.specs.declared.syntax.Direction.{Direction}
 use Rattle.aql_tree.specs.declared.syntax.Direction.TheVariants.{Outbound, Inbound, Any}
 use Rattle.aql_tree.specs.Tree.{ExprTree, ClauseTree, QueryTree}

@@ -4,7 +4,7 @@ use Prim.Native.String.{String}
 use Rattle.aql_value.specs.Datum.{Datum, number, text}
 use Rattle.aql_value.specs.Parts.{record_of}
 use Rattle.aql_value.specs.Database.{Database, Collection}
-use Rattle.aql_func.specs.declared.operators.BinOp.{BinOp}
+use Rattle.aql_value.specs.declared.operators.BinOp.{BinOp}
 use Rattle.aql_tree.specs.Tree.{ExprTree, literal, ClauseTree, QueryTree}
 use Rattle.aql_tree.specs.Build as build
 use Rattle.aql_tree.specs.View.{name, AggregatePart}

@@ -7,7 +7,7 @@ use Rattle.std.proofs.lemmas.Bool.{and_parts, and_from, or_cases, or_left, or_ri
 use Rattle.std.proofs.lemmas.List.Folds.{list_any-append}
 use Rattle.aql_tree.specs.declared.syntax.Ident.{Ident}
 use Rattle.aql_meaning.specs.Row.{same_ident}
-use Rattle.aql_plan.specs.Variables.{are_distinct}
+use Rattle.aql_plan.specs.Variables.{are_distinct, count}
 use Rattle.aql_plan_laws.specs.laws.Idents.{same_is, same_self}
 
 module _ {X : Type 0} (test : X → Bool) where
@@ -21,11 +21,6 @@ module _ {X : Type 0} (test : X → Bool) where
       → (list_any test xs ≡ true) ⊎ (list_any test ys ≡ true)
   any_either xs ys h =
       or_cases (list_any test xs) (list_any test ys) (sym (list_any-append test xs ys) ∙ h)
-
--- how often a variable is in a list
-abbrev pub count : Ident → List Ident → ℕ
-count x [] = 0
-count x (y ∷ ys) = cond (same_ident x y) (suc (count x ys)) (count x ys)
 
 pub count_append : (x : Ident) (xs ys : List Ident) → count x (xs ++ ys) ≡ count x xs + count x ys
 count_append x [] ys = omega arith

@@ -16,14 +16,13 @@ use Rattle.aql_plan.specs.declared.facts.Facts.{Facts}
 use Rattle.aql_plan.specs.Plan.{Plan, Over, Node, Index, Collect}
 use Rattle.aql_plan.specs.Needs.{result_uses, under}
 use Rattle.aql_plan.specs.Above.{raised, uses_above}
-use Rattle.aql_plan.specs.Variables.{vars_of, FindsAll, vars_set, set_once}
+use Rattle.aql_plan.specs.Variables.{vars_of, FindsAll, vars_set, set_once, count}
 use Rattle.aql_plan.specs.Renaming.{NodeSets, renamed_node}
 use Rattle.aql_plan.specs.Exprs.{map_node}
-use Rattle.aql_plan.specs.Shapes.{Rows, Result, calculated, with_subquery, plain_rows, ordered_rows, gather, gather_in_order, joining, finishing, returning, HasNoFragment, IsNoFragment}
+use Rattle.aql_plan.specs.Shapes.{Rows, Result, calculated, with_subquery, plain_rows, ordered_rows, gather, gather_in_order, joining, finishing, returning, HasNoFragment, IsNoFragment, KeepsShape}
 use Rattle.aql_plan.specs.WellFormed.{IsWellFormed}
-use Rattle.aql_plan_laws.specs.laws.Among.{count, count_append, counted_in, counted_once, once_distinct, counted_has, fewer_have}
+use Rattle.aql_plan_laws.specs.laws.Among.{count_append, counted_in, counted_once, once_distinct, counted_has, fewer_have}
 use Rattle.aql_plan_laws.specs.laws.SetsHave.{node_sets}
-use Rattle.aql_plan_laws.specs.laws.ShapesKept.{KeepsShape}
 use Rattle.aql_plan_laws.specs.laws.ShapesMapped.{mapped_fit, mapped_outer, mapped_shaped}
 use Rattle.aql_plan_laws.specs.laws.RenamedUses.{goes_by, uses_renamed, plain_renamed}
 use Rattle.aql_plan_laws.specs.laws.UsesMapped.{Turns, IsKept, set_once_kept, lone_node}

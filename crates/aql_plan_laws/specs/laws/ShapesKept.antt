@@ -6,7 +6,7 @@ use Rattle.aql_plan.specs.declared.facts.Facts.{Facts}
 use Rattle.aql_plan.specs.Plan.{Plan, Singleton, Over, Node, EnumerateCollection, Index, EnumerateList, Traversal, Calculation, Subquery, Filter, Sort, Limit, Collect, Return, NoResults, Scatter, Distribute, Remote, Gather}
 use Rattle.aql_plan.specs.Above.{raised, input_inside, stands_inside}
 use Rattle.std.specs.Prelude.{ℕ, Option, Some, None}
-use Rattle.aql_plan.specs.Shapes.{Shape, Rows, Foot, Fragment, States, AllStates, Sent, Result, IsOuter, ReadsFragment, ReadsShard, KeepsRowOrder, IsSent, Shaped, one_row, calculated, with_subquery, plain_rows, ordered_rows, scatter, distribute, remote, lowest, lowest_in_order, other_reading, passing, sorting, gather, gather_in_order, partial, joining, finishing, returning, is_inside}
+use Rattle.aql_plan.specs.Shapes.{Shape, Rows, Foot, Fragment, States, AllStates, Sent, Result, IsOuter, ReadsFragment, ReadsShard, KeepsRowOrder, IsSent, Shaped, one_row, calculated, with_subquery, plain_rows, ordered_rows, scatter, distribute, remote, lowest, lowest_in_order, other_reading, passing, sorting, gather, gather_in_order, partial, joining, finishing, returning, is_inside, KeepsShape}
 
 -- a single row is rows
 pub one_is_rows : (facts : Facts) {p : Plan} → Shaped facts p (Rows true) → Shaped facts p (Rows false)
@@ -18,10 +18,6 @@ pub any_rows : (facts : Facts) (p : Plan) (one : Bool) → Shaped facts p (Rows 
     → Shaped facts p (Rows false)
 any_rows facts p true h = one_is_rows facts h
 any_rows facts p false h = h
-
--- a part is in the shape in which another one is, of those inside fragments, or of those outside
-abbrev pub KeepsShape : Bool → Facts → Plan → Plan → Type 0
-KeepsShape inside facts q p = (s : Shape) → is_inside s ≡ inside → Shaped facts p s → Shaped facts q s
 
 outer_input : (n : Node) → IsOuter n → false ≡ input_inside n false
 outer_input (Gather directions es) h = absurd h

@@ -15,7 +15,7 @@ use Rattle.aql_meaning.specs.Clauses.{with_each, Sorts, first_rows}
 use Rattle.aql_meaning.specs.Documents.{projection, documents_kept}
 use Rattle.aql_meaning.specs.Paths.{Path, TraversesFrom, TraversesPaths, with_paths, long_paths, path_row, path_value, vertex_of, end_of, last_edge}
 use Rattle.aql_meaning.specs.Row.{Row, bind, bind_maybe, same_ident}
-use Rattle.aql_meaning.specs.Uses.{Uses, uses, all_uses, maybe_uses, used_variable}
+use Rattle.aql_meaning.specs.Uses.{Uses, uses, all_uses, maybe_uses, used_variable, is_used}
 use Rattle.aql_meaning.specs.Value.{value_or}
 use Rattle.aql_meaning.specs.laws.Agrees.{value_same, values_same}
 use Rattle.aql_meaning.specs.laws.Rows.{binds_swap}
@@ -29,9 +29,8 @@ use Rattle.aql_plan_laws.specs.laws.Idents.{same_is}
 use Rattle.aql_plan_laws.specs.laws.Lists.{map_equal, filter_related}
 use Rattle.aql_plan_laws.specs.laws.NodesAlike.{first_related}
 use Rattle.aql_plan_laws.specs.laws.SortsAlike.{sorted_alike}
-use Rattle.aql_rewrite_plan.specs.Swaps.{is_used}
 use Rattle.aql_rules_calc.specs.MoveCalculationsUp.{enumerates_or_sorts}
-use Rattle.aql_rules_calc.specs.laws.Unused.{neither, agree_unused}
+use Rattle.aql_rewrite.specs.laws.Unused.{neither, agree_unused}
 
 -- g is the row with x, which has one of the values that V allows at the row
 abbrev pub Bound : Ident → (Row → Datum → Type 0) → Row → Row → Type 0

@@ -10,7 +10,7 @@ use Rattle.aql_tree.specs.Tree.{ExprTree}
 use Rattle.aql_meaning.specs.AtRows.{value_of, values_of}
 use Rattle.aql_meaning.specs.Clauses.{with_values}
 use Rattle.aql_meaning.specs.Row.{Row, bind, value_at, same_ident}
-use Rattle.aql_meaning.specs.Uses.{Uses, uses, Agree}
+use Rattle.aql_meaning.specs.Uses.{Uses, uses, Agree, is_used}
 use Rattle.aql_meaning.specs.laws.Agrees.{value_same}
 use Rattle.aql_plan.specs.declared.facts.Facts.{Facts}
 use Rattle.aql_plan.specs.Needs.{sets, under, result_uses}
@@ -20,27 +20,27 @@ use Rattle.aql_plan.specs.Refines.{world}
 use Rattle.aql_plan.specs.Renaming.{renamed}
 use Rattle.aql_plan.specs.Runs.{World, Outside, Runs}
 use Rattle.aql_plan.specs.Shapes.{HasNoFragment}
-use Rattle.aql_plan.specs.Variables.{vars_of, FindsAll, vars_set, set_once}
+use Rattle.aql_plan.specs.Variables.{vars_of, FindsAll, vars_set, set_once, count}
 use Rattle.aql_plan_laws.specs.laws.Agreement.{agree_self}
-use Rattle.aql_plan_laws.specs.laws.Among.{any_back, count, count_append, none_in}
+use Rattle.aql_plan_laws.specs.laws.Among.{any_back, count_append, none_in}
 use Rattle.aql_plan_laws.specs.laws.Idents.{same_self, same_swapped}
-use Rattle.aql_rewrite_plan.specs.declared.swap.Rename.{Rename}
-use Rattle.aql_rewrite_plan.specs.Nodes.{gives_new_rows}
-use Rattle.aql_rewrite_plan.specs.Places.{First}
-use Rattle.aql_rewrite_plan.specs.Placed.{IsWhole, Placed}
-use Rattle.aql_rewrite_plan.specs.Swaps.{is_used, Replaced, KeepsPlaced}
-use Rattle.aql_rewrite_plan.specs.laws.Among.{has}
-use Rattle.aql_rewrite_plan.specs.laws.Carried.{Lowers, first_lowers}
-use Rattle.aql_rewrite_plan.specs.laws.PlacedBelow.{placed_below, whole_placed}
-use Rattle.aql_rewrite_plan.specs.laws.Standing.{outside}
-use Rattle.aql_rewrite_plan.specs.laws.Weights.{weight_lifts}
-use Rattle.aql_rewrite_kinds.specs.Removed.{TakesAway}
+use Rattle.aql_rewrite.specs.declared.swap.Rename.{Rename}
+use Rattle.aql_rewrite.specs.Nodes.{gives_new_rows}
+use Rattle.aql_rewrite.specs.Places.{First}
+use Rattle.aql_rewrite.specs.Placed.{IsWhole, Placed}
+use Rattle.aql_rewrite.specs.Swaps.{Replaced, KeepsPlaced}
+use Rattle.aql_rewrite.specs.laws.Among.{has}
+use Rattle.aql_rewrite.specs.laws.Carried.{Lowers, first_lowers}
+use Rattle.aql_rewrite.specs.laws.PlacedBelow.{placed_below, whole_placed}
+use Rattle.aql_rewrite.specs.laws.Standing.{outside}
+use Rattle.aql_rewrite.specs.laws.Weights.{weight_lifts}
+use Rattle.aql_rewrite.specs.Removed.{TakesAway}
 use Rattle.aql_rules_calc.specs.RemoveRedundantCalculations.{IsNotOf, Calculates, here, further, renaming, Redundant, calculated_twice, IsRedundant, IsNotRedundant}
 use Rattle.aql_rules_calc.specs.Readers.{calculation_in}
-use Rattle.aql_rules_calc.specs.laws.Apart.{vars_counted, counts_itself, no_result, set_nowhere, not_there}
-use Rattle.aql_rules_calc.specs.laws.RowsHold.{Leaves, over_holds}
+use Rattle.aql_rewrite.specs.laws.Apart.{vars_counted, counts_itself, no_result, set_nowhere, not_there}
+use Rattle.aql_rewrite.specs.laws.RowsHold.{Leaves, over_holds}
 use Rattle.aql_rules_calc.specs.laws.UnnecessaryCalculations.{calculation_off, more}
-use Rattle.aql_rules_calc.specs.laws.Unused.{agree_unused, unused_from}
+use Rattle.aql_rewrite.specs.laws.Unused.{agree_unused, unused_from}
 
 -- ---- the value stays in the rows
 

@@ -6,10 +6,10 @@ use Rattle.aql_tree.specs.declared.syntax.Ident.{Ident}
 use Rattle.aql_meaning.specs.Uses.{Uses}
 use Rattle.aql_plan.specs.Needs.{sets, needs, result_uses}
 use Rattle.aql_plan.specs.Plan.{Plan, Over, Node, Calculation, Subquery}
-use Rattle.aql_rewrite_plan.specs.declared.swap.Rename.{Rename}
-use Rattle.aql_rewrite_plan.specs.Nodes.{uses_alone}
-use Rattle.aql_rewrite_plan.specs.Places.{First}
-use Rattle.aql_rewrite_kinds.specs.Exchanged.{Swaps}
+use Rattle.aql_rewrite.specs.declared.swap.Rename.{Rename}
+use Rattle.aql_rewrite.specs.Nodes.{uses_alone}
+use Rattle.aql_rewrite.specs.Places.{First}
+use Rattle.aql_rewrite.specs.Exchanged.{Swaps}
 use Rattle.aql_rules_calc.specs.MoveCalculationsUp.{enumerates, may_pass, none_used, Moves, swapped}
 use Rattle.aql_rules_calc.specs.laws.SameUsed.{moved_needs, same_none}
 

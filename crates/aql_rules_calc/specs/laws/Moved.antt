@@ -11,7 +11,7 @@ use Rattle.aql_tree.specs.Tree.{TraversalShape, ExprTree, variable, ExprTrees, M
 use Rattle.aql_meaning.specs.AtRows.{value_of, values_of}
 use Rattle.aql_meaning.specs.Clauses.{with_values}
 use Rattle.aql_meaning.specs.Row.{Row, bind, same_ident}
-use Rattle.aql_meaning.specs.Uses.{Uses, uses, maybe_uses, all_uses}
+use Rattle.aql_meaning.specs.Uses.{Uses, uses, maybe_uses, all_uses, is_used}
 use Rattle.aql_meaning.specs.laws.Agrees.{value_same}
 use Rattle.aql_plan.specs.declared.facts.Facts.{Facts}
 use Rattle.aql_plan.specs.Exprs.{map_plan, map_node}
@@ -20,26 +20,25 @@ use Rattle.aql_plan.specs.Nodes.{over}
 use Rattle.aql_plan.specs.Plan.{Reading, Plan, Singleton, Over, Node, EnumerateCollection, EnumerateList, Traversal, Calculation, Subquery, Sort, top}
 use Rattle.aql_plan.specs.Refines.{world, RefinesFor}
 use Rattle.aql_plan.specs.Runs.{World, Outside, Runs, Gives, result_of}
-use Rattle.aql_plan.specs.Shapes.{Rows, Shaped, calculated, with_subquery, plain_rows, lowest, other_reading, passing}
-use Rattle.aql_plan.specs.Variables.{vars_of, FindsAll, vars_set, set_once}
+use Rattle.aql_plan.specs.Shapes.{Rows, Shaped, calculated, with_subquery, plain_rows, lowest, other_reading, passing, KeepsShape}
+use Rattle.aql_plan.specs.Variables.{vars_of, FindsAll, vars_set, set_once, count}
 use Rattle.aql_plan_laws.specs.laws.Agreement.{rows_agree, runs_agree}
-use Rattle.aql_plan_laws.specs.laws.Among.{count, count_append}
+use Rattle.aql_plan_laws.specs.laws.Among.{count_append}
 use Rattle.aql_plan_laws.specs.laws.Congruence.{results_agree}
 use Rattle.aql_plan_laws.specs.laws.FoundMapped.{NodeFinds, node_still}
-use Rattle.aql_plan_laws.specs.laws.ShapesKept.{KeepsShape}
-use Rattle.aql_rewrite_plan.specs.declared.swap.Rename.{Rename}
-use Rattle.aql_rewrite_plan.specs.Nodes.{uses_alone}
-use Rattle.aql_rewrite_plan.specs.Places.{First}
-use Rattle.aql_rewrite_plan.specs.Placed.{IsWhole, Placed}
-use Rattle.aql_rewrite_plan.specs.Swaps.{is_used, Replaced, Kept, KeepsPlaced}
-use Rattle.aql_rewrite_plan.specs.laws.Among.{has}
-use Rattle.aql_rewrite_plan.specs.laws.Carried.{Lowers, Lifts, renamed_lowers, first_lowers}
-use Rattle.aql_rewrite_plan.specs.laws.Levels.{used_either}
-use Rattle.aql_rewrite_plan.specs.laws.PlacedBelow.{whole_placed}
+use Rattle.aql_rewrite.specs.declared.swap.Rename.{Rename}
+use Rattle.aql_rewrite.specs.Nodes.{uses_alone}
+use Rattle.aql_rewrite.specs.Places.{First}
+use Rattle.aql_rewrite.specs.Placed.{IsWhole, Placed}
+use Rattle.aql_rewrite.specs.Swaps.{Replaced, Kept, KeepsPlaced}
+use Rattle.aql_rewrite.specs.laws.Among.{has}
+use Rattle.aql_rewrite.specs.laws.Carried.{Lowers, Lifts, renamed_lowers, first_lowers}
+use Rattle.aql_rewrite.specs.laws.Levels.{used_either}
+use Rattle.aql_rewrite.specs.laws.PlacedBelow.{whole_placed}
 use Rattle.aql_rules_calc.specs.MoveCalculationsUp.{enumerates, enumerates_or_sorts, may_pass, none_used, Moves, swapped, others_below, height}
-use Rattle.aql_rules_calc.specs.laws.Apart.{counts_itself, not_there}
+use Rattle.aql_rewrite.specs.laws.Apart.{counts_itself, not_there}
 use Rattle.aql_rules_calc.specs.laws.BoundRows.{Bound, IsFree, gives_bound}
-use Rattle.aql_rules_calc.specs.laws.Unused.{neither, agree_unused, used_other, unused_from}
+use Rattle.aql_rewrite.specs.laws.Unused.{neither, agree_unused, used_other, unused_from}
 
 -- ---- the values of the upper node do not depend on what the lower one sets
 

@@ -11,14 +11,14 @@ use Rattle.std.proofs.lemmas.List.Sums.{fold-append}
 use Rattle.aql_tree.specs.declared.syntax.Ident.{Ident}
 use Rattle.aql_meaning.specs.Row.{same_ident}
 use Rattle.aql_meaning.specs.Uses.{Use, Whole, Part, Uses}
-use Rattle.aql_uses.specs.declared.uses.Use as code
-use Rattle.aql_uses.specs.Used.{uses_tree}
+use Rattle.aql_plan.specs.declared.uses.Use as code
+use Rattle.aql_plan.specs.Used.{uses_tree}
 use Rattle.aql_plan_laws.specs.laws.Idents.{same_self}
-use Rattle.aql_rewrite_plan.specs.View.{above_uses}
-use Rattle.aql_rewrite_plan.specs.laws.Levels.{nearest_first}
+use Rattle.aql_rewrite.specs.View.{above_uses}
+use Rattle.aql_rewrite.specs.laws.Levels.{nearest_first}
 use Rattle.aql_rules_calc.specs.Projections.{AreAdded}
 use Rattle.aql_rules_calc.specs.ReduceExtractionToProjection.{is_whole, used_whole, with_name, with_use}
-use Rattle.aql_rules_calc.specs.laws.Unused.{neither}
+use Rattle.aql_rewrite.specs.laws.Unused.{neither}
 
 -- ---- no name goes
 

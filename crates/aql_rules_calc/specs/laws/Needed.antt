@@ -3,13 +3,12 @@ use Rattle.std.proofs.Common.{◌≡◌, ◌∙◌, ℕ, Bool, true, false, cond
 use Rattle.std.specs.Prelude.{◌||◌, ◌==◌}
 use Rattle.aql_tree.specs.declared.syntax.Ident.{Ident}
 use Rattle.aql_tree.specs.declared.syntax.Ident.TheVariants.{Num}
-use Rattle.aql_meaning.specs.Uses.{Uses}
+use Rattle.aql_meaning.specs.Uses.{Uses, is_used}
 use Rattle.aql_plan.specs.Needs.{needs, under, result_uses}
 use Rattle.aql_plan.specs.Plan.{Plan, Over, Node, top}
-use Rattle.aql_rewrite_plan.specs.Nodes.{uses_alone, gives_new_rows, is_collect}
-use Rattle.aql_rewrite_plan.specs.Swaps.{is_used}
-use Rattle.aql_rewrite_plan.specs.laws.Levels.{used_either}
-use Rattle.aql_rewrite_plan.specs.laws.Walk.{under_new, under_old, needs_new, needs_old}
+use Rattle.aql_rewrite.specs.Nodes.{uses_alone, gives_new_rows, is_collect}
+use Rattle.aql_rewrite.specs.laws.Levels.{used_either}
+use Rattle.aql_rewrite.specs.laws.Walk.{under_new, under_old, needs_new, needs_old}
 
 -- of its input a node needs what it uses, and what is used of its rows where it hands these on
 pub input_needed : (x : Ident) (n : Node) (us : Uses) (own above used : Bool)

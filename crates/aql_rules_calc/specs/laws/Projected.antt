@@ -32,21 +32,20 @@ use Rattle.aql_plan.specs.Needs.{result_uses}
 use Rattle.aql_plan.specs.Plan.{Reading, Plan, Singleton, Over, Node, EnumerateCollection, Index, Subquery, top}
 use Rattle.aql_plan.specs.Refines.{world}
 use Rattle.aql_plan.specs.Runs.{World, Outside, read, read_in_bounds, Indexed}
-use Rattle.aql_plan.specs.Shapes.{plain_rows, ordered_rows, lowest, lowest_in_order, other_reading, passing}
+use Rattle.aql_plan.specs.Shapes.{plain_rows, ordered_rows, lowest, lowest_in_order, other_reading, passing, KeepsShape}
 use Rattle.aql_plan_laws.specs.laws.Idents.{same_self}
 use Rattle.aql_plan_laws.specs.laws.Lists.{append_related}
-use Rattle.aql_plan_laws.specs.laws.ShapesKept.{KeepsShape}
-use Rattle.aql_rewrite_plan.specs.declared.swap.Rename.{Rename}
-use Rattle.aql_rewrite_plan.specs.Places.{renamed_by, Stays, First}
-use Rattle.aql_rewrite_plan.specs.Placed.{IsWhole, Placed}
-use Rattle.aql_rewrite_plan.specs.Swaps.{Replaced, KeepsPlaced}
-use Rattle.aql_rewrite_plan.specs.laws.Carried.{Lowers, Lifts, first_lowers}
-use Rattle.aql_rewrite_plan.specs.laws.PlacedBelow.{whole_placed}
+use Rattle.aql_rewrite.specs.declared.swap.Rename.{Rename}
+use Rattle.aql_rewrite.specs.Places.{renamed_by, Stays, First}
+use Rattle.aql_rewrite.specs.Placed.{IsWhole, Placed}
+use Rattle.aql_rewrite.specs.Swaps.{Replaced, KeepsPlaced}
+use Rattle.aql_rewrite.specs.laws.Carried.{Lowers, Lifts, first_lowers}
+use Rattle.aql_rewrite.specs.laws.PlacedBelow.{whole_placed}
 use Rattle.aql_rules_calc.specs.Projections.{AreAdded, AreKept, order_of, where_whole, read_whole, node_with_attrs, with_attrs}
 use Rattle.aql_rules_calc.specs.ReduceExtractionToProjection.{is_whole, used_whole, with_name, with_use, names_used, order_uses, keeping, Reduces, enumeration, by_index, reads_whole, whole_readers, readers_in}
-use Rattle.aql_rules_calc.specs.laws.Unused.{neither}
+use Rattle.aql_rewrite.specs.laws.Unused.{neither}
 use Rattle.aql_rules_calc.specs.laws.Attributes.{named_first}
-use Rattle.aql_rewrite_kinds.specs.Changed.{Changes}
+use Rattle.aql_rewrite.specs.Changed.{Changes}
 
 -- ---- each name that is used is kept
 

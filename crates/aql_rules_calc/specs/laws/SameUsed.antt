@@ -2,15 +2,14 @@
 use Rattle.std.proofs.Common.{◌≡◌, ◌∙◌, List, [], ◌∷◌, ◌++◌, Bool, true, false, true≢false, refl, ap, ap₂, sym, subst}
 use Rattle.std.specs.Prelude.{Option, None, not, ◌&&◌, ◌||◌}
 use Rattle.aql_tree.specs.declared.syntax.Ident.{Ident}
-use Rattle.aql_meaning.specs.Uses.{Uses}
+use Rattle.aql_meaning.specs.Uses.{Uses, is_used}
 use Rattle.aql_plan.specs.Needs.{under, needs, result_uses}
 use Rattle.aql_plan.specs.Plan.{Plan, Singleton, Over, Node, Calculation, Subquery, Collect, Return}
-use Rattle.aql_rewrite_plan.specs.declared.swap.Rename.{Rename}
-use Rattle.aql_rewrite_plan.specs.Nodes.{uses_alone, gives_new_rows}
-use Rattle.aql_rewrite_plan.specs.Places.{renamed_by, First, below, here, body}
-use Rattle.aql_rewrite_plan.specs.Swaps.{is_used}
-use Rattle.aql_rewrite_plan.specs.laws.Levels.{used_either}
-use Rattle.aql_rewrite_plan.specs.laws.Walk.{under_new, under_old}
+use Rattle.aql_rewrite.specs.declared.swap.Rename.{Rename}
+use Rattle.aql_rewrite.specs.Nodes.{uses_alone, gives_new_rows}
+use Rattle.aql_rewrite.specs.Places.{renamed_by, First, below, here, body}
+use Rattle.aql_rewrite.specs.laws.Levels.{used_either}
+use Rattle.aql_rewrite.specs.laws.Walk.{under_new, under_old}
 use Rattle.aql_rules_calc.specs.MoveCalculationsUp.{enumerates_or_sorts, may_pass, none_used, Moves, swapped}
 
 abbrev pub SameUsed : Uses → Uses → Type 0

@@ -8,29 +8,28 @@ use Rattle.aql_tree.specs.Tree.{ExprTree}
 use Rattle.aql_meaning.specs.AtRows.{value_of, values_of}
 use Rattle.aql_meaning.specs.Clauses.{with_values}
 use Rattle.aql_meaning.specs.Row.{Row, bind, same_ident}
-use Rattle.aql_meaning.specs.Uses.{Uses, Agree}
+use Rattle.aql_meaning.specs.Uses.{Uses, Agree, is_used}
 use Rattle.aql_plan.specs.declared.facts.Facts.{Facts}
 use Rattle.aql_plan.specs.Plan.{Plan, Over, Node, Calculation, Subquery, top}
 use Rattle.aql_plan.specs.Needs.{result_uses}
 use Rattle.aql_plan.specs.Nodes.{weight}
 use Rattle.aql_plan.specs.Refines.{world}
 use Rattle.aql_plan.specs.Runs.{Outside, Runs, result_of}
-use Rattle.aql_plan.specs.Shapes.{calculated, with_subquery as subquery_shaped, plain_rows, lowest, other_reading, passing}
-use Rattle.aql_plan.specs.Variables.{vars_of, vars_set}
-use Rattle.aql_plan_laws.specs.laws.Among.{count, count_append}
-use Rattle.aql_plan_laws.specs.laws.ShapesKept.{KeepsShape}
+use Rattle.aql_plan.specs.Shapes.{calculated, with_subquery as subquery_shaped, plain_rows, lowest, other_reading, passing, KeepsShape}
+use Rattle.aql_plan.specs.Variables.{vars_of, vars_set, count}
+use Rattle.aql_plan_laws.specs.laws.Among.{count_append}
 use Rattle.aql_plan.proofs.SomeRun.{some_run}
-use Rattle.aql_rewrite_plan.specs.declared.swap.Rename.{Rename}
-use Rattle.aql_rewrite_plan.specs.Places.{Stays, First}
-use Rattle.aql_rewrite_plan.specs.Placed.{IsWhole, Placed}
-use Rattle.aql_rewrite_plan.specs.Swaps.{is_used, Replaced, KeepsPlaced}
-use Rattle.aql_rewrite_plan.specs.laws.Carried.{Lowers, first_lowers}
-use Rattle.aql_rewrite_plan.specs.laws.PlacedBelow.{whole_placed}
-use Rattle.aql_rewrite_plan.specs.laws.Weights.{weight_lifts}
+use Rattle.aql_rewrite.specs.declared.swap.Rename.{Rename}
+use Rattle.aql_rewrite.specs.Places.{Stays, First}
+use Rattle.aql_rewrite.specs.Placed.{IsWhole, Placed}
+use Rattle.aql_rewrite.specs.Swaps.{Replaced, KeepsPlaced}
+use Rattle.aql_rewrite.specs.laws.Carried.{Lowers, first_lowers}
+use Rattle.aql_rewrite.specs.laws.PlacedBelow.{whole_placed}
+use Rattle.aql_rewrite.specs.laws.Weights.{weight_lifts}
 use Rattle.aql_rules_calc.specs.Readers.{value_var}
 use Rattle.aql_rules_calc.specs.RemoveUnnecessaryCalculations.{Removes, calculation, with_subquery}
-use Rattle.aql_rules_calc.specs.laws.Unused.{agree_unused, one_gone}
-use Rattle.aql_rewrite_kinds.specs.Sums.{total}
+use Rattle.aql_rewrite.specs.laws.Unused.{agree_unused, one_gone}
+use Rattle.aql_rewrite.specs.Sums.{total}
 
 -- ---- the lists are the same in what is used
 

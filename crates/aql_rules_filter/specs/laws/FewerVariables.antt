@@ -14,15 +14,14 @@ use Rattle.aql_tree.specs.Tree.{MaybeExpr, no_expr, one_expr, TraversalShape}
 use Rattle.aql_meaning.specs.AtRows.{passes, stops}
 use Rattle.aql_meaning.specs.Paths.{Path, paths_of_length, paths_up_to, extensions, TraversesBy, TraversesFrom, TraversesPaths, Traverses, path_row, long_paths, with_paths, vertex_of, end_of, last_edge, path_value}
 use Rattle.aql_meaning.specs.Row.{Row, bind, bind_maybe}
-use Rattle.aql_meaning.specs.Uses.{Uses, Agree, maybe_uses}
+use Rattle.aql_meaning.specs.Uses.{Uses, Agree, maybe_uses, is_used}
 use Rattle.aql_meaning.specs.laws.Agrees.{agree_split, value_same}
 use Rattle.aql_meaning.specs.laws.RowByRow.{each_related}
 use Rattle.aql_meaning.specs.laws.Shuffles.{alike_permutation}
 use Rattle.aql_plan_laws.specs.laws.Agreement.{agree_bind}
 use Rattle.aql_plan_laws.specs.laws.Lists.{weaker, filter_related, related_self}
-use Rattle.aql_rewrite_plan.specs.Swaps.{is_used}
 use Rattle.aql_rules_filter.specs.OptimizeTraversals.{with_vars, tests_use}
-use Rattle.aql_rules_filter.specs.laws.Unused.{agree_unused}
+use Rattle.aql_rewrite.specs.laws.Unused.{agree_unused}
 
 -- ---- the paths do not depend on the variables
 

@@ -7,8 +7,8 @@ use Rattle.aql_tree.specs.Tree.{ExprTree}
 use Rattle.aql_meaning.specs.Uses.{Uses, uses}
 use Rattle.aql_plan.specs.Needs.{sets}
 use Rattle.aql_plan.specs.Plan.{Plan, Singleton, Over, Node, Subquery, Filter, top}
-use Rattle.aql_rewrite_plan.specs.declared.swap.Rename.{Rename}
-use Rattle.aql_rewrite_kinds.specs.Exchanged.{Swaps}
+use Rattle.aql_rewrite.specs.declared.swap.Rename.{Rename}
+use Rattle.aql_rewrite.specs.Exchanged.{Swaps}
 use Rattle.aql_rules_filter.specs.MoveFiltersUp.{may_swap, none_used, MovesUp, swapped}
 use Rattle.aql_rules_filter.specs.Readers.{filter_in}
 

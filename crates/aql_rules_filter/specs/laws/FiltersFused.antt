@@ -12,20 +12,20 @@ use Rattle.aql_plan.specs.Needs.{result_uses}
 use Rattle.aql_plan.specs.Shapes.{Shape, Rows, Shaped, plain_rows}
 use Rattle.aql_plan.specs.Variables.{vars_of}
 use Rattle.aql_plan_laws.specs.laws.Agreement.{rows_agree}
-use Rattle.aql_rewrite_plan.specs.declared.swap.Rename.{Rename}
-use Rattle.aql_rewrite_plan.specs.Places.{First}
-use Rattle.aql_rewrite_plan.specs.Placed.{Placed, IsWhole}
-use Rattle.aql_rewrite_plan.specs.Swaps.{Replaced, KeepsPlaced}
+use Rattle.aql_rewrite.specs.declared.swap.Rename.{Rename}
+use Rattle.aql_rewrite.specs.Places.{First}
+use Rattle.aql_rewrite.specs.Placed.{Placed, IsWhole}
+use Rattle.aql_rewrite.specs.Swaps.{Replaced, KeepsPlaced}
 use Rattle.aql_rules_filter.specs.Conditions.{joined}
 use Rattle.aql_rules_filter.specs.Measures.{filters, is_filter}
 use Rattle.aql_rules_filter.specs.FuseFilters.{Fuses, fused}
 use Rattle.aql_rules_filter.specs.Readers.{filter_in}
-use Rattle.aql_rewrite_kinds.specs.laws.Falling.{total_falls}
+use Rattle.aql_rewrite.specs.laws.Falling.{total_falls}
 use Rattle.aql_rules_filter.specs.laws.Filtered.{holds, filtered, filter_twice, filter_same}
 use Rattle.aql_rules_filter.specs.laws.Filters.{filter_shaped, same_filters}
 use Rattle.aql_rules_filter.specs.laws.Joined.{joined_holds, joined_plain, joined_found}
 use Rattle.aql_plan.specs.Nodes.{weight}
-use Rattle.aql_rewrite_kinds.specs.Sums.{total}
+use Rattle.aql_rewrite.specs.Sums.{total}
 
 pub fuses_refine : (facts : Facts) (us : Uses) (p q : Plan) (r : Option Rename) → Fuses us p q r
     → Replaced false facts us p q r

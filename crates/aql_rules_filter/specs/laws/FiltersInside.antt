@@ -22,22 +22,22 @@ use Rattle.aql_plan.specs.Refines.{world}
 use Rattle.aql_plan.specs.Shapes.{Shape, Rows, Shaped, plain_rows, ordered_rows}
 use Rattle.aql_plan.specs.Variables.{vars_of}
 use Rattle.aql_plan_laws.specs.laws.Agreement.{rows_agree}
-use Rattle.aql_rewrite_plan.specs.declared.swap.Rename.{Rename}
-use Rattle.aql_rewrite_plan.specs.Places.{First}
-use Rattle.aql_rewrite_plan.specs.Placed.{Placed, IsWhole}
-use Rattle.aql_rewrite_plan.specs.Swaps.{Replaced, KeepsPlaced}
+use Rattle.aql_rewrite.specs.declared.swap.Rename.{Rename}
+use Rattle.aql_rewrite.specs.Places.{First}
+use Rattle.aql_rewrite.specs.Placed.{Placed, IsWhole}
+use Rattle.aql_rewrite.specs.Swaps.{Replaced, KeepsPlaced}
 use Rattle.aql_rules_filter.specs.Conditions.{joined}
 use Rattle.aql_rules_filter.specs.Measures.{filters, is_filter}
 use Rattle.aql_rules_filter.specs.MoveFiltersIntoEnumerate.{filtered_by, with_condition, MovesIn, into_enumerate, into_index}
 use Rattle.aql_rules_filter.specs.Readers.{filter_in, where_all_kept, own_filter, node_filtered, plan_filtered}
-use Rattle.aql_rewrite_kinds.specs.laws.Falling.{total_falls}
+use Rattle.aql_rewrite.specs.laws.Falling.{total_falls}
 use Rattle.aql_rules_filter.specs.laws.Filtered.{holds, filtered, filter_same, filter_twice}
 use Rattle.aql_rules_filter.specs.laws.Filters.{filter_shaped, same_filters}
-use Rattle.aql_rules_filter.specs.laws.Flat.{each_flat, filter_map, filter_flat, flat_same}
+use Rattle.aql_rewrite.specs.laws.Flat.{each_flat, filter_map, filter_flat, flat_same}
 use Rattle.aql_rules_filter.specs.laws.Joined.{joined_holds, joined_plain, joined_found}
 use Rattle.aql_rules_filter.specs.laws.Permuted.{filter_of}
 use Rattle.aql_plan.specs.Nodes.{weight}
-use Rattle.aql_rewrite_kinds.specs.Sums.{total}
+use Rattle.aql_rewrite.specs.Sums.{total}
 
 -- ---- rows
 

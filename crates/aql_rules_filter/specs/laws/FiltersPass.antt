@@ -25,7 +25,7 @@ use Rattle.aql_plan.specs.Plan.{Node, EnumerateCollection, EnumerateList, Traver
 use Rattle.aql_plan.specs.Runs.{World, Outside, read, edges_in, result_of, Runs, Gives}
 use Rattle.aql_rules_filter.specs.MoveFiltersUp.{may_swap, none_used}
 use Rattle.aql_rules_filter.specs.laws.Filtered.{holds, filter_swap}
-use Rattle.aql_rules_filter.specs.laws.Flat.{each_flat, flat_filter, all_alike, filter_map}
+use Rattle.aql_rewrite.specs.laws.Flat.{each_flat, flat_filter, all_alike, filter_map}
 use Rattle.aql_rules_filter.specs.laws.Inserted.{sorted_filter_of}
 use Rattle.aql_rules_filter.specs.laws.Permuted.{filter_of}
 use Rattle.aql_rules_filter.specs.laws.Unused.{holds_still, holds_maybe, first_unused, unused_split}

@@ -22,12 +22,12 @@ use Rattle.aql_plan.specs.Refines.{world, RefinesFor}
 use Rattle.aql_plan.specs.Shapes.{Shape, Rows, Shaped, calculated, with_subquery, plain_rows, ordered_rows, gather, gather_in_order, finishing}
 use Rattle.aql_plan.specs.Variables.{vars_of, FindsAll}
 use Rattle.aql_plan_laws.specs.laws.Agreement.{rows_agree}
-use Rattle.aql_rewrite_plan.specs.declared.swap.Rename.{Rename}
-use Rattle.aql_rewrite_plan.specs.Places.{First}
-use Rattle.aql_rewrite_plan.specs.Placed.{Placed, IsWhole}
-use Rattle.aql_rewrite_plan.specs.Swaps.{Replaced, KeepsPlaced, Kept, SetsNoMore}
-use Rattle.aql_rewrite_plan.specs.laws.Carried.{Lowers, Lifts, first_lowers, renamed_lowers}
-use Rattle.aql_rewrite_plan.specs.laws.PlacedBelow.{whole_placed}
+use Rattle.aql_rewrite.specs.declared.swap.Rename.{Rename}
+use Rattle.aql_rewrite.specs.Places.{First}
+use Rattle.aql_rewrite.specs.Placed.{Placed, IsWhole}
+use Rattle.aql_rewrite.specs.Swaps.{Replaced, KeepsPlaced, Kept, SetsNoMore}
+use Rattle.aql_rewrite.specs.laws.Carried.{Lowers, Lifts, first_lowers, renamed_lowers}
+use Rattle.aql_rewrite.specs.laws.PlacedBelow.{whole_placed}
 use Rattle.aql_rules_filter.specs.MoveFiltersUp.{may_swap, none_used, MovesUp, swapped, others_below, height}
 use Rattle.aql_rules_filter.specs.Readers.{filter_in}
 use Rattle.aql_rules_filter.specs.laws.Filtered.{filtered}

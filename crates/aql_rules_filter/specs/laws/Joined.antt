@@ -6,8 +6,8 @@ use Rattle.std.proofs.lemmas.Bool.{and_parts}
 use Rattle.std.proofs.lemmas.List.Folds.{list_all-append}
 use Rattle.aql_value.specs.Datum.{Datum, null, boolean}
 use Rattle.aql_value.specs.Truth.{truth}
-use Rattle.aql_func.specs.declared.operators.BinOp.{BinOp}
-use Rattle.aql_func.specs.declared.operators.BinOp.TheVariants.{And}
+use Rattle.aql_value.specs.declared.operators.BinOp.{BinOp}
+use Rattle.aql_value.specs.declared.operators.BinOp.TheVariants.{And}
 use Rattle.aql_func.specs.Operators.{binary}
 use Rattle.aql_tree.specs.declared.syntax.Ident.{Ident}
 use Rattle.aql_tree.specs.Tree.{ExprTree, literal, chain, MaybeExpr, no_expr, one_expr, LinkTrees, no_links, link_then}
@@ -19,7 +19,7 @@ use Rattle.aql_meaning.specs.Uses.{uses, maybe_uses, link_uses}
 use Rattle.aql_meaning.specs.Value.{links_value}
 use Rattle.aql_plan.specs.FirstPlan.{is_and, all_and, right_sides, parts}
 use Rattle.aql_plan.specs.Variables.{are_among}
-use Rattle.aql_rewrite_plan.specs.laws.Among.{among_join, among_split}
+use Rattle.aql_rewrite.specs.laws.Among.{among_join, among_split}
 use Rattle.aql_rules_filter.specs.Conditions.{filter_items, and_link, and_links, with_more, all_of, joined}
 use Rattle.aql_rules_filter.specs.laws.Filtered.{holds}
 

@@ -9,7 +9,7 @@ use Rattle.aql_tree.specs.declared.syntax.Ident.{Ident}
 use Rattle.aql_tree.specs.Tree.{ExprTree, MaybeExpr, no_expr, one_expr, TraversalShape}
 use Rattle.aql_meaning.specs.AtRows.{passes, values_of}
 use Rattle.aql_meaning.specs.Row.{Row, same_ident}
-use Rattle.aql_meaning.specs.Uses.{Uses, Agree, used_variable, uses, maybe_uses}
+use Rattle.aql_meaning.specs.Uses.{Uses, Agree, used_variable, uses, maybe_uses, is_used}
 use Rattle.aql_plan.specs.declared.facts.Facts.{Facts}
 use Rattle.aql_plan.specs.Fits.{Fits}
 use Rattle.aql_plan.specs.Exprs.{map_node}
@@ -17,20 +17,20 @@ use Rattle.aql_plan.specs.Needs.{sets, result_uses}
 use Rattle.aql_plan.specs.Plan.{Plan, Singleton, Over, Node, Traversal, Filter, top}
 use Rattle.aql_plan.specs.Runs.{edges_in}
 use Rattle.aql_plan.specs.Shapes.{Shape, Rows, Shaped, is_inside, plain_rows, lowest, other_reading, passing}
-use Rattle.aql_plan.specs.Variables.{vars_of, vars_set, are_among}
+use Rattle.aql_plan.specs.Variables.{vars_of, vars_set, are_among, count}
 use Rattle.aql_plan_laws.specs.laws.Agreement.{rows_agree}
-use Rattle.aql_plan_laws.specs.laws.Among.{count, count_append}
+use Rattle.aql_plan_laws.specs.laws.Among.{count_append}
 use Rattle.aql_plan_laws.specs.laws.Idents.{same_is, same_swapped}
-use Rattle.aql_rewrite_plan.specs.declared.swap.Rename.{Rename}
-use Rattle.aql_rewrite_plan.specs.Places.{First}
-use Rattle.aql_rewrite_plan.specs.Placed.{Placed, IsWhole}
-use Rattle.aql_rewrite_plan.specs.Swaps.{Replaced, Kept, KeepsPlaced, is_used}
-use Rattle.aql_rewrite_plan.specs.laws.Among.{has, both, and_true, among_join, among_split}
-use Rattle.aql_rewrite_kinds.specs.Sums.{total}
+use Rattle.aql_rewrite.specs.declared.swap.Rename.{Rename}
+use Rattle.aql_rewrite.specs.Places.{First}
+use Rattle.aql_rewrite.specs.Placed.{Placed, IsWhole}
+use Rattle.aql_rewrite.specs.Swaps.{Replaced, Kept, KeepsPlaced}
+use Rattle.aql_rewrite.specs.laws.Among.{has, both, and_true, among_join, among_split}
+use Rattle.aql_rewrite.specs.Sums.{total}
 use Rattle.aql_rules_filter.specs.MoveFiltersUp.{none_used}
 use Rattle.aql_rules_filter.specs.OptimizeTraversals.{with_vars, tests_use, is_gone, traversal_in, Optimizes, edge_goes, path_goes, filter_goes_in, parts_to_go}
 use Rattle.aql_rules_filter.specs.Readers.{open_path, node_filtered, plan_filtered, plan_without_edge, plan_without_path}
-use Rattle.aql_rewrite_kinds.specs.laws.Falling.{total_falls}
+use Rattle.aql_rewrite.specs.laws.Falling.{total_falls}
 use Rattle.aql_rules_filter.specs.laws.FewerVariables.{traverses_alike, without_edge_agrees, without_path_agrees}
 use Rattle.aql_rules_filter.specs.laws.Filtered.{holds, filtered, all_pass}
 use Rattle.aql_rules_filter.specs.laws.Filters.{filter_shaped}

@@ -1,38 +1,21 @@
--- A variable that is not used may have any value.
+-- A condition does not look at a variable that it does not use; what is used is there without those that are not.
 use Rattle.std.proofs.Common.{◌≡◌, ◌∙◌, List, [], ◌∷◌, ◌++◌, Bool, true, false, true≢false, cond, refl, ap, sym}
 use Rattle.std.specs.Prelude.{◌||◌, not, Option, Some, None, unwrap_or, option_to_list}
 use Rattle.std.proofs.lemmas.Bool.{and_parts, not-true}
 use Rattle.std.proofs.lemmas.List.Folds.{list_all-append}
 use Rattle.aql_value.specs.Datum.{Datum, null}
-use Rattle.aql_value.specs.Parts.{at_name}
 use Rattle.aql_value.specs.Truth.{truth}
 use Rattle.aql_tree.specs.declared.syntax.Ident.{Ident}
 use Rattle.aql_tree.specs.Tree.{ExprTree}
 use Rattle.aql_meaning.specs.Row.{Row, bind, bind_maybe, same_ident}
-use Rattle.aql_meaning.specs.Uses.{Use, Whole, Part, Uses, AgreeAt, Agree, used_variable, uses}
+use Rattle.aql_meaning.specs.Uses.{Uses, used_variable, uses, is_used}
 use Rattle.aql_meaning.specs.laws.Agrees.{value_same}
 use Rattle.aql_plan.specs.Variables.{are_among}
 use Rattle.aql_plan_laws.specs.laws.Idents.{same_swapped}
-use Rattle.aql_rewrite_plan.specs.Swaps.{is_used}
-use Rattle.aql_rewrite_plan.specs.laws.Among.{has, both, and_true}
+use Rattle.aql_rewrite.specs.laws.Among.{has, both, and_true}
+use Rattle.aql_rewrite.specs.laws.Unused.{neither, agree_unused}
 use Rattle.aql_rules_filter.specs.MoveFiltersUp.{none_used}
 use Rattle.aql_rules_filter.specs.laws.Filtered.{holds}
-
-neither : (a b : Bool) → (a || b) ≡ false → (a ≡ false) × (b ≡ false)
-neither true b h = absurd (true≢false h)
-neither false b h = (refl, h)
-
-agree_at : (u : Use) (x : Ident) (row : Row) (v : Datum) → same_ident x (used_variable u) ≡ false
-    → AgreeAt u row (bind x row v)
-agree_at (Whole y) x row v h = sym (ap (λ b. unwrap_or (cond b (Some v) (row y)) null) h)
-agree_at (Part y name) x row v h = sym (ap (λ b. at_name (unwrap_or (cond b (Some v) (row y)) null) name) h)
-
-pub agree_unused : (us : Uses) (x : Ident) (row : Row) (v : Datum) → is_used x us ≡ false
-    → Agree us row (bind x row v)
-agree_unused [] x row v h = tt
-agree_unused (u ∷ us) x row v h =
-    let k = neither (same_ident x (used_variable u)) (is_used x us) h in
-    (agree_at u x row v k.0, agree_unused us x row v k.1)
 
 -- a condition does not look at what it does not use
 pub holds_still : (c : ExprTree) (x : Ident) (row : Row) (v : Datum) → is_used x (uses c) ≡ false

@@ -18,7 +18,7 @@ use Rattle.aql_meaning.specs.Stages.{arguments_at, taken_at, grouped_row_at, Gro
 use Rattle.aql_meaning.specs.Value.{value_or}
 use Rattle.aql_meaning.specs.Visible.{aggregate_vars, aggregate_functions, into_var}
 use Rattle.aql_plan_laws.specs.laws.Lists.{map_equal, weaker}
-use Rattle.aql_rules_filter.specs.laws.Flat.{filter_map}
+use Rattle.aql_rewrite.specs.laws.Flat.{filter_map}
 
 -- ---- in the words of the rows
 

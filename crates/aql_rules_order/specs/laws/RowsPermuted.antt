@@ -26,9 +26,9 @@ use Rattle.aql_plan.specs.Plan.{Node, EnumerateCollection, EnumerateList, Traver
 use Rattle.aql_plan.specs.Runs.{World, Outside, read, edges_in, result_of, Runs, Gives}
 use Rattle.aql_plan.specs.Shapes.{IsNoFragment}
 use Rattle.aql_plan_laws.specs.laws.Lists.{weaker}
-use Rattle.aql_aggregate_join.proofs.Members.{distinct_alike}
-use Rattle.aql_aggregate_join.proofs.Order.{same_any, in_any_order}
-use Rattle.aql_rules_filter.specs.laws.Flat.{each_flat}
+use Rattle.aql_aggregate.proofs.Members.{distinct_alike}
+use Rattle.aql_aggregate.proofs.Order.{same_any, in_any_order}
+use Rattle.aql_rewrite.specs.laws.Flat.{each_flat}
 use Rattle.aql_rules_order.specs.RemoveRedundantSorts.{goes_by_row, ignores_order}
 use Rattle.aql_rules_order.specs.laws.Members.{argument_at, criteria_of, groups_of, members, aggregated, given_row, WithTaken, OfGroup, RowsGrouped, by_rows, as_defined}
 use Rattle.aql_rules_order.specs.laws.Permuted.{filter_permuted, keyed_permuted, Valued, valued, their_values, by_its_value}

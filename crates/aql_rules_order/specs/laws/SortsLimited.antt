@@ -18,16 +18,15 @@ use Rattle.aql_plan.specs.Nodes.{over, weight}
 use Rattle.aql_plan.specs.Plan.{Plan, Over, Node, NoResults, Scatter, Distribute, Gather, Calculation, Subquery, Sort, Limit, top}
 use Rattle.aql_plan.specs.Refines.{world}
 use Rattle.aql_plan.specs.Runs.{World, Outside, Runs, Gives, result_of}
-use Rattle.aql_plan.specs.Shapes.{Shape, Shaped, is_inside, plain_rows, lowest, other_reading, passing, sorting}
+use Rattle.aql_plan.specs.Shapes.{Shape, Shaped, is_inside, plain_rows, lowest, other_reading, passing, sorting, KeepsShape}
 use Rattle.aql_plan_laws.specs.laws.Agreement.{rows_agree}
-use Rattle.aql_plan_laws.specs.laws.ShapesKept.{KeepsShape}
 use Rattle.aql_plan.proofs.SomeRun.{some_run}
-use Rattle.aql_rewrite_plan.specs.declared.swap.Rename.{Rename}
-use Rattle.aql_rewrite_plan.specs.Places.{Stays, First}
-use Rattle.aql_rewrite_plan.specs.Placed.{IsWhole, Placed, IsPlaced}
-use Rattle.aql_rewrite_plan.specs.Swaps.{Replaced, KeepsPlaced}
-use Rattle.aql_rewrite_kinds.specs.Sums.{total}
-use Rattle.aql_rewrite_kinds.specs.laws.Falling.{total_falls}
+use Rattle.aql_rewrite.specs.declared.swap.Rename.{Rename}
+use Rattle.aql_rewrite.specs.Places.{Stays, First}
+use Rattle.aql_rewrite.specs.Placed.{IsWhole, Placed, IsPlaced}
+use Rattle.aql_rewrite.specs.Swaps.{Replaced, KeepsPlaced}
+use Rattle.aql_rewrite.specs.Sums.{total}
+use Rattle.aql_rewrite.specs.laws.Falling.{total_falls}
 use Rattle.aql_rules_order.specs.Readers.{is_open_sort, with_limit}
 use Rattle.aql_rules_order.specs.SortLimit.{sets_value, Limited, here, below, Limits, limited, is_unlimited}
 use Rattle.aql_rules_order.specs.laws.Spine.{takes_rows, made, run_of, SameFrame, frame_over, frame_kept}

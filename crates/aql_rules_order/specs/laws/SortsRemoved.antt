@@ -18,25 +18,24 @@ use Rattle.aql_plan.specs.Nodes.{weight, over}
 use Rattle.aql_plan.specs.Plan.{Plan, Over, Node, NoResults, Scatter, Distribute, Gather, Sort, top}
 use Rattle.aql_plan.specs.Refines.{world, RefinesFor}
 use Rattle.aql_plan.specs.Runs.{World, Outside, Runs}
-use Rattle.aql_plan.specs.Shapes.{plain_rows, lowest, other_reading, passing, sorting}
+use Rattle.aql_plan.specs.Shapes.{plain_rows, lowest, other_reading, passing, sorting, KeepsShape}
 use Rattle.aql_plan_laws.specs.laws.Agreement.{rows_agree}
-use Rattle.aql_plan_laws.specs.laws.ShapesKept.{KeepsShape}
-use Rattle.aql_rewrite_expr.specs.Constant.{AreConstant, constant_then}
-use Rattle.aql_rewrite_expr.specs.Parts.{list_parts}
-use Rattle.aql_rewrite_expr.specs.laws.Constants.{constant_value}
-use Rattle.aql_rewrite_plan.specs.declared.swap.Rename.{Rename}
-use Rattle.aql_rewrite_plan.specs.Places.{Stays, First}
-use Rattle.aql_rewrite_plan.specs.Placed.{IsWhole, Placed}
-use Rattle.aql_rewrite_plan.specs.Swaps.{Replaced, KeepsPlaced}
-use Rattle.aql_rewrite_plan.specs.laws.Carried.{Lowers, first_lowers}
-use Rattle.aql_rewrite_plan.specs.laws.PlacedBelow.{whole_placed}
-use Rattle.aql_rewrite_plan.specs.laws.Weights.{weight_lifts}
+use Rattle.aql_rewrite.specs.Constant.{AreConstant, constant_then}
+use Rattle.aql_rewrite.specs.Parts.{list_parts}
+use Rattle.aql_rewrite.specs.laws.Constants.{constant_value}
+use Rattle.aql_rewrite.specs.declared.swap.Rename.{Rename}
+use Rattle.aql_rewrite.specs.Places.{Stays, First}
+use Rattle.aql_rewrite.specs.Placed.{IsWhole, Placed}
+use Rattle.aql_rewrite.specs.Swaps.{Replaced, KeepsPlaced}
+use Rattle.aql_rewrite.specs.laws.Carried.{Lowers, first_lowers}
+use Rattle.aql_rewrite.specs.laws.PlacedBelow.{whole_placed}
+use Rattle.aql_rewrite.specs.laws.Weights.{weight_lifts}
 use Rattle.aql_rules_order.specs.Readers.{is_open_sort}
 use Rattle.aql_rules_order.specs.RemoveRedundantSorts.{IsIdle, goes_by_row, ignores_order, WithoutSort, here, below, Unsorts, constant_keys, order_lost}
 use Rattle.aql_rules_order.specs.laws.Permuted.{unkeyed}
 use Rattle.aql_rules_order.specs.laws.RowsPermuted.{row_by_row, order_free}
 use Rattle.aql_rules_order.specs.laws.Spine.{takes_rows, made, run_of, SameFrame, frame_over, frame_kept}
-use Rattle.aql_rewrite_kinds.specs.Sums.{total}
+use Rattle.aql_rewrite.specs.Sums.{total}
 
 -- ---- constant keys leave the order open
 

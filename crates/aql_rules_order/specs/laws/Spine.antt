@@ -10,12 +10,11 @@ use Rattle.aql_plan.specs.Above.{input_inside}
 use Rattle.aql_plan.specs.Needs.{sets}
 use Rattle.aql_plan.specs.Plan.{Plan, Over, Node, Collect, Return, NoResults, Scatter, Distribute, Gather}
 use Rattle.aql_plan.specs.Runs.{World, Outside, Runs, Gives}
-use Rattle.aql_plan.specs.Shapes.{HasNoFragment}
-use Rattle.aql_plan.specs.Variables.{vars_of, FindsAll, vars_set, set_once}
-use Rattle.aql_plan_laws.specs.laws.Among.{count}
+use Rattle.aql_plan.specs.Shapes.{HasNoFragment, KeepsShape}
+use Rattle.aql_plan.specs.Variables.{vars_of, FindsAll, vars_set, set_once, count}
 use Rattle.aql_plan_laws.specs.laws.FoundMapped.{NodeFinds}
-use Rattle.aql_plan_laws.specs.laws.ShapesKept.{KeepsShape, kept_over}
-use Rattle.aql_rewrite_plan.specs.Swaps.{KeepsPlaced}
+use Rattle.aql_plan_laws.specs.laws.ShapesKept.{kept_over}
+use Rattle.aql_rewrite.specs.Swaps.{KeepsPlaced}
 
 -- nodes that make their rows of those of their input
 abbrev pub takes_rows : Node → Bool

@@ -13,35 +13,35 @@ use Rattle.aql_meaning.specs.AtRows.{value_of, values_of}
 use Rattle.aql_meaning.specs.Clauses.{with_values, with_elements}
 use Rattle.aql_meaning.specs.Numbered.{IsNumber}
 use Rattle.aql_meaning.specs.Row.{Row, bind, value_at, same_ident}
-use Rattle.aql_meaning.specs.Uses.{Whole, Part, Uses, Agree, uses}
+use Rattle.aql_meaning.specs.Uses.{Whole, Part, Uses, Agree, uses, is_used}
 use Rattle.aql_plan.specs.declared.facts.Facts.{Facts}
 use Rattle.aql_plan.specs.Needs.{sets, result_uses}
 use Rattle.aql_plan.specs.Nodes.{weight}
 use Rattle.aql_plan.specs.Plan.{Plan, Singleton, Over, Node, Index, EnumerateList, Calculation, Subquery, Collect, Return, NoResults, Scatter, Distribute, Gather, top}
 use Rattle.aql_plan.specs.Refines.{world}
 use Rattle.aql_plan.specs.Runs.{World, Outside, Runs, result_row, result_of}
-use Rattle.aql_plan.specs.Shapes.{Shape, Rows, Shaped, IsOuter, HasNoFragment, IsNoFragment, is_inside, one_row, calculated, with_subquery, plain_rows, ordered_rows, lowest, other_reading, passing, gather, gather_in_order, finishing, returning}
-use Rattle.aql_plan.specs.Variables.{vars_of, vars_set, set_once, are_among, FindsAll}
+use Rattle.aql_plan.specs.Shapes.{Shape, Rows, Shaped, IsOuter, HasNoFragment, IsNoFragment, is_inside, one_row, calculated, with_subquery, plain_rows, ordered_rows, lowest, other_reading, passing, gather, gather_in_order, finishing, returning, KeepsShape}
+use Rattle.aql_plan.specs.Variables.{vars_of, vars_set, set_once, are_among, FindsAll, count}
 use Rattle.aql_plan_laws.specs.laws.Agreement.{agree_self, agree_bind, agree_through}
-use Rattle.aql_plan_laws.specs.laws.Among.{count, count_append, none_in, counted_has}
+use Rattle.aql_plan_laws.specs.laws.Among.{count_append, none_in, counted_has}
 use Rattle.aql_plan_laws.specs.laws.FoundMapped.{NodeFinds}
 use Rattle.aql_plan_laws.specs.laws.Idents.{same_self, same_is}
 use Rattle.aql_plan_laws.specs.laws.RenamedPlaces.{number_is_no_result}
-use Rattle.aql_plan_laws.specs.laws.ShapesKept.{KeepsShape, one_is_rows}
+use Rattle.aql_plan_laws.specs.laws.ShapesKept.{one_is_rows}
 use Rattle.aql_plan.proofs.SomeRun.{some_run}
-use Rattle.aql_rewrite_plan.specs.declared.swap.Rename.{Rename}
-use Rattle.aql_rewrite_plan.specs.Nodes.{gives_new_rows, is_collect}
-use Rattle.aql_rewrite_plan.specs.Places.{Stays, First}
-use Rattle.aql_rewrite_plan.specs.Placed.{IsWhole, Placed}
-use Rattle.aql_rewrite_plan.specs.Swaps.{is_used, Replaced, KeepsPlaced}
-use Rattle.aql_rewrite_plan.specs.laws.Among.{has, has_front, has_back, has_either}
-use Rattle.aql_rewrite_plan.specs.laws.Carried.{Lowers, first_lowers}
-use Rattle.aql_rewrite_plan.specs.laws.PlacedBelow.{whole_placed}
-use Rattle.aql_rewrite_plan.specs.laws.Weights.{weight_lifts}
-use Rattle.aql_rewrite_kinds.specs.Sums.{total}
-use Rattle.aql_rules_calc.specs.laws.Apart.{vars_counted, counts_itself}
-use Rattle.aql_rules_calc.specs.laws.RowsHold.{Leaves, over_holds}
-use Rattle.aql_rules_calc.specs.laws.Unused.{agree_unused, unused_from, used_other}
+use Rattle.aql_rewrite.specs.declared.swap.Rename.{Rename}
+use Rattle.aql_rewrite.specs.Nodes.{gives_new_rows, is_collect}
+use Rattle.aql_rewrite.specs.Places.{Stays, First}
+use Rattle.aql_rewrite.specs.Placed.{IsWhole, Placed}
+use Rattle.aql_rewrite.specs.Swaps.{Replaced, KeepsPlaced}
+use Rattle.aql_rewrite.specs.laws.Among.{has, has_front, has_back, has_either}
+use Rattle.aql_rewrite.specs.laws.Carried.{Lowers, first_lowers}
+use Rattle.aql_rewrite.specs.laws.PlacedBelow.{whole_placed}
+use Rattle.aql_rewrite.specs.laws.Weights.{weight_lifts}
+use Rattle.aql_rewrite.specs.Sums.{total}
+use Rattle.aql_rewrite.specs.laws.Apart.{vars_counted, counts_itself}
+use Rattle.aql_rewrite.specs.laws.RowsHold.{Leaves, over_holds}
+use Rattle.aql_rewrite.specs.laws.Unused.{agree_unused, unused_from, used_other}
 use Rattle.aql_rules_order.specs.Readers.{over_variable, over_subquery, over_return, may_inline}
 use Rattle.aql_rules_order.specs.InlineSubqueries.{is_single, has_collect, started_from, Inlines, inlined}
 

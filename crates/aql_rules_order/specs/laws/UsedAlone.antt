@@ -12,17 +12,16 @@ use Rattle.aql_meaning.specs.Groups.{aggregate_of}
 use Rattle.aql_meaning.specs.Lifted.{IntoPlain}
 use Rattle.aql_meaning.specs.Row.{Row, bind, bind_all, same_ident}
 use Rattle.aql_meaning.specs.Stages.{taken_at}
-use Rattle.aql_meaning.specs.Uses.{Uses, Agree, maybe_uses, aggregate_uses, into_uses}
+use Rattle.aql_meaning.specs.Uses.{Uses, Agree, maybe_uses, aggregate_uses, into_uses, is_used}
 use Rattle.aql_meaning.specs.Visible.{aggregate_vars, into_var}
 use Rattle.aql_plan.specs.Fits.{AllKnown}
-use Rattle.aql_plan.specs.Variables.{are_among}
+use Rattle.aql_plan.specs.Variables.{are_among, count}
 use Rattle.aql_plan_laws.specs.laws.Agreement.{agree_self, agree_bind, agree_through}
-use Rattle.aql_plan_laws.specs.laws.Among.{count, count_append}
+use Rattle.aql_plan_laws.specs.laws.Among.{count_append}
 use Rattle.aql_plan_laws.specs.laws.Idents.{same_is}
 use Rattle.aql_plan_laws.specs.laws.Lists.{chosen}
-use Rattle.aql_rewrite_plan.specs.Swaps.{is_used}
-use Rattle.aql_rewrite_plan.specs.laws.Among.{has, has_front, has_back, has_either, among_join, among_split}
-use Rattle.aql_rules_filter.specs.laws.Unused.{agree_unused}
+use Rattle.aql_rewrite.specs.laws.Among.{has, has_front, has_back, has_either, among_join, among_split}
+use Rattle.aql_rewrite.specs.laws.Unused.{agree_unused}
 use Rattle.aql_rules_order.specs.RemoveCollectVariables.{used_aggregates, used_into, own_vars, all_used}
 use Rattle.aql_rules_order.specs.laws.Members.{argument_at, members, aggregated, given_row, groups_of, WithTaken, OfGroup, RowsGrouped}
 

@@ -9,26 +9,25 @@ use Rattle.aql_tree.specs.View.{AggregatePart, LetPart, aggregates, maybe, trees
 use Rattle.aql_meaning.specs.Numbered.{IsNumber}
 use Rattle.aql_meaning.specs.declared.grouping.Stage.{Stage}
 use Rattle.aql_meaning.specs.declared.grouping.Stage.TheVariants as stage
-use Rattle.aql_meaning.specs.Uses.{Uses, all_uses, aggregate_uses, into_uses}
+use Rattle.aql_meaning.specs.Uses.{Uses, all_uses, aggregate_uses, into_uses, is_used}
 use Rattle.aql_meaning.specs.Visible.{aggregate_vars, into_var}
 use Rattle.aql_plan.specs.declared.facts.Facts.{Facts}
 use Rattle.aql_plan.specs.Exprs.{map_node}
 use Rattle.aql_plan.specs.Needs.{result_uses}
 use Rattle.aql_plan.specs.Plan.{Plan, Over, Node, Collect}
 use Rattle.aql_plan.specs.Refines.{RefinesFor}
-use Rattle.aql_plan.specs.Shapes.{HasNoFragment, plain_rows, lowest, other_reading, passing}
+use Rattle.aql_plan.specs.Shapes.{HasNoFragment, plain_rows, lowest, other_reading, passing, KeepsShape}
 use Rattle.aql_plan.specs.Variables.{vars_of, vars_set}
 use Rattle.aql_plan_laws.specs.laws.Among.{count_append}
 use Rattle.aql_plan_laws.specs.laws.Carried.{all_parts}
 use Rattle.aql_plan_laws.specs.laws.Mapped.{vars_kept, into_kept}
-use Rattle.aql_plan_laws.specs.laws.ShapesKept.{KeepsShape}
-use Rattle.aql_rewrite_plan.specs.declared.swap.Rename.{Rename}
-use Rattle.aql_rewrite_plan.specs.Places.{Stays, First}
-use Rattle.aql_rewrite_plan.specs.Placed.{IsWhole, Placed, IsPlaced}
-use Rattle.aql_rewrite_plan.specs.Swaps.{is_used, Replaced, KeepsPlaced}
-use Rattle.aql_rewrite_plan.specs.laws.Among.{has_front, has_back, has_either, among_join, among_split}
-use Rattle.aql_rewrite_kinds.specs.Sums.{total}
-use Rattle.aql_rewrite_kinds.specs.laws.Falling.{total_falls}
+use Rattle.aql_rewrite.specs.declared.swap.Rename.{Rename}
+use Rattle.aql_rewrite.specs.Places.{Stays, First}
+use Rattle.aql_rewrite.specs.Placed.{IsWhole, Placed, IsPlaced}
+use Rattle.aql_rewrite.specs.Swaps.{Replaced, KeepsPlaced}
+use Rattle.aql_rewrite.specs.laws.Among.{has_front, has_back, has_either, among_join, among_split}
+use Rattle.aql_rewrite.specs.Sums.{total}
+use Rattle.aql_rewrite.specs.laws.Falling.{total_falls}
 use Rattle.aql_rules_order.specs.RemoveCollectVariables.{used_aggregates, used_into, own_vars, all_used, Drops, unused_go, vars_to_go}
 use Rattle.aql_rules_order.specs.laws.Members.{by_rows, as_defined}
 use Rattle.aql_rules_order.specs.laws.UsedAlone.{groups_agree, aggregates_among, into_among, still_known, still_plain, own_there, own_fewer, fewer_own}

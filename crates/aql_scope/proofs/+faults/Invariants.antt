@@ -2,7 +2,7 @@ use Rattle.std.proofs.Common.{◌≡◌, map, drop}
 use Rattle.aql_tree.specs.View.{tree, trees, members, steps, links, aggregates, clauses, clause_tree}
 use Rattle.aql_tree.specs.View.{member_part, step_part, link_part, key_part, let_part, aggregate_part}
 use Rattle.aql_meaning.specs.Visible.{onto, aggregate_vars}
-use Rattle.aql_lift.specs.Numbering.{idents}
+use Rattle.aql_scope.specs.Numbering.{idents}
 use Rattle.aql_scope.specs.Options.{no_settings}
 use Rattle.aql_scope.specs.Faults as spec
 use Rattle.aql_scope.specs.Places.{place, place_within}

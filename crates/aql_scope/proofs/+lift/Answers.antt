@@ -16,7 +16,7 @@ use Rattle.aql_tree.specs.declared.syntax.Into.{the_lemmas as into_lemmas}
 use Rattle.aql_tree.specs.declared.syntax.Ident.TheVariants.{Num}
 use Rattle.aql_tree.specs.Tree.{expr_then, no_exprs, no_members, no_steps, no_links, no_aggregates, link_then, for_each, let_be, subquery, query, into, one_expr}
 use Rattle.aql_tree.specs.View.{tree, trees, links, clauses, maybe, clause_tree, query_tree, member_part, step_part, link_part, key_part, let_part, aggregate_part, into_part, into_tree}
-use Rattle.aql_lift.specs.Lifting as spec
+use Rattle.aql_scope.specs.Lifting as spec
 use Rattle.aql_scope.specs.Lifts.{Lifts, bound, progress, visible, member_then, one_member, step_then, one_step}
 use Rattle.aql_scope.proofs.Turns.{Given, turn_there, finish_there, same_item, one_further, lifts_as}
 use Rattle.aql_scope.proofs.Forms.{query_made, query_parts, of_for, of_query, no_variable, no_query}

@@ -2,7 +2,7 @@ use Rattle.std.proofs.Common.{◌≡◌, [], map, drop, take}
 use Rattle.aql_tree.specs.Tree.{expr_then}
 use Rattle.aql_tree.specs.View.{tree, trees, members, steps, links, clauses, clause_tree}
 use Rattle.aql_tree.specs.View.{member_part, step_part, link_part, key_part, let_part, aggregate_part}
-use Rattle.aql_lift.specs.Lifting as spec
+use Rattle.aql_scope.specs.Lifting as spec
 use Rattle.aql_scope.specs.Lifts.{progress, visible, member_then, step_then}
 use Rattle.aql_scope.proofs.Turns.{Goes, Unvisited}
 use Rattle.aql_scope.proofs.Parts.{link_part_then, key_then, let_then, aggregate_part_then}

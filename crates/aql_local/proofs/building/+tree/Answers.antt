@@ -3,8 +3,8 @@ use Rattle.std.proofs.Common.{rules, ◌+◌, ◌<◌, ◌∙◌, ap, sym, subst
 use Rattle.aql_plan.specs.Nodes.{weight}
 use Rattle.aql_plan.specs.Plan.{top}
 use Rattle.aql_plan.specs.View.{plan_tree}
-use Rattle.aql_exec_plan.specs.OperatorsOf.{operators_of}
-use Rattle.aql_exec_plan.specs.Runnable.{HasExecutors}
+use Rattle.aql_engine.specs.OperatorsOf.{operators_of}
+use Rattle.aql_engine.specs.Runnable.{HasExecutors}
 use Rattle.aql_local.proofs.Returned.{if_map, within_is}
 use Rattle.aql_local.proofs.Trees.{node_operators, body_is, body_executors, body_fits, body_numbers, body_lighter}
 use Rattle.aql_local.proofs.building.+tree.Goals as goal

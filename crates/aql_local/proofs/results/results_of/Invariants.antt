@@ -1,7 +1,7 @@
 use Rattle.std.proofs.Common.{◌≡◌, ◌++◌, map, length}
 use Rattle.std.specs.Vec.Iter.{into_iter_items, into_iter_len}
 use Rattle.aql_plan.specs.Runs.{result_of}
-use Rattle.aql_exec_tree.specs.Run.{rows_in}
+use Rattle.aql_engine.specs.Run.{rows_in}
 use Rattle.aql_local.proofs.results.results_of.Given as goal
 
 -- with the results of the blocks that are left they are all

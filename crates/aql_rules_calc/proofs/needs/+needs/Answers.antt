@@ -4,8 +4,8 @@ use Rattle.aql_tree.specs.declared.syntax.Ident.TheVariants.{Num}
 use Rattle.aql_plan.specs.Needs.{under, result_uses}
 use Rattle.aql_plan.specs.Plan.{top}
 use Rattle.aql_plan.specs.View.{plan_tree}
-use Rattle.aql_rewrite_plan.specs.Swaps.{is_used}
-use Rattle.aql_rewrite_plan.specs.laws.Walk.{alone_with}
+use Rattle.aql_meaning.specs.Uses.{is_used}
+use Rattle.aql_rewrite.specs.laws.Walk.{alone_with}
 use Rattle.aql_rules_calc.specs.laws.Needed.{input_needed, start_needed, result_needed}
 use Rattle.aql_rules_calc.proofs.needs.+needs.Goals as goal
 

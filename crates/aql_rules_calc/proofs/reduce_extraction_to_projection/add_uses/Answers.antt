@@ -1,5 +1,5 @@
 use Rattle.aql_tree.specs.declared.syntax.Ident.TheVariants.{Num}
-use Rattle.aql_uses.specs.Used.{use_tree}
+use Rattle.aql_plan.specs.Used.{use_tree}
 use Rattle.aql_rules_calc.specs.laws.NamesUsed.{stops}
 use Rattle.aql_rules_calc.proofs.reduce_extraction_to_projection.add_uses.Goals as goal
 

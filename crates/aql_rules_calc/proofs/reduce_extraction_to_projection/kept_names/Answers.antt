@@ -1,7 +1,7 @@
 use Rattle.std.proofs.Common.{map}
 use Rattle.aql_tree.specs.declared.syntax.Ident.TheVariants.{Num}
 use Rattle.aql_meaning.specs.Uses.{Part}
-use Rattle.aql_rewrite_plan.specs.View.{above_uses}
+use Rattle.aql_rewrite.specs.View.{above_uses}
 use Rattle.aql_rules_calc.specs.laws.NamesUsed.{first_stops, then_added}
 use Rattle.aql_rules_calc.proofs.reduce_extraction_to_projection.kept_names.Goals as goal
 

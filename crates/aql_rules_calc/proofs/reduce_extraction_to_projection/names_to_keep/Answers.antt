@@ -1,7 +1,7 @@
 use Rattle.std.proofs.lemmas.Result.{IfOk-weaker}
 use Rattle.aql_tree.specs.declared.syntax.Ident.TheVariants.{Num}
 use Rattle.aql_plan.specs.View.{plan_tree}
-use Rattle.aql_rewrite_plan.specs.View.{above_uses}
+use Rattle.aql_rewrite.specs.View.{above_uses}
 use Rattle.aql_rules_calc.specs.laws.Projected.{kept_reduces}
 use Rattle.aql_rules_calc.proofs.reduce_extraction_to_projection.names_to_keep.Goals as goal
 

@@ -2,7 +2,7 @@ use Rattle.std.proofs.Common.{subst}
 use Rattle.aql_tree.specs.View.{tree}
 use Rattle.aql_plan.specs.Plan.{Plan, top}
 use Rattle.aql_plan.specs.View.{plan_tree}
-use Rattle.aql_rewrite_plan.specs.Plain.{NodePlain}
+use Rattle.aql_rewrite.specs.Plain.{NodePlain}
 use Rattle.aql_rules_calc.specs.laws.CalculatedTwice.{redundant_found, no_calculation, not_calculated}
 use Rattle.aql_rules_calc.proofs.remove_redundant_calculations.redundant.Goals as goal
 

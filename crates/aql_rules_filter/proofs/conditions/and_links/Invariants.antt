@@ -1,6 +1,6 @@
 use Rattle.std.proofs.Common.{◌≡◌, map, take}
 use Rattle.aql_tree.specs.View.{link_part}
-use Rattle.aql_rewrite_expr.specs.View.{lent}
+use Rattle.aql_rewrite.specs.ExprView.{lent}
 use Rattle.aql_rules_filter.specs.Conditions.{and_link}
 use Rattle.aql_rules_filter.proofs.conditions.and_links.Given as goal
 

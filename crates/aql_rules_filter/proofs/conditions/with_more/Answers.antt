@@ -3,7 +3,7 @@ use Rattle.std.proofs.lemmas.List.{length-map}
 use Rattle.std.proofs.lemmas.Result.{IfOk-weaker}
 use Rattle.aql_tree.specs.Tree.{chain}
 use Rattle.aql_tree.specs.View.{tree, links}
-use Rattle.aql_rewrite_expr.specs.View.{lent}
+use Rattle.aql_rewrite.specs.ExprView.{lent}
 use Rattle.aql_rules_filter.specs.laws.Joined.{more_than_one, none_more}
 use Rattle.aql_rules_filter.proofs.conditions.with_more.Goals as goal
 

@@ -3,7 +3,7 @@ use Rattle.std.specs.Prelude.{option_map}
 use Rattle.aql_tree.specs.declared.syntax.Ident.TheVariants.{Num}
 use Rattle.aql_tree.specs.View.{tree}
 use Rattle.aql_plan.specs.View.{plan_tree}
-use Rattle.aql_rewrite_plan.specs.View.{above_uses}
+use Rattle.aql_rewrite.specs.View.{above_uses}
 use Rattle.aql_rules_filter.specs.Readers.{plan_filtered}
 use Rattle.aql_rules_filter.specs.laws.TraversalsOptimized.{filter_at}
 use Rattle.aql_rules_filter.proofs.optimize_traversals.filter_inside.Goals as goal

@@ -2,7 +2,7 @@ use Rattle.std.proofs.Common.{◌∙◌, ap}
 use Rattle.std.specs.Prelude.{option_map}
 use Rattle.aql_tree.specs.declared.syntax.Ident.TheVariants.{Num}
 use Rattle.aql_plan.specs.View.{plan_tree}
-use Rattle.aql_rewrite_plan.specs.View.{above_uses}
+use Rattle.aql_rewrite.specs.View.{above_uses}
 use Rattle.aql_rules_filter.specs.Readers.{plan_without_edge, plan_without_path}
 use Rattle.aql_rules_filter.specs.laws.TraversalsOptimized.{gone_by, edge_at, path_at, traversal_stays}
 use Rattle.aql_rules_filter.proofs.optimize_traversals.variable_gone.Goals as goal

@@ -3,7 +3,7 @@ use Rattle.std.specs.List.{AllByRecursion}
 use Rattle.aql_tree.specs.View.{aggregate_part, aggregates}
 use Rattle.aql_meaning.specs.Numbered.{IsNumber}
 use Rattle.aql_meaning.specs.Visible.{aggregate_vars}
-use Rattle.aql_rewrite_plan.specs.View.{above_uses}
+use Rattle.aql_rewrite.specs.View.{above_uses}
 use Rattle.aql_rules_order.specs.RemoveCollectVariables.{all_used}
 use Rattle.aql_rules_order.proofs.remove_collect_variables.all_kept.Given as goal
 

@@ -4,8 +4,8 @@ use Rattle.std.specs.List.{AllByRecursion}
 use Rattle.aql_tree.specs.View.{AggregatePart, aggregate_part, aggregates}
 use Rattle.aql_meaning.specs.Numbered.{IsNumber}
 use Rattle.aql_meaning.specs.Visible.{aggregate_vars}
-use Rattle.aql_rewrite_plan.specs.Swaps.{is_used}
-use Rattle.aql_rewrite_plan.specs.View.{above_uses}
+use Rattle.aql_meaning.specs.Uses.{is_used}
+use Rattle.aql_rewrite.specs.View.{above_uses}
 use Rattle.aql_rules_order.proofs.remove_collect_variables.kept_aggregates.Given as goal
 
 abbrev pub invariant-loop-item : goal.invariant-loop-item

@@ -1,8 +1,8 @@
 use Rattle.std.proofs.Common.{drop}
 use Rattle.std.specs.Prelude.{◌↔◌}
 use Rattle.aql_plan.specs.View.{key_trees}
-use Rattle.aql_rewrite_expr.specs.Constant.{AreConstant}
-use Rattle.aql_rewrite_expr.specs.Parts.{list_parts}
+use Rattle.aql_rewrite.specs.Constant.{AreConstant}
+use Rattle.aql_rewrite.specs.Parts.{list_parts}
 use Rattle.aql_rules_order.proofs.remove_redundant_sorts.are_constant.Given as goal
 
 abbrev pub invariant-loop-key : goal.invariant-loop-key

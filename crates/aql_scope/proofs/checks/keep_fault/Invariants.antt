@@ -1,5 +1,5 @@
 use Rattle.std.proofs.Common.{◌≡◌, drop}
-use Rattle.aql_lift.specs.Numbering.{idents}
+use Rattle.aql_scope.specs.Numbering.{idents}
 use Rattle.aql_scope.specs.Faults.{keep_fault}
 use Rattle.aql_scope.proofs.checks.keep_fault.Given as goal
 

@@ -1,6 +1,6 @@
 use Rattle.std.proofs.Common.{◌≡◌, ◌++◌, drop}
 use Rattle.aql_meaning.specs.Groups.{names_of}
-use Rattle.aql_lift.specs.Numbering.{idents}
+use Rattle.aql_scope.specs.Numbering.{idents}
 use Rattle.aql_scope.proofs.names.names_in.Given as goal
 
 abbrev pub invariant-loop-entry : goal.invariant-loop-entry

@@ -1,7 +1,7 @@
 use Rattle.std.proofs.Common.{[], sym, subst}
 use Rattle.aql_tree.specs.View.{query_tree}
 use Rattle.aql_plan.specs.View.{plan_tree}
-use Rattle.aql_front.specs.Reading.{IsWritten, IsScoped}
+use Rattle.aql_top.specs.Reading.{IsWritten, IsScoped}
 use Rattle.aql_plan.specs.WellFormed.{IsWellFormed}
 use Rattle.aql_engine.proofs.Fragments.{no_fragment}
 use Rattle.aql_top.proofs.ChosenExecutors.{chosen_kept}

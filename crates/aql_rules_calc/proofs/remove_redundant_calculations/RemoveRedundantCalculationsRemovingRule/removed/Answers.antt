@@ -1,6 +1,6 @@
 use Rattle.std.proofs.Common.{[], false}
 use Rattle.aql_plan.specs.View.{plan_tree}
-use Rattle.aql_rewrite_plan.specs.laws.RenamedPlans.{placed_plain}
+use Rattle.aql_rewrite.specs.laws.RenamedPlans.{placed_plain}
 use Rattle.aql_rules_calc.specs.laws.CalculatedTwice.{redundant_takes}
 use Rattle.aql_rules_calc.proofs.remove_redundant_calculations.RemoveRedundantCalculationsRemovingRule.removed.Goals as goal
 

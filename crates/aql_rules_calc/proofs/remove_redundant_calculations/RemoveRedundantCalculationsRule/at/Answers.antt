@@ -2,8 +2,8 @@ use Rattle.std.proofs.Common.{false, sym, subst}
 use Rattle.std.specs.Prelude.{Some}
 use Rattle.aql_plan.specs.Plan.{Plan}
 use Rattle.aql_plan.specs.View.{plan_tree}
-use Rattle.aql_rewrite_plan.specs.View.{above_uses}
-use Rattle.aql_rewrite_plan.specs.laws.RenamedPlans.{placed_plain}
+use Rattle.aql_rewrite.specs.View.{above_uses}
+use Rattle.aql_rewrite.specs.laws.RenamedPlans.{placed_plain}
 use Rattle.aql_rules_calc.specs.RemoveRedundantCalculations.{Redundant}
 use Rattle.aql_rules_calc.proofs.remove_redundant_calculations.RemoveRedundantCalculationsRule.at.Goals as goal
 

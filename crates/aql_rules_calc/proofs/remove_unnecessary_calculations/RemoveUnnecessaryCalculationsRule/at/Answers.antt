@@ -1,7 +1,7 @@
 use Rattle.std.proofs.Common.{◌∙◌, sym}
 use Rattle.aql_tree.specs.declared.syntax.Ident.TheVariants.{Num}
 use Rattle.aql_plan.specs.View.{plan_tree}
-use Rattle.aql_rewrite_plan.specs.View.{above_uses}
+use Rattle.aql_rewrite.specs.View.{above_uses}
 use Rattle.aql_rules_calc.specs.laws.UnnecessaryCalculations.{sets_no_value, used_stays, removes_at}
 use Rattle.aql_rules_calc.proofs.remove_unnecessary_calculations.RemoveUnnecessaryCalculationsRule.at.Goals as goal
 

@@ -2,7 +2,7 @@ use Rattle.std.proofs.Common.{◌∙◌, ap}
 use Rattle.aql_tree.specs.View.{tree}
 use Rattle.aql_plan.specs.Plan.{top}
 use Rattle.aql_plan.specs.View.{plan_tree}
-use Rattle.aql_rewrite_plan.specs.View.{above_uses}
+use Rattle.aql_rewrite.specs.View.{above_uses}
 use Rattle.aql_rules_filter.specs.laws.FiltersExchanged.{no_filter, filter_goes}
 use Rattle.aql_rules_filter.proofs.move_filters_up.MoveFiltersUpExchangeRule.may_exchange.Goals as goal
 

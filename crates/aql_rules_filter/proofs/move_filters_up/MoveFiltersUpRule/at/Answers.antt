@@ -3,7 +3,7 @@ use Rattle.aql_tree.specs.View.{tree}
 use Rattle.aql_plan.specs.Nodes.{over}
 use Rattle.aql_plan.specs.Plan.{Over, Filter}
 use Rattle.aql_plan.specs.View.{plan_tree}
-use Rattle.aql_rewrite_plan.specs.View.{above_uses}
+use Rattle.aql_rewrite.specs.View.{above_uses}
 use Rattle.aql_rules_filter.specs.laws.FiltersUp.{moves_up_no_filter, moves_up_stays, moves_up_at}
 use Rattle.aql_rules_filter.proofs.move_filters_up.MoveFiltersUpRule.at.Goals as goal
 

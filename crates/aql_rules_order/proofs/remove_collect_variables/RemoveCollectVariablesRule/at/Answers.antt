@@ -1,7 +1,7 @@
 use Rattle.std.proofs.Common.{rules, ◌≡◌, ◌∙◌, map, option_map, ap, sym}
 use Rattle.aql_tree.specs.View.{let_part, aggregate_part, into_part, into_tree}
 use Rattle.aql_plan.specs.View.{plan_tree}
-use Rattle.aql_rewrite_plan.specs.View.{above_uses}
+use Rattle.aql_rewrite.specs.View.{above_uses}
 use Rattle.aql_rules_order.specs.laws.VariablesDropped.{own_numbers, drops_stays, drops_at, collect_made}
 use Rattle.aql_rules_order.proofs.remove_collect_variables.RemoveCollectVariablesRule.at.Goals as goal
 

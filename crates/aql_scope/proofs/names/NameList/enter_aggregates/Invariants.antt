@@ -1,7 +1,7 @@
 use Rattle.std.proofs.Common.{◌≡◌, map, drop}
 use Rattle.aql_tree.specs.View.{aggregates, aggregate_part}
 use Rattle.aql_meaning.specs.Visible.{onto, aggregate_vars}
-use Rattle.aql_lift.specs.Numbering.{idents}
+use Rattle.aql_scope.specs.Numbering.{idents}
 use Rattle.aql_scope.proofs.names.NameList.enter_aggregates.Given as goal
 
 abbrev pub invariant-loop-item : goal.invariant-loop-item

@@ -1,5 +1,0 @@
-use Rattle.aql_aggregate_join.proofs.Joined.{joined}
-use Rattle.aql_aggregate_join.proofs.laws.joined_states_are_aggregates.Goals as goal
-
-pub returns : goal.returns
-returns c = joined

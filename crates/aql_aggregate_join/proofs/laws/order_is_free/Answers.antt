@@ -1,5 +1,0 @@
-use Rattle.aql_aggregate_join.proofs.Order.{in_any_order}
-use Rattle.aql_aggregate_join.proofs.laws.order_is_free.Goals as goal
-
-pub returns : goal.returns
-returns c = in_any_order

@@ -1,5 +1,0 @@
-use Rattle.aql_aggregate_join.proofs.Stages.{two_stages}
-use Rattle.aql_aggregate_join.proofs.laws.two_stages_are_one.Goals as goal
-
-pub returns : goal.returns
-returns c = two_stages

@@ -1,3 +1,0 @@
-pub mod Sums
-pub mod Alike
-pub mod AnyStates

@@ -1,0 +1,20 @@
+use Rattle.std.proofs.Common.{subst}
+use Rattle.aql_exec.specs.Counting.{nothing}
+use Rattle.aql_engine.proofs.Leading.{ahead_none, rises_none}
+use Rattle.aql_engine.proofs.run.deliver_one.Goals as goal
+
+pub returns-else-owns-clause-undisturbed : goal.returns-else-owns-clause-undisturbed
+returns-else-owns-clause-undisturbed g c =
+    let f = g.F.Feed in
+    let taken = c.in-Some.ensures.1 in (
+      nothing,
+      rises_none _,
+      λ r h. (
+        r,
+        ahead_none r,
+        g.met.F.Feed.kept_rests c.args.feed.now c.args.world.now
+            c.deliver.new.self taken.stock_kept
+            (λ l o. taken.others l (λ e. c.owns.ensures.1 c.if-owns.false (subst (f.ours c.args.feed.now) e o)))
+            r h,
+      ),
+    )

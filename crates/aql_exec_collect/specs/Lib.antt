@@ -1,5 +1,0 @@
-pub mod Told
-pub mod Kept
-pub mod Framed
-pub mod Collecting
-pub mod laws

@@ -1,4 +1,0 @@
-pub mod Later
-pub mod LaterInStages
-pub mod Members
-pub mod SomeGroups

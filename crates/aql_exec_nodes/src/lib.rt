@@ -1,6 +1,0 @@
-//! One of two executors as one, so that a node of a tree may be any of several.
-#![tactic(auto)]
-
-mod choice;
-
-pub use choice::Choice;

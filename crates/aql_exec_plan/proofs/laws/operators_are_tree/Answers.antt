@@ -1,8 +1,0 @@
-use Rattle.aql_exec_plan.specs.laws.Trees.{plain_tree, shaped_tree}
-use Rattle.aql_exec_plan.proofs.laws.operators_are_tree.Goals as goal
-
-pub returns-clause-shaped : goal.returns-clause-shaped
-returns-clause-shaped c = shaped_tree
-
-pub returns-clause-plain : goal.returns-clause-plain
-returns-clause-plain c = plain_tree

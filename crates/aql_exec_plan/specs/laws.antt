@@ -1,5 +1,0 @@
-pub mod Merging
-pub mod Given
-pub mod Fragmented
-pub mod Sound
-pub mod Trees

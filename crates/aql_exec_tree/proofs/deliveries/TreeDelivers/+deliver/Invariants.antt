@@ -1,6 +1,0 @@
-use Rattle.aql_exec.specs.Operators.{height}
-use Rattle.aql_exec_tree.specs.Tree.{tree_plan}
-use Rattle.aql_exec_tree.proofs.deliveries.TreeDelivers.+deliver.Given as goal
-
-abbrev pub decreases-deliver : goal.decreases-deliver
-decreases-deliver g l = height (tree_plan g.X.Executor g.W.Place l.self.now)

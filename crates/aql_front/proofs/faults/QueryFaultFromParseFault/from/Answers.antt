@@ -1,5 +1,0 @@
-use Rattle.std.proofs.Common.{rules}
-use Rattle.aql_front.proofs.faults.QueryFaultFromParseFault.from.Goals as goal
-
-pub returns-in-NotInGrammar : goal.returns-in-NotInGrammar
-returns-in-NotInGrammar c = search rules

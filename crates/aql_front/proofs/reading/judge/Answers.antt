@@ -1,5 +1,0 @@
-use Rattle.std.proofs.Common.{rules}
-use Rattle.aql_front.proofs.reading.judge.Goals as goal
-
-pub returns-clause-query : goal.returns-clause-query
-returns-clause-query c = search rules

@@ -1,5 +1,0 @@
-use Rattle.aql_lift.proofs.Walk.{walked_query, are_numbers}
-use Rattle.aql_lift.proofs.laws.scoped_is_numbered.Goals as goal
-
-pub returns : goal.returns
-returns c = λ outer o n h q. ((walked_query q outer n).numbered (are_numbers outer o) h).0

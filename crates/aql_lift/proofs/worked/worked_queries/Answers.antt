@@ -1,5 +1,0 @@
-use Rattle.aql_lift.proofs.Computed.{worked_queries}
-use Rattle.aql_lift.proofs.worked.worked_queries.Goals as goal
-
-pub returns : goal.returns
-returns c = worked_queries

@@ -1,0 +1,93 @@
+-- The plan that the optimiser chooses (Execution and performance: optimizing queries): the passes of the
+-- rules run in their order, each once; those that are switched off are left out. After the first passes there
+-- may be several candidates, the orders of a run of loops. Each of them goes through the later passes, and
+-- the cheapest one is chosen, of equally cheap ones the first. The names of the rules whose passes changed
+-- the chosen plan are told, in the order of the passes.
+use Rattle.std.specs.Prelude.{ℕ, ◌≡◌, ◌<◌, ◌≤◌, List, [], ◌∷◌, ◌++◌, true, false}
+use Rattle.std.specs.List.{AllZip, AllByRecursion}
+use Rattle.aql_plan.specs.declared.facts.Facts.{Facts}
+use Rattle.aql_plan.specs.declared.rules.RuleName.{RuleName}
+use Rattle.aql_plan.specs.declared.rules.RuleName.TheVariants as rule
+use Rattle.aql_plan.specs.Plan.{Plan}
+use Rattle.aql_rules_order.specs.InterchangeAdjacentEnumerations.{Candidates}
+use Rattle.aql_opt.specs.declared.rule_sets.Rules.{Rules}
+use Rattle.aql_opt.specs.Estimate.{estimate}
+use Rattle.aql_opt.specs.RuleSets.{Has}
+use Rattle.aql_opt.specs.Passes.{IsPassOf}
+
+-- ---- passes
+
+-- those that run before there are candidates, and those that run over each candidate
+abbrev pub first_rules : List RuleName
+first_rules = rule.SimplifyConditions ∷ rule.InlineSubqueries ∷ []
+
+abbrev pub later_rules : List RuleName
+later_rules = rule.MoveCalculationsUp ∷ rule.MoveFiltersUp ∷ rule.RemoveRedundantCalculations
+    ∷ rule.RemoveUnnecessaryFilters ∷ rule.RemoveUnnecessaryCalculations ∷ rule.RemoveRedundantSorts
+    ∷ rule.RemoveCollectVariables ∷ rule.ReplaceOrWithIn ∷ rule.FuseFilters ∷ rule.OptimizeTraversals
+    ∷ rule.UseIndexes ∷ rule.RemoveFilterCoveredByIndex ∷ rule.UseIndexForSort ∷ rule.SortLimit
+    ∷ rule.MoveFiltersIntoEnumerate ∷ rule.ReduceExtractionToProjection ∷ rule.ScatterInCluster
+    ∷ rule.DistributeInCluster ∷ rule.RestrictToSingleShard ∷ rule.DistributeFiltercalcToCluster
+    ∷ rule.RemoveUnnecessaryRemoteScatter ∷ rule.CollectInCluster ∷ rule.DistributeSortToCluster ∷ []
+
+-- one rule's turn, by the plan and the names that are told before it and after it
+pub data RunsRule (facts : Facts) (rules : Rules) (r : RuleName)
+    : Plan → List RuleName → Plan → List RuleName → Type 0 where
+  switched_off : {q : Plan} {told : List RuleName} → (Has rules r → ⊥) → RunsRule facts rules r q told q told
+  unchanged : {q s : Plan} {told : List RuleName} → Has rules r → IsPassOf r facts q s false
+      → RunsRule facts rules r q told s told
+  changed : {q s : Plan} {told : List RuleName} → Has rules r → IsPassOf r facts q s true
+      → RunsRule facts rules r q told s (told ++ r ∷ [])
+
+-- the turns of these rules, one after another, make q of p, and these names are told
+pub data AfterRules (facts : Facts) (rules : Rules) (p : Plan)
+    : List RuleName → Plan → List RuleName → Type 0 where
+  at_first : AfterRules facts rules p [] p []
+  and_then : {rs told more : List RuleName} {r : RuleName} {q s : Plan} → AfterRules facts rules p rs q told
+      → RunsRule facts rules r q told s more → AfterRules facts rules p (rs ++ r ∷ []) s more
+
+-- ---- candidates
+
+-- those of the rule interchange-adjacent-enumerations; where this is switched off, the plan alone
+pub data CandidatesBy (rules : Rules) (p : Plan) : List Plan → Type 0 where
+  alone : (Has rules rule.InterchangeAdjacentEnumerations → ⊥) → CandidatesBy rules p (p ∷ [])
+  interchanged : {cs : List Plan} → Has rules rule.InterchangeAdjacentEnumerations → Candidates p cs
+      → CandidatesBy rules p cs
+
+-- what the later passes make of a candidate, and the names that they tell
+pub record Ended : Type 0 where
+  pub plan : Plan
+  pub told : List RuleName
+
+-- the estimate of what a plan costs
+abbrev pub cost_of : Facts → Plan → ℕ
+cost_of facts p = (estimate facts p).cost
+
+module _ (facts : Facts) (rules : Rules) where
+  abbrev pub EndsAs : Plan → Ended → Type 0
+  EndsAs c e = AfterRules facts rules c later_rules e.plan e.told
+
+  -- of the candidates this one is chosen: those before it end dearer, and those after it no cheaper
+  pub record IsCheapest (candidates : List Plan) (before : List Ended) (chosen : Ended)
+      (after : List Ended) : Type 0 where
+    pub ended : AllZip EndsAs candidates (before ++ chosen ∷ after)
+    pub dearer : AllByRecursion (λ (e : Ended). cost_of facts chosen.plan < cost_of facts e.plan) before
+    pub no_cheaper : AllByRecursion (λ (e : Ended). cost_of facts chosen.plan ≤ cost_of facts e.plan) after
+
+-- the candidates' rule is told where the chosen one is not the first candidate
+abbrev pub told_by_order : List Ended → List RuleName
+told_by_order [] = []
+told_by_order (e ∷ es) = rule.InterchangeAdjacentEnumerations ∷ []
+
+-- q is the plan that is chosen for p, and these names are told
+pub record Chosen (facts : Facts) (rules : Rules) (p q : Plan) (told : List RuleName) : Type 0 where
+  pub first : Ended
+  pub ran_first : AfterRules facts rules p first_rules first.plan first.told
+  pub candidates : List Plan
+  pub are : CandidatesBy rules first.plan candidates
+  pub before : List Ended
+  pub after : List Ended
+  pub chosen : Ended
+  pub cheapest : IsCheapest facts rules candidates before chosen after
+  pub plan : q ≡ chosen.plan
+  pub names : told ≡ first.told ++ (told_by_order before ++ chosen.told)

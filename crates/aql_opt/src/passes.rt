@@ -1,0 +1,76 @@
+//! The passes that are built, by the names of their rules.
+
+ghost use Rattle.std.specs.Prelude.{◌≡◌, false, IfOk};
+ghost use Rattle.aql_plan.specs.Refines.{Refines};
+ghost use Rattle.aql_plan.specs.View.{plan_tree};
+ghost use Rattle.aql_rewrite.specs.Placed.{IsWhole};
+ghost use Rattle.aql_rewrite.specs.Swaps.{SetsNoMore};
+ghost use Rattle.aql_opt.specs.Passes.{IsPassOf};
+
+use aql_passes::{
+    run_changing_pass, run_exchange_pass, run_expr_pass, run_part_pass, run_removing_pass,
+};
+use aql_plan::{Facts, Passed, Plan, RuleName};
+use aql_rules_calc::{
+    MoveCalculationsUp, ReduceExtractionToProjection, RemoveRedundantCalculations,
+    RemoveUnnecessaryCalculations, ReplaceOrWithIn, SimplifyConditions,
+};
+use aql_rules_filter::{
+    FuseFilters, MoveFiltersIntoEnumerate, MoveFiltersUp, OptimizeTraversals,
+    RemoveUnnecessaryFilters,
+};
+use aql_rules_order::{InlineSubqueries, RemoveCollectVariables, RemoveRedundantSorts, SortLimit};
+use aql_value::OutOfMemory;
+use std::alloc::Global;
+
+/// The plan after the pass of a rule. A rule whose pass is not built yet leaves it as it is.
+pub(crate) fn pass_of(
+    alloc: Global,
+    rule: RuleName,
+    plan: Plan,
+    facts: &Facts,
+) -> Result<Passed, OutOfMemory>
+    requires { IsWhole false facts.now (plan_tree plan) }
+    ensures passed { IfOk result
+        (λ x. IsPassOf rule facts.now (plan_tree plan) (plan_tree x.plan) x.changed) }
+    ensures refines { IfOk result (λ x. Refines facts.now (plan_tree x.plan) (plan_tree plan)) }
+    ensures whole { IfOk result (λ x. IsWhole false facts.now (plan_tree x.plan)) }
+    ensures sets { IfOk result (λ x. SetsNoMore (plan_tree plan) (plan_tree x.plan)) }
+{
+    match rule {
+        RuleName::SimplifyConditions => run_expr_pass(alloc, &SimplifyConditions, plan, facts),
+        RuleName::InlineSubqueries => run_part_pass(alloc, &InlineSubqueries, plan, facts),
+        RuleName::MoveCalculationsUp => run_exchange_pass(alloc, &MoveCalculationsUp, plan, facts),
+        RuleName::MoveFiltersUp => run_exchange_pass(alloc, &MoveFiltersUp, plan, facts),
+        RuleName::RemoveRedundantCalculations => {
+            run_removing_pass(alloc, &RemoveRedundantCalculations, plan, facts)
+        }
+        RuleName::RemoveUnnecessaryFilters => {
+            run_part_pass(alloc, &RemoveUnnecessaryFilters, plan, facts)
+        }
+        RuleName::RemoveUnnecessaryCalculations => {
+            run_part_pass(alloc, &RemoveUnnecessaryCalculations, plan, facts)
+        }
+        RuleName::RemoveRedundantSorts => run_part_pass(alloc, &RemoveRedundantSorts, plan, facts),
+        RuleName::RemoveCollectVariables => run_part_pass(
+            alloc,
+            &RemoveCollectVariables,
+            plan,
+            facts,
+        ),
+        RuleName::ReplaceOrWithIn => run_expr_pass(alloc, &ReplaceOrWithIn, plan, facts),
+        RuleName::FuseFilters => run_part_pass(alloc, &FuseFilters, plan, facts),
+        RuleName::OptimizeTraversals => run_part_pass(alloc, &OptimizeTraversals, plan, facts),
+        RuleName::SortLimit => run_part_pass(alloc, &SortLimit, plan, facts),
+        RuleName::MoveFiltersIntoEnumerate => {
+            run_part_pass(alloc, &MoveFiltersIntoEnumerate, plan, facts)
+        }
+        RuleName::ReduceExtractionToProjection => {
+            run_changing_pass(alloc, &ReduceExtractionToProjection, plan, facts)
+        }
+        _ => Ok(Passed {
+            plan,
+            changed: false,
+        }),
+    }
+}

@@ -1,0 +1,33 @@
+-- A rule on expressions applied again and again at its first place, until there is none: for the contracts of
+-- private functions alone. Two flags tell whether there was an application before, and whether there is one
+-- by then.
+use Rattle.std.specs.Prelude.{◌≡◌, Bool, false, List}
+use Rattle.aql_tree.specs.Tree.{ExprTree}
+use Rattle.aql_meaning.specs.Uses.{Uses}
+use Rattle.aql_plan.specs.Plan.{Plan, top}
+use Rattle.aql_rewrite.specs.FirstPart.{NoneIn, NoneInAll, FirstIn, FirstOf}
+use Rattle.aql_rewrite.specs.NodeExprs.{node_exprs}
+use Rattle.aql_rewrite.specs.NodeViews.{plan_over}
+use Rattle.aql_rewrite.specs.Places.{NoPlace}
+use Rattle.aql_rewrite.specs.Steps.{Steps, PlanStep}
+use Rattle.aql_passes.specs.AtExprs.{AtExprs}
+
+module _ (R : ExprTree → ExprTree → Type 0) where
+  pub record Ends (e d : ExprTree) (x y : Bool) : Type 0 where
+    pub reached : Steps ExprTree (FirstIn R) e d x y
+    pub ended : NoneIn R d
+
+  -- the same of expressions one after another
+  pub record AllEnd (es ds : List ExprTree) (x y : Bool) : Type 0 where
+    pub reached : Steps (List ExprTree) (FirstOf R) es ds x y
+    pub ended : NoneInAll R ds
+
+  -- the same of the expressions of the top node of p; q is the node over c and over what they come to
+  abbrev pub ExprsEnd : Plan → Plan → Plan → Bool → Bool → Type 0
+  ExprsEnd p c q x y =
+      (ds : List ExprTree) × AllEnd (node_exprs (top p)) ds x y × (q ≡ plan_over p c ds)
+
+  -- the same of a plan, whatever is used above it
+  pub record PlanEnds (p q : Plan) (x y : Bool) : Type 0 where
+    pub reached : (us : Uses) → Steps Plan (PlanStep (AtExprs R) us) p q x y
+    pub ended : (us : Uses) → NoPlace (AtExprs R) false us q

@@ -1,0 +1,112 @@
+-- Each part to its end, in order, and then the whole, is a way of applications each at the first place.
+use Rattle.std.proofs.Common.{◌≡◌, ◌∙◌, ◌<◌, ◌≤◌, Bool, true, List, [], ◌∷◌, ◌++◌, length, refl, ap, sym, subst, arith}
+use Rattle.aql_tree.specs.Tree.{ExprTree}
+use Rattle.aql_rewrite.specs.FirstPart.{Stays, NoneIn, none_in, NoneInAll, none_left, none_then}
+use Rattle.aql_rewrite.specs.FirstPart.{FirstIn, in_part, at_whole, FirstOf, first, later}
+use Rattle.aql_rewrite.specs.OverParts.{over_parts}
+use Rattle.aql_rewrite.specs.Parts.{parts}
+use Rattle.aql_rewrite.specs.Size.{size}
+use Rattle.aql_rewrite.specs.ExprView.{each_over}
+use Rattle.aql_rewrite.specs.laws.FirstKept.{first_in_smaller}
+use Rattle.aql_rewrite.specs.laws.PartsBack.{parts_back}
+use Rattle.aql_rewrite.specs.Steps.{Steps, at_once, next}
+use Rattle.aql_passes.specs.Ends.{Ends, AllEnd}
+use Rattle.aql_passes.specs.laws.PartsAgain.{longer, parts_own, parts_again}
+use Rattle.aql_rewrite.specs.laws.StepByStep.{keeps_on, joined, along}
+
+longer_same : (es : List ExprTree) → longer es es ≡ es
+longer_same [] = refl
+longer_same (e ∷ es) = ap (λ ds. e ∷ ds) (longer_same es)
+
+-- as many new ones all come in
+pub each_new : (es ds : List ExprTree) → length ds ≡ length es → each_over es ds ≡ ds
+each_new [] [] h = refl
+each_new [] (d ∷ ds) h = absurd (let k : ⊥ = omega (arith, h) in k)
+each_new (e ∷ es) [] h = absurd (let k : ⊥ = omega (arith, h) in k)
+each_new (e ∷ es) (d ∷ ds) h = ap (λ cs. d ∷ cs) (each_new es ds (omega (arith, h)))
+
+module _ (R : ExprTree → ExprTree → Type 0) where
+  -- ---- one after another
+
+  first_before : {es ds : List ExprTree} (more : List ExprTree) → FirstOf R es ds
+      → FirstOf R (es ++ more) (ds ++ more)
+  first_before more (first h) = first h
+  first_before more (later n h) = later n (first_before more h)
+
+  first_after : {es : List ExprTree} {e d : ExprTree} → NoneInAll R es → FirstIn R e d
+      → FirstOf R (es ++ e ∷ []) (es ++ d ∷ [])
+  first_after none_left h = first h
+  first_after (none_then n m) h = later n (first_after m h)
+
+  none_after : {es : List ExprTree} {e : ExprTree} → NoneInAll R es → NoneIn R e → NoneInAll R (es ++ e ∷ [])
+  none_after none_left n = none_then n none_left
+  none_after (none_then m h) n = none_then m (none_after h n)
+
+  pub none_yet : (x : Bool) → AllEnd R [] [] x x
+  none_yet x = record { reached = at_once; ended = none_left }
+
+  pub one_more : (es ds : List ExprTree) (e d : ExprTree) (x y z : Bool) → AllEnd R es ds x y → Ends R e d y z
+      → AllEnd R (es ++ e ∷ []) (ds ++ d ∷ []) x z
+  one_more es ds e d x y z h k = record {
+    reached = joined (List ExprTree) (FirstOf R)
+        (along (List ExprTree) (List ExprTree) (FirstOf R) (FirstOf R) (λ cs. cs ++ e ∷ [])
+        (λ bs cs f. first_before (e ∷ []) f) h.reached)
+        (along ExprTree (List ExprTree) (FirstIn R) (FirstOf R) (λ c. ds ++ c ∷ [])
+        (λ b c f. first_after h.ended f) k.reached);
+    ended = none_after h.ended k.ended;
+  }
+
+  -- ---- in the whole
+
+  first_many : {es ds : List ExprTree} → FirstOf R es ds → length ds ≡ length es
+  first_many (first h) = refl
+  first_many (later n h) = let k = first_many h in omega (arith, k)
+
+  pub first_longer : {es ds : List ExprTree} → FirstOf R es ds → longer ds es ≡ ds
+  first_longer (first {d = d} {es = es} h) = ap (λ cs. d ∷ cs) (longer_same es)
+  first_longer (later {e = e} n h) = ap (λ cs. e ∷ cs) (first_longer h)
+
+  pub as_many : {es ds : List ExprTree} {x y : Bool} → Steps (List ExprTree) (FirstOf R) es ds x y
+      → length ds ≡ length es
+  as_many {es = es} h = keeps_on (List ExprTree) (FirstOf R) (λ cs. length cs ≡ length es)
+      (λ bs cs f k. first_many f ∙ k) h refl
+
+  module _ (e : ExprTree) (es : List ExprTree) (of : es ≡ parts e) where
+    new_parts : {ps : List ExprTree} {x y : Bool} → Steps (List ExprTree) (FirstOf R) es ps x y
+        → parts (over_parts e ps) ≡ ps
+    new_parts {ps = ps} h = parts_back e ps ∙ each_new (parts e) ps (as_many h ∙ ap length of)
+
+    in_whole : {ps : List ExprTree} {x y : Bool} → Steps (List ExprTree) (FirstOf R) es ps x y
+        → Steps ExprTree (FirstIn R) e (over_parts e ps) x y
+    in_whole (at_once {x = x}) = subst (λ (d : ExprTree). Steps ExprTree (FirstIn R) e d x x)
+        (sym (ap (over_parts e) of ∙ parts_own e)) at_once
+    in_whole (next {m = ms} {d = ps} k f) =
+        next (in_whole k) (subst (λ (d : ExprTree). FirstIn R (over_parts e ms) d)
+        (parts_again e ms ps ∙ ap (over_parts e) (first_longer f))
+        (in_part (subst (λ (cs : List ExprTree). FirstOf R cs ps) (sym (new_parts k)) f)))
+
+  module _ (e whole : ExprTree) (es ps : List ExprTree) (x y : Bool) (of : es ≡ parts e)
+      (all : AllEnd R es ps x y) (made : whole ≡ over_parts e ps) where
+    reached : Steps ExprTree (FirstIn R) e whole x y
+    reached = subst (λ (d : ExprTree). Steps ExprTree (FirstIn R) e d x y) (sym made)
+        (in_whole e es of all.reached)
+
+    no_part : NoneInAll R (parts whole)
+    no_part = subst (λ (cs : List ExprTree). NoneInAll R cs)
+        (sym (ap parts made ∙ new_parts e es of all.reached)) all.ended
+
+    pub at_end : Stays R whole → Ends R e whole x y
+    at_end s = record { reached = reached; ended = none_in no_part s }
+
+    pub goes_on : (q d : ExprTree) (z : Bool) → R whole q → Ends R q d true z → Ends R e d x z
+    goes_on q d z r h = record {
+      reached = joined ExprTree (FirstIn R) (next reached (at_whole no_part r)) h.reached;
+      ended = h.ended;
+    }
+
+    pub smaller : ((p q : ExprTree) → R p q → size q < size p) → (q : ExprTree) → R whole q → size q < size e
+    smaller falls q r =
+        let k : size whole ≤ size e = keeps_on ExprTree (FirstIn R) (λ d. size d ≤ size e)
+        (λ c d f l. (let m = first_in_smaller R falls f in omega (arith, l, m))) reached (omega arith) in
+        let l = falls whole q r in
+        omega (arith, k, l)

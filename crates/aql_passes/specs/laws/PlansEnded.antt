@@ -1,0 +1,159 @@
+-- The plan from its lowest node up, each node's expressions to their end, and a body with its node, is a way
+-- of applications each at the first place.
+use Rattle.std.proofs.Common.{◌≡◌, ◌∙◌, Bool, false, List, [], length, refl, ap, sym, subst}
+use Rattle.std.specs.Prelude.{Some, None}
+use Rattle.aql_tree.specs.declared.syntax.Ident.{Ident}
+use Rattle.aql_tree.specs.Tree.{ExprTree}
+use Rattle.aql_meaning.specs.Uses.{Uses}
+use Rattle.aql_plan.specs.Above.{input_inside}
+use Rattle.aql_plan.specs.Needs.{under, result_uses}
+use Rattle.aql_plan.specs.Nodes.{over, body_in, with_body}
+use Rattle.aql_plan.specs.Plan.{Plan, Singleton, Over, Node, Subquery, Scatter, Distribute, Gather, top}
+use Rattle.aql_plan.specs.Shapes.{HasNoFragment, IsNoFragment}
+use Rattle.aql_rewrite.specs.FirstPart.{none_left, FirstOf}
+use Rattle.aql_rewrite.specs.NodeExprs.{node_exprs, over_exprs}
+use Rattle.aql_rewrite.specs.NodeViews.{plan_over}
+use Rattle.aql_rewrite.specs.Places.{Stays, NoPlace, NoPlaceAt, First, below, here, body}
+use Rattle.aql_passes.specs.AtExprs.{AtExprs}
+use Rattle.aql_rewrite.specs.Steps.{Steps, at_once, next, PlanStep}
+use Rattle.aql_passes.specs.Ends.{AllEnd, PlanEnds}
+use Rattle.aql_passes.specs.laws.Ended.{as_many, each_new, first_longer}
+use Rattle.aql_passes.specs.laws.ExprsAgain.{exprs_own, exprs_again}
+use Rattle.aql_passes.specs.laws.ExprsBack.{exprs_back}
+use Rattle.aql_passes.specs.laws.NoneFirst.{stays_at_node}
+use Rattle.aql_passes.specs.laws.SameShape.{still_plain}
+use Rattle.aql_rewrite.specs.laws.StepByStep.{joined, along}
+
+-- ---- a part of a plan without fragments
+
+input_outside : (n : Node) → IsNoFragment n → input_inside n false ≡ false
+input_outside (Gather directions es) h = absurd h
+input_outside (Scatter coll only) h = refl
+input_outside (Distribute coll es) h = refl
+input_outside n h = refl
+
+pub lone_below : (p b : Plan) → p ≡ Over b (top p) → HasNoFragment p → HasNoFragment b × IsNoFragment (top p)
+lone_below p b e h = by (top p) (subst HasNoFragment e h)
+  where
+    by : (n : Node) → HasNoFragment (Over b n) → HasNoFragment b × IsNoFragment n
+    by n h = h
+
+pub lone_body : (n : Node) (s : Plan) → body_in n ≡ Some s → IsNoFragment n → HasNoFragment s
+lone_body (Subquery x t) s e h = let k : t ≡ s = cc in subst HasNoFragment k h
+lone_body n s e h = cc
+
+module _ (R : ExprTree → ExprTree → Type 0) where
+  abbrev Way : Uses → Plan → Plan → Bool → Bool → Type 0
+  Way us p q x y = Steps Plan (PlanStep (AtExprs R) us) p q x y
+
+  abbrev Placeless : Plan → Type 0
+  Placeless p = (us : Uses) → NoPlace (AtExprs R) false us p
+
+  -- ---- the input of a node
+
+  step_below : (n : Node) (us : Uses) (b c : Plan) → IsNoFragment n → PlanStep (AtExprs R) (under n us) b c
+      → PlanStep (AtExprs R) us (Over b n) (Over c n)
+  step_below n us b c i h = below (subst (λ (o : Bool). First (AtExprs R) o (under n us) b c None)
+      (sym (input_outside n i)) h)
+
+  none_below : (n : Node) (us : Uses) (b : Plan) → IsNoFragment n → Placeless b
+      → NoPlace (AtExprs R) (input_inside n false) (under n us) b
+  none_below n us b i h = subst (λ (o : Bool). NoPlace (AtExprs R) o (under n us) b)
+      (sym (input_outside n i)) (h (under n us))
+
+  way_below : (n : Node) (us : Uses) (b c : Plan) (x y : Bool) → IsNoFragment n → Way (under n us) b c x y
+      → Way us (Over b n) (Over c n) x y
+  way_below n us b c x y i h =
+      along Plan Plan (PlanStep (AtExprs R) (under n us)) (PlanStep (AtExprs R) us) (λ p. Over p n)
+      (λ p q f. step_below n us p q i f) h
+
+  -- ---- its expressions
+
+  step_here : (n : Node) (us : Uses) (b : Plan) (es : List ExprTree) → IsNoFragment n → Placeless b
+      → FirstOf R (node_exprs n) es → PlanStep (AtExprs R) us (Over b n) (Over b (over_exprs n es))
+  step_here n us b es i m f = here (none_below n us b i m) (es, f, refl)
+
+  module _ (n : Node) (cs : List ExprTree) (of : cs ≡ node_exprs n) where
+    back : {es : List ExprTree} {x y : Bool} → Steps (List ExprTree) (FirstOf R) cs es x y
+        → node_exprs (over_exprs n es) ≡ es
+    back {es = es} h = exprs_back n es ∙ each_new (node_exprs n) es (as_many R h ∙ ap length of)
+
+    way_here : (us : Uses) (b : Plan) {es : List ExprTree} {x y : Bool} → IsNoFragment n → Placeless b
+        → Steps (List ExprTree) (FirstOf R) cs es x y → Way us (Over b n) (Over b (over_exprs n es)) x y
+    way_here us b i m (at_once {x = x}) = subst (λ (o : Node). Way us (Over b n) (Over b o) x x)
+        (sym (ap (over_exprs n) of ∙ exprs_own n)) at_once
+    way_here us b i m (next {m = ds} {d = es} k f) =
+        next (way_here us b i m k)
+        (subst (λ (o : Node). PlanStep (AtExprs R) us (Over b (over_exprs n ds)) (Over b o))
+        (exprs_again n ds es ∙ ap (over_exprs n) (first_longer R f))
+        (step_here (over_exprs n ds) us b es (still_plain n ds i) m
+        (subst (λ (fs : List ExprTree). FirstOf R fs es) (sym (back k)) f)))
+
+  no_body : (n : Node) (es : List ExprTree) → body_in n ≡ None → body_in (over_exprs n es) ≡ None
+  no_body (Subquery x s) es e = cc
+  no_body n es e = refl
+
+  none_here : (n : Node) (stays : Type 0) → body_in n ≡ None → stays → NoPlaceAt (AtExprs R) false stays n
+  none_here (Subquery x s) stays e h = cc
+  none_here n stays e h = h
+
+  over_node : (n : Node) (b c : Plan) (es : List ExprTree) (x y z : Bool) → IsNoFragment n → body_in n ≡ None
+      → PlanEnds R b c x y → AllEnd R (node_exprs n) es y z
+      → PlanEnds R (Over b n) (Over c (over_exprs n es)) x z
+  over_node n b c es x y z i e h k =
+      let m = over_exprs n es in record {
+        reached = λ us. joined Plan (PlanStep (AtExprs R) us)
+            (way_below n us b c x y i (h.reached (under n us)))
+            (way_here n (node_exprs n) refl us c i h.ended k.reached);
+        ended = λ us. (
+          none_below m us c (still_plain n es i) h.ended,
+          none_here m (Stays (AtExprs R) us (Over c m)) (no_body n es e)
+              (stays_at_node R (Over c m) es (sym (back n (node_exprs n) refl k.reached)) k.ended),
+        );
+      }
+
+  -- ---- its body
+
+  stays_at_subquery : (us : Uses) (v : Ident) (b s : Plan) → Stays (AtExprs R) us (Over b (Subquery v s))
+  stays_at_subquery us v b s = stays_at_node R (Over b (Subquery v s)) [] refl none_left
+
+  over_subquery : (v : Ident) (b c s t : Plan) (x y z : Bool) → HasNoFragment s
+      → PlanEnds R b c x y → PlanEnds R s t y z
+      → PlanEnds R (Over b (Subquery v s)) (Over c (Subquery v t)) x z
+  over_subquery v b c s t x y z i h k = record {
+    reached = λ us. joined Plan (PlanStep (AtExprs R) us)
+        (way_below (Subquery v s) us b c x y i (h.reached (under (Subquery v s) us)))
+        (along Plan Plan (PlanStep (AtExprs R) result_uses) (PlanStep (AtExprs R) us)
+        (λ p. Over c (Subquery v p))
+        (λ p q f. body (h.ended (under (Subquery v p) us)) (stays_at_subquery us v c p) f)
+        (k.reached result_uses));
+    ended = λ us. (h.ended (under (Subquery v t) us), (stays_at_subquery us v c t, k.ended result_uses));
+  }
+
+  -- ---- as the program holds them
+
+  pub lowest_ends : (p : Plan) (x : Bool) → p ≡ Singleton → PlanEnds R p Singleton x x
+  lowest_ends p x e = subst (λ (o : Plan). PlanEnds R o Singleton x x) (sym e)
+      (record { reached = λ us. at_once; ended = λ us. tt })
+
+  pub node_ends : (p b c q : Plan) (es ds : List ExprTree) (x y z : Bool) → HasNoFragment p
+      → p ≡ Over b (top p) → body_in (top p) ≡ None → es ≡ node_exprs (top p) → PlanEnds R b c x y
+      → AllEnd R es ds y z → q ≡ plan_over p c ds → PlanEnds R p q x z
+  node_ends Singleton b c q es ds x y z i e f g h k l = cc
+  node_ends (Over a n) b c q es ds x y z i e f g h k l =
+      let o : a ≡ b = cc in
+      subst (λ (r : Plan). PlanEnds R (Over a n) r x z) (sym l)
+      (over_node n a c ds x y z i.1 f (subst (λ (r : Plan). PlanEnds R r c x y) (sym o) h)
+      (subst (λ (cs : List ExprTree). AllEnd R cs ds y z) g k))
+
+  pub body_ends : (p b c q s t : Plan) (x y z : Bool) → HasNoFragment p → p ≡ Over b (top p)
+      → body_in (top p) ≡ Some s → PlanEnds R b c x y → PlanEnds R s t y z → q ≡ with_body (over p c) t
+      → PlanEnds R p q x z
+  body_ends Singleton b c q s t x y z i e f h k l = cc
+  body_ends (Over a (Subquery v r)) b c q s t x y z i e f h k l =
+      let o : a ≡ b = cc in
+      let j : r ≡ s = cc in
+      subst (λ (w : Plan). PlanEnds R (Over a (Subquery v r)) w x z) (sym l)
+      (over_subquery v a c r t x y z i.1 (subst (λ (w : Plan). PlanEnds R w c x y) (sym o) h)
+      (subst (λ (w : Plan). PlanEnds R w t y z) (sym j) k))
+  body_ends (Over a n) b c q s t x y z i e f h k l = cc

@@ -1,4 +1,0 @@
-mod Shaping
-mod Collected
-mod Tests
-mod Lists

@@ -1,8 +1,0 @@
-// What the rows of the tables are judged by.
-pub use aql_test_support::Page;
-use std::process::Abort;
-
-pub fn expect_page(rt: &impl Abort, page: &Page, want: &str, of: &str) {
-    assert!(rt; page.is_whole());
-    assert_eq!(rt; page.as_str(), want, "of {of}");
-}

@@ -1,0 +1,5 @@
+mod Forms
+mod Steps
+mod Compared
+mod NodeForms
+mod RenamingSteps

@@ -1,0 +1,14 @@
+use Rattle.std.proofs.Common.{◌≡◌, ◌∙◌, sym, subst}
+use Rattle.std.proofs.lemmas.Result.{IfOk-weaker}
+use Rattle.aql_tree.specs.declared.syntax.Ident.{Ident}
+use Rattle.aql_tree.specs.Tree.{variable}
+use Rattle.aql_rewrite.specs.Renames.{put_each}
+use Rattle.aql_rewrite.specs.laws.RenamedExprs.{name_stays}
+use Rattle.aql_rewrite.proofs.renaming.renamed_variable.Goals as goal
+
+pub returns-in-Name : goal.returns-in-Name
+returns-in-Name c =
+    let rs = c.args.renames.now in
+    IfOk-weaker c.copied_variable.result _ _
+    (λ e h. h ∙ subst (λ (o : Ident). variable o ≡ put_each rs (variable o)) (sym c.in-Name.is)
+    (sym (name_stays rs c.in-Name.field-0))) c.copied_variable.ensures

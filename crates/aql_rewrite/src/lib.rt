@@ -1,0 +1,43 @@
+//! What a rule of the optimiser is: its trait, on expressions and on plans, the first place where it
+//! applies, and the kinds of rules that have a pass of their own, with what these passes share.
+#![tactic(auto)]
+
+mod above;
+mod apart;
+mod changing;
+mod constants;
+mod equality;
+mod exchange;
+mod expr_rule;
+mod expr_walk;
+mod exprs;
+mod looking;
+mod nodes;
+mod part;
+mod pass;
+mod rebuilding;
+mod removing;
+mod renaming;
+mod rule;
+mod swap;
+mod walk;
+
+pub use above::{is_used, only, result_uses};
+pub use apart::{has_body, is_start, replace_below, replace_body, with_below, with_body};
+pub use changing::ChangingRule;
+pub use constants::is_constant;
+pub use equality::same_expr;
+pub use exchange::ExchangeRule;
+pub use expr_rule::ExprRule;
+pub use expr_walk::{first_of, first_part};
+pub use exprs::{node_exprs, over_exprs};
+pub use looking::{add_maybe, parts};
+pub use nodes::{gives_new_rows, uses_of};
+pub use part::PartRule;
+pub use pass::{first_place, run_pass};
+pub use rebuilding::{next_part, over_maybe, over_parts};
+pub use removing::RemovingRule;
+pub use renaming::over_renamed_by_each;
+pub use rule::Rule;
+pub use swap::{Rename, Swap};
+pub use walk::swap_here;

@@ -1,0 +1,213 @@
+//! Expressions over other parts. New parts wait in a queue, in the order of the text; where it is
+//! empty the old part is copied.
+
+ghost use Rattle.std.specs.Prelude.{◌≡◌, OnOk, IfOk, map, option_map};
+ghost use Rattle.aql_tree.specs.View.{tree, step_part, member_part, link_part};
+ghost use Rattle.aql_rewrite.specs.OverParts.{first_or, after_first};
+ghost use Rattle.aql_rewrite.specs.OverParts.{over_parts as spec_over_parts};
+ghost use Rattle.aql_rewrite.specs.ExprView.{each_over, option_over, after_option};
+ghost use Rattle.aql_rewrite.specs.ExprView.{member_over, after_member, members_over};
+ghost use Rattle.aql_rewrite.specs.ExprView.{step_over, after_step, steps_over, links_over};
+
+use aql_tree::{Expr, Field, Link, Step, copy_expr};
+use aql_value::{OutOfMemory, Seq};
+use std::alloc::Global;
+use std::collections::VecDeque;
+
+/// The next part of the queue; where it is empty, a copy of the old one.
+pub fn next_part(alloc: Global, queue: &mut VecDeque<Expr>, old: &Expr) -> Result<Expr, OutOfMemory>
+    ensures part { IfOk result (λ e. tree e ≡ first_or (tree old.now) (map tree queue.old.items)) }
+    ensures left { map tree queue.new.items ≡ after_first (map tree queue.old.items) }
+{
+    match queue.pop_front() {
+        Some(part) => Ok(part),
+        None => copy_expr(alloc, old),
+    }
+}
+
+/// The next part of the queue, or a copy of the old one, where there is an old one.
+pub fn over_maybe(
+    alloc: Global,
+    queue: &mut VecDeque<Expr>,
+    old: &Option<Expr>,
+) -> Result<Option<Expr>, OutOfMemory>
+    ensures part { IfOk result (λ o. option_map tree o
+        ≡ option_over (option_map tree old.now) (map tree queue.old.items)) }
+    ensures left { map tree queue.new.items
+        ≡ after_option (option_map tree old.now) (map tree queue.old.items) }
+{
+    match old {
+        Some(old) => Ok(Some(next_part(alloc, queue, old)?)),
+        None => Ok(None),
+    }
+}
+
+fn over_maybe_boxed(
+    alloc: Global,
+    queue: &mut VecDeque<Expr>,
+    old: &Option<Box<Expr>>,
+) -> Result<Option<Expr>, OutOfMemory>
+    ensures part { IfOk result (λ o. option_map tree o
+        ≡ option_over (option_map (λ b. tree b.value) old.now) (map tree queue.old.items)) }
+    ensures left { map tree queue.new.items
+        ≡ after_option (option_map (λ b. tree b.value) old.now) (map tree queue.old.items) }
+{
+    match old {
+        Some(old) => Ok(Some(next_part(alloc, queue, old)?)),
+        None => Ok(None),
+    }
+}
+
+fn over_exprs(
+    alloc: Global,
+    queue: &mut VecDeque<Expr>,
+    all: &[Expr],
+) -> Result<Seq<Expr>, OutOfMemory>
+    ensures { IfOk result
+        (λ out. map tree out ≡ each_over (map tree all.now) (map tree queue.old.items)) }
+{
+    let mut out = Seq::new(alloc);
+    for old in all {
+        out.push(next_part(alloc, queue, old)?)?;
+    }
+    Ok(out)
+}
+
+fn over_field(alloc: Global, queue: &mut VecDeque<Expr>, old: &Field) -> Result<Field, OutOfMemory>
+    ensures part { IfOk result
+        (λ f. member_part f ≡ member_over (member_part old.now) (map tree queue.old.items)) }
+    ensures left { OnOk result (map tree queue.new.items
+        ≡ after_member (member_part old.now) (map tree queue.old.items)) }
+{
+    match old {
+        Field::Named { name, value } => Ok(Field::Named {
+            name: name.copy(alloc)?,
+            value: next_part(alloc, queue, value)?,
+        }),
+        Field::Computed { name, value } => Ok(Field::Computed {
+            name: next_part(alloc, queue, name)?,
+            value: next_part(alloc, queue, value)?,
+        }),
+    }
+}
+
+fn over_fields(
+    alloc: Global,
+    queue: &mut VecDeque<Expr>,
+    all: &[Field],
+) -> Result<Seq<Field>, OutOfMemory>
+    ensures { IfOk result (λ out. map member_part out
+        ≡ members_over (map member_part all.now) (map tree queue.old.items)) }
+{
+    let mut out = Seq::new(alloc);
+    for old in all {
+        out.push(over_field(alloc, queue, old)?)?;
+    }
+    Ok(out)
+}
+
+fn over_step(alloc: Global, queue: &mut VecDeque<Expr>, old: &Step) -> Result<Step, OutOfMemory>
+    ensures part { IfOk result
+        (λ s. step_part s ≡ step_over (step_part old.now) (map tree queue.old.items)) }
+    ensures left { OnOk result (map tree queue.new.items
+        ≡ after_step (step_part old.now) (map tree queue.old.items)) }
+{
+    match old {
+        Step::Name(name) => Ok(Step::Name(name.copy(alloc)?)),
+        Step::At(old) => Ok(Step::At(next_part(alloc, queue, old)?)),
+        Step::Each { filter, project } => {
+            let filter = over_maybe(alloc, queue, filter)?;
+            let project = over_maybe(alloc, queue, project)?;
+            Ok(Step::each(filter, project))
+        }
+    }
+}
+
+fn over_steps(
+    alloc: Global,
+    queue: &mut VecDeque<Expr>,
+    all: &[Step],
+) -> Result<Seq<Step>, OutOfMemory>
+    ensures { IfOk result (λ out. map step_part out
+        ≡ steps_over (map step_part all.now) (map tree queue.old.items)) }
+{
+    let mut out = Seq::new(alloc);
+    for old in all {
+        out.push(over_step(alloc, queue, old)?)?;
+    }
+    Ok(out)
+}
+
+fn over_links(
+    alloc: Global,
+    queue: &mut VecDeque<Expr>,
+    all: &[Link],
+) -> Result<Seq<Link>, OutOfMemory>
+    ensures { IfOk result (λ out. map link_part out
+        ≡ links_over (map link_part all.now) (map tree queue.old.items)) }
+{
+    let mut out = Seq::new(alloc);
+    for old in all {
+        out.push(Link::new(old.op, next_part(alloc, queue, &old.right)?))?;
+    }
+    Ok(out)
+}
+
+fn over_queue(alloc: Global, expr: &Expr, queue: &mut VecDeque<Expr>) -> Result<Expr, OutOfMemory>
+    ensures { IfOk result (λ e. tree e
+        ≡ spec_over_parts (tree expr.now) (map tree queue.old.items)) }
+{
+    match expr {
+        Expr::Lit(_) | Expr::Var(_) | Expr::Current | Expr::Sub(_) => copy_expr(alloc, expr),
+        Expr::List(items) => Ok(Expr::List(over_exprs(alloc, queue, items.as_slice())?)),
+        Expr::Object(fields) => Ok(Expr::Object(over_fields(alloc, queue, fields.as_slice())?)),
+        Expr::Access { of, steps } => {
+            let of = next_part(alloc, queue, of)?;
+            let steps = over_steps(alloc, queue, steps.as_slice())?;
+            Expr::access(alloc, of, steps)
+        }
+        Expr::Call { name, args } => Ok(Expr::Call {
+            name: name.copy(alloc)?,
+            args: over_exprs(alloc, queue, args.as_slice())?,
+        }),
+        Expr::Unary { op, of } => {
+            let of = next_part(alloc, queue, of)?;
+            Expr::unary(alloc, *op, of)
+        }
+        Expr::Chain { first, rest } => {
+            let first = next_part(alloc, queue, first)?;
+            let rest = over_links(alloc, queue, rest.as_slice())?;
+            Expr::chain(alloc, first, rest)
+        }
+        Expr::Quant {
+            left,
+            kind,
+            op,
+            right,
+        } => {
+            let left = next_part(alloc, queue, left)?;
+            let right = next_part(alloc, queue, right)?;
+            Expr::quantified(alloc, left, *kind, *op, right)
+        }
+        Expr::Cond { test, yes, no } => {
+            let test = next_part(alloc, queue, test)?;
+            let yes = over_maybe_boxed(alloc, queue, yes)?;
+            let no = next_part(alloc, queue, no)?;
+            Expr::conditional(alloc, test, yes, no)
+        }
+        Expr::Range { low, high } => {
+            let low = next_part(alloc, queue, low)?;
+            let high = next_part(alloc, queue, high)?;
+            Expr::range(alloc, low, high)
+        }
+    }
+}
+
+/// The same form over other parts, taken in order. Where they run out, the old parts are copied, so
+/// without any this is a copy; what is too many is dropped.
+pub fn over_parts(alloc: Global, expr: &Expr, new: VecDeque<Expr>) -> Result<Expr, OutOfMemory>
+    ensures { IfOk result (λ e. tree e ≡ spec_over_parts (tree expr.now) (map tree new.items)) }
+{
+    let mut queue = new;
+    over_queue(alloc, expr, &mut queue)
+}

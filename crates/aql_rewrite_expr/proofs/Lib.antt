@@ -1,3 +1,0 @@
-mod Forms
-mod Steps
-mod Compared

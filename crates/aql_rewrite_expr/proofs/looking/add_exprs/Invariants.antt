@@ -1,8 +1,0 @@
-use Rattle.std.proofs.Common.{◌≡◌, ◌++◌, map, take}
-use Rattle.aql_tree.specs.View.{tree}
-use Rattle.aql_rewrite_expr.specs.View.{lent}
-use Rattle.aql_rewrite_expr.proofs.looking.add_exprs.Given as goal
-
-abbrev pub invariant-loop-expr : goal.invariant-loop-expr
-invariant-loop-expr l =
-    map lent l.to.items ≡ map lent l.initial.to.items ++ map tree (take l.expr-index l.all)

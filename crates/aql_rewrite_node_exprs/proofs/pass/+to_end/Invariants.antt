@@ -1,6 +1,0 @@
-use Rattle.aql_plan.specs.Nodes.{weight}
-use Rattle.aql_plan.specs.View.{plan_tree}
-use Rattle.aql_rewrite_node_exprs.proofs.pass.+to_end.Given as goal
-
-abbrev pub decreases-to_end : goal.decreases-to_end
-decreases-to_end g l = weight (plan_tree l.plan.now)

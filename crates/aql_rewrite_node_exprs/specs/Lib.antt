@@ -1,3 +1,0 @@
-pub mod AtExprs
-pub mod Ends
-pub mod laws

@@ -1,3 +1,0 @@
-pub mod Finished
-pub mod Removed
-pub mod laws

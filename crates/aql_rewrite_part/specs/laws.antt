@@ -1,4 +1,0 @@
-pub mod Finishing
-pub mod StaysPlaced
-pub mod Removing
-pub mod Changing

@@ -1,6 +1,0 @@
-use Rattle.aql_tree.specs.View.{tree}
-use Rattle.aql_rules_conditions.proofs.Chains.{no_left}
-use Rattle.aql_rules_conditions.proofs.replace_or_with_in.ReplaceOrWithInExprRule.at.Goals as goal
-
-pub returns-in-None : goal.returns-in-None
-returns-in-None c = no_left (tree c.args.expr.now) c.in-None.ensures

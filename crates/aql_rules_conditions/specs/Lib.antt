@@ -1,5 +1,0 @@
-pub mod SimplifyConditions
-pub mod Members
-pub mod ReplaceOrWithIn
-pub mod Operations
-pub mod laws

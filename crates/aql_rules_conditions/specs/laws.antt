@@ -1,4 +1,0 @@
-pub mod Attributes
-pub mod PartTests
-pub mod Simplified
-pub mod OrWithIn
