@@ -1,11 +1,37 @@
 //! Which plans have executors.
 
 ghost use Rattle.std.specs.Prelude.{◌↔◌, IsTrue};
-ghost use Rattle.aql_plan.specs.View.{plan_tree};
-ghost use Rattle.aql_engine.specs.Runnable.{HasExecutors};
+ghost use Rattle.aql_plan.specs.View.{node_tree, plan_tree};
+ghost use Rattle.aql_engine.specs.Runnable.{HasExecutor, HasExecutors};
 
 use aql_meaning::Stage;
-use aql_plan::Plan;
+use aql_plan::{Node, Plan};
+
+// Whether a node without a body has an executor.
+fn node_has_executor(node: &Node) -> bool
+    ensures { IsTrue result ↔ HasExecutor (node_tree node.now) }
+{
+    match node {
+        Node::EnumerateCollection { .. } => true,
+        Node::EnumerateList { .. } => true,
+        Node::Traversal { .. } => true,
+        Node::Calculation { .. } => true,
+        Node::Filter { .. } => true,
+        Node::Sort { .. } => true,
+        Node::Limit { .. } => true,
+        Node::Collect { stage, .. } => match stage {
+            Stage::Whole => true,
+            Stage::Partial | Stage::Final => false,
+        },
+        Node::Return { .. } => true,
+        Node::NoResults => true,
+        Node::Index { .. }
+        | Node::Scatter { .. }
+        | Node::Distribute { .. }
+        | Node::Remote
+        | Node::Gather { .. } => false,
+    }
+}
 
 /// Whether each node of a plan, those of bodies too, has an executor.
 pub fn has_executors(plan: &Plan) -> bool
@@ -13,24 +39,7 @@ pub fn has_executors(plan: &Plan) -> bool
 {
     match plan {
         Plan::Singleton => true,
-        Plan::EnumerateCollection { below, .. } => has_executors(below),
-        Plan::EnumerateList { below, .. } => has_executors(below),
-        Plan::Traversal { below, .. } => has_executors(below),
-        Plan::Calculation { below, .. } => has_executors(below),
+        Plan::Over { below, node } => node_has_executor(node) && has_executors(below),
         Plan::Subquery { below, body, .. } => has_executors(below) && has_executors(body),
-        Plan::Filter { below, .. } => has_executors(below),
-        Plan::Sort { below, .. } => has_executors(below),
-        Plan::Limit { below, .. } => has_executors(below),
-        Plan::Collect { below, stage, .. } => match stage {
-            Stage::Whole => has_executors(below),
-            Stage::Partial | Stage::Final => false,
-        },
-        Plan::Return { below, .. } => has_executors(below),
-        Plan::NoResults { below } => has_executors(below),
-        Plan::Index { .. }
-        | Plan::Scatter { .. }
-        | Plan::Distribute { .. }
-        | Plan::Remote { .. }
-        | Plan::Gather { .. } => false,
     }
 }

@@ -19,10 +19,15 @@ abbrev pub body_operators : Facts → Node → OperatorTree
 body_operators facts (Subquery x body) = operators_of facts body
 body_operators facts n = leaf NoRows
 
--- the node at the top gives no row, whatever its input gives
+-- a node gives no row, whatever its input gives
+abbrev pub node_gives_none : Node → Bool
+node_gives_none NoResults = true
+node_gives_none n = false
+
+-- so does the node at the top of a plan
 abbrev pub gives_none : Plan → Bool
-gives_none (Over b NoResults) = true
-gives_none p = false
+gives_none Singleton = false
+gives_none (Over b n) = node_gives_none n
 
 abbrev pub IsTraversal : Node → Type 0
 IsTraversal (Traversal shape e colls prune keep) = Unit {0}

@@ -4,14 +4,14 @@ ghost use Rattle.std.specs.Prelude.{◌≡◌, IfOk};
 ghost use Rattle.aql_plan.specs.declared.facts.Facts.{Facts};
 ghost use Rattle.aql_plan.specs.Plan as spec;
 ghost use Rattle.aql_plan.specs.Fits.{Fits};
-ghost use Rattle.aql_plan.specs.View.{plan_tree};
+ghost use Rattle.aql_plan.specs.View.{node_tree, plan_tree};
 ghost use Rattle.aql_exec.specs.Operators.{StartRow, NoRows, within};
 ghost use Rattle.aql_exec_graph.specs.Searches as graph;
 ghost use Rattle.aql_engine.specs.EachFits.{EachFits, BodyFits};
 ghost use Rattle.aql_engine.specs.OperatorsOf.{operators_of};
 ghost use Rattle.aql_engine.specs.Runnable.{HasExecutors, HasExecutor};
-ghost use Rattle.aql_local.specs.Building.{operator_of, body_operators, gives_none, IsTraversal};
-ghost use Rattle.aql_local.specs.Building.{SetsNumbers, NodeSetsNumbers};
+ghost use Rattle.aql_local.specs.Building.{operator_of, body_operators, gives_none, node_gives_none};
+ghost use Rattle.aql_local.specs.Building.{IsTraversal, SetsNumbers, NodeSetsNumbers};
 
 use crate::World;
 use crate::nodes::{
@@ -22,7 +22,7 @@ use aql_engine::Tree;
 use aql_exec::{Executor, Feed, Wired};
 use aql_exec_graph::Search;
 use aql_exec_scan::Reading;
-use aql_plan::Plan;
+use aql_plan::{Node, Plan};
 use aql_tree::{
     copy_aggregates, copy_colls, copy_expr, copy_into, copy_keys, copy_lets, copy_maybe,
     copy_maybe_texts,
@@ -59,7 +59,7 @@ impl PlanExecutor for NodeExecutor {
     }
 
     fn of_node(alloc: Global, plan: &Plan) -> Result<NodeExecutor, OutOfMemory> {
-        executor_of(alloc, plan)
+        top_executor(alloc, plan)
     }
 }
 
@@ -101,10 +101,19 @@ fn body_of<X: PlanExecutor>(alloc: Global, plan: &Plan) -> Result<Tree<X>, OutOf
     }
 }
 
+fn node_is_no_results(node: &Node) -> bool
+    ensures { result ≡ node_gives_none (node_tree node.now) }
+{
+    matches!(node, Node::NoResults)
+}
+
 fn is_no_results(plan: &Plan) -> bool
     ensures { result ≡ gives_none (plan_tree plan.now) }
 {
-    matches!(plan, Plan::NoResults { .. })
+    match plan {
+        Plan::Over { node, .. } => node_is_no_results(node),
+        _ => false,
+    }
 }
 
 fn with_body<X: PlanExecutor>(
@@ -122,7 +131,7 @@ fn with_body<X: PlanExecutor>(
 }
 
 // The executor of the node at the top of a plan.
-fn executor_of(alloc: Global, plan: &Plan) -> Result<NodeExecutor, OutOfMemory>
+fn top_executor(alloc: Global, plan: &Plan) -> Result<NodeExecutor, OutOfMemory>
     requires executor { HasExecutor (spec.top (plan_tree plan.now)) }
     requires fits { (facts : Facts) × Fits facts (spec.top (plan_tree plan.now)) }
     requires numbers { NodeSetsNumbers (spec.top (plan_tree plan.now)) }
@@ -130,14 +139,28 @@ fn executor_of(alloc: Global, plan: &Plan) -> Result<NodeExecutor, OutOfMemory>
         ≡ operator_of (spec.top (plan_tree plan.now))) }
 {
     match plan {
-        Plan::Singleton | Plan::NoResults { .. } => Ok(no_results()),
-        Plan::EnumerateCollection {
+        Plan::Singleton => Ok(no_results()),
+        Plan::Over { node, .. } => executor_of(alloc, node),
+        Plan::Subquery { var, .. } => Ok(subquery(alloc, *var)),
+    }
+}
+
+// The executor of a node without a body.
+fn executor_of(alloc: Global, node: &Node) -> Result<NodeExecutor, OutOfMemory>
+    requires executor { HasExecutor (node_tree node.now) }
+    requires fits { (facts : Facts) × Fits facts (node_tree node.now) }
+    requires numbers { NodeSetsNumbers (node_tree node.now) }
+    ensures { IfOk result (λ x. ⟦<NodeExecutor as Executor<World>>⟧.node x
+        ≡ operator_of (node_tree node.now)) }
+{
+    match node {
+        Node::NoResults => Ok(no_results()),
+        Node::EnumerateCollection {
             var,
             coll,
             filter,
             attrs,
             shard,
-            ..
         } => {
             let reading = Reading {
                 var: *var,
@@ -148,20 +171,19 @@ fn executor_of(alloc: Global, plan: &Plan) -> Result<NodeExecutor, OutOfMemory>
             };
             Ok(enumerate_collection(alloc, reading))
         }
-        Plan::EnumerateList { var, list, .. } => {
+        Node::EnumerateList { var, list, .. } => {
             Ok(enumerate_list(alloc, *var, copy_expr(alloc, list)?))
         }
-        Plan::Traversal { .. } => Ok(traversal(alloc, search_of(alloc, plan)?)),
-        Plan::Calculation { var, expr, .. } => {
+        Node::Traversal { .. } => Ok(traversal(alloc, search_of(alloc, node)?)),
+        Node::Calculation { var, expr, .. } => {
             Ok(calculation(alloc, *var, copy_expr(alloc, expr)?))
         }
-        Plan::Subquery { var, .. } => Ok(subquery(alloc, *var)),
-        Plan::Filter { cond, .. } => Ok(filter(alloc, copy_expr(alloc, cond)?)),
-        Plan::Sort { keys, limit, .. } => {
+        Node::Filter { cond, .. } => Ok(filter(alloc, copy_expr(alloc, cond)?)),
+        Node::Sort { keys, limit, .. } => {
             Ok(sort(alloc, copy_keys(alloc, keys.as_slice())?, *limit))
         }
-        Plan::Limit { offset, count, .. } => Ok(limit(alloc, *offset, *count)),
-        Plan::Collect {
+        Node::Limit { offset, count, .. } => Ok(limit(alloc, *offset, *count)),
+        Node::Collect {
             groups,
             aggregates,
             into,
@@ -171,7 +193,7 @@ fn executor_of(alloc: Global, plan: &Plan) -> Result<NodeExecutor, OutOfMemory>
             let aggregates = copy_aggregates(alloc, aggregates.as_slice())?;
             Ok(collect(alloc, criteria, aggregates, copy_into(alloc, into)?))
         }
-        Plan::Return { distinct, expr, .. } => {
+        Node::Return { distinct, expr, .. } => {
             let expr = copy_expr(alloc, expr)?;
             if *distinct {
                 return Ok(distinct_results(alloc, expr));
@@ -182,13 +204,13 @@ fn executor_of(alloc: Global, plan: &Plan) -> Result<NodeExecutor, OutOfMemory>
     }
 }
 
-// What the traversal at the top of a plan is told.
-fn search_of(alloc: Global, plan: &Plan) -> Result<Search, OutOfMemory>
-    requires traversal { IsTraversal (spec.top (plan_tree plan.now)) }
-    ensures { IfOk result (λ s. graph.node_of s ≡ spec.top (plan_tree plan.now)) }
+// What a traversal is told.
+fn search_of(alloc: Global, node: &Node) -> Result<Search, OutOfMemory>
+    requires traversal { IsTraversal (node_tree node.now) }
+    ensures { IfOk result (λ s. graph.node_of s ≡ node_tree node.now) }
 {
-    match plan {
-        Plan::Traversal {
+    match node {
+        Node::Traversal {
             vertex,
             edge,
             path,
@@ -200,7 +222,6 @@ fn search_of(alloc: Global, plan: &Plan) -> Result<Search, OutOfMemory>
             prune,
             options,
             filter,
-            ..
         } => Ok(Search {
             vertex: *vertex,
             edge: *edge,

@@ -50,23 +50,6 @@ fn copy_last(alloc: Global, last: &Last) -> Result<Last, OutOfMemory>
     }
 }
 
-fn boxed(alloc: Global, plan: Plan) -> Result<Box<Plan>, OutOfMemory>
-    ensures { IfOk result (λ b. plan_tree b.value ≡ plan_tree plan) }
-{
-    Ok(Box::new(alloc, plan)?)
-}
-
-fn subquery(alloc: Global, below: Plan, var: u32, body: Plan) -> Result<Plan, OutOfMemory>
-    ensures { IfOk result (λ p. plan_tree p
-        ≡ spec.Over (plan_tree below) (spec.Subquery (Num var) (plan_tree body))) }
-{
-    Ok(Plan::Subquery {
-        below: boxed(alloc, below)?,
-        var,
-        body: boxed(alloc, body)?,
-    })
-}
-
 // An equal node.
 fn copy_node(alloc: Global, node: &Node) -> Result<Node, OutOfMemory>
     ensures { IfOk result (λ n. node_tree n ≡ node_tree node.now) }
@@ -181,18 +164,36 @@ fn copy_node(alloc: Global, node: &Node) -> Result<Node, OutOfMemory>
     }
 }
 
+impl Node {
+    /// The node over its input.
+    pub fn over(self, alloc: Global, below: Plan) -> Result<Plan, OutOfMemory>
+        ensures { IfOk result (λ p. plan_tree p ≡ spec.Over (plan_tree below) (node_tree self)) }
+    {
+        let below = Box::new(alloc, below)?;
+        let node = Box::new(alloc, self)?;
+        Ok(Plan::Over { below, node })
+    }
+}
+
 // A copy of a node over another input.
 fn copy_over(alloc: Global, node: &Node, below: Plan) -> Result<Plan, OutOfMemory>
     ensures { IfOk result (λ p. plan_tree p ≡ spec.Over (plan_tree below) (node_tree node.now)) }
 {
-    let copied = copy_node(alloc, node)?;
-    Ok(Plan::Over {
-        below: boxed(alloc, below)?,
-        node: Box::new(alloc, copied)?,
-    })
+    let copy = copy_node(alloc, node)?;
+    copy.over(alloc, below)
 }
 
 impl Plan {
+    /// A Subquery over its input: each row with the array of what the body gives from it.
+    pub fn subquery(alloc: Global, below: Plan, var: u32, body: Plan) -> Result<Plan, OutOfMemory>
+        ensures { IfOk result (λ p. plan_tree p
+            ≡ spec.Over (plan_tree below) (spec.Subquery (Num var) (plan_tree body))) }
+    {
+        let below = Box::new(alloc, below)?;
+        let body = Box::new(alloc, body)?;
+        Ok(Plan::Subquery { below, var, body })
+    }
+
     /// The body of a subquery; `None` exactly at every other node.
     pub fn body(&self) -> Option<&Plan>
         ensures { MatchOption result (body_in (spec.top (plan_tree self.now)) ≡ None)
@@ -226,7 +227,7 @@ impl Plan {
         match self {
             Plan::Subquery { var, body, .. } => {
                 let body = body.copy(alloc)?;
-                subquery(alloc, below, *var, body)
+                Plan::subquery(alloc, below, *var, body)
             }
             Plan::Over { node, .. } => copy_over(alloc, node, below),
             Plan::Singleton => Ok(Plan::Singleton),
@@ -240,7 +241,7 @@ impl Plan {
         match self {
             Plan::Subquery { below, var, .. } => {
                 let below = below.copy(alloc)?;
-                subquery(alloc, below, *var, body)
+                Plan::subquery(alloc, below, *var, body)
             }
             _ => self.copy(alloc),
         }
