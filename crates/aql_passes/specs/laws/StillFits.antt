@@ -146,6 +146,7 @@ still_fits facts (Traversal w e colls prune keep) ps h i f =
       plain_maybe keep [] rs (alone StandsFor (maybe_parts keep) rs l),
       f.3,
       f.4,
+      f.5,
     )
 still_fits facts (Calculation x e) ps h i f = (first_stands e [] ps h).plain
 still_fits facts (Subquery x s) ps h i f = tt

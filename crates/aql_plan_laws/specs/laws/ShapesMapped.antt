@@ -95,7 +95,7 @@ module _ (f : ExprTree → ExprTree) (plain : (e : ExprTree) → IsPlain e → I
   )
   mapped_fit facts (EnumerateList x e) h = plain e h
   mapped_fit facts (Traversal w e colls prune keep) h =
-      (plain e h.0, maybe_plain prune h.1, maybe_plain keep h.2, h.3, h.4)
+      (plain e h.0, maybe_plain prune h.1, maybe_plain keep h.2, h.3, h.4, h.5)
   mapped_fit facts (Calculation x e) h = plain e h
   mapped_fit facts (Subquery x s) h = tt
   mapped_fit facts (Filter e) h = plain e h
