@@ -1,12 +1,12 @@
 // Rules at the first place of a plan, once it is seen that the plan is one that they take.
 ghost use Rattle.std.specs.Prelude.{◌≡◌, false, IsTrue};
-ghost use Rattle.aql_plan.specs.Shapes.{HasNoFragment};
-ghost use Rattle.aql_plan.specs.View.{plan_tree};
+ghost use Rattle.aql_plan.specs.Shapes.{HasNoFragment, IsNoFragment};
+ghost use Rattle.aql_plan.specs.View.{node_tree, plan_tree};
 ghost use Rattle.aql_rewrite.specs.Placed.{IsWhole};
 
 use crate::tests::lines::{Line, plan_of, two_collections};
 use crate::tests::texts::write_plan;
-use aql_plan::{Facts, Plan, Stage};
+use aql_plan::{Facts, Node, Plan, Stage};
 use aql_plan_check::well_formed;
 use aql_rewrite::{Rule, first_place};
 use std::alloc::Global;
@@ -22,28 +22,29 @@ pub fn expect_page(rt: &impl Abort, page: &Page, want: &str, of: &str) {
     assert_eq!(rt; page.as_str(), want, "of {of}");
 }
 
+fn is_no_fragment(node: &Node) -> bool
+    ensures { IsTrue result → IsNoFragment (node_tree node.now) }
+{
+    match node {
+        Node::Collect { stage, .. } => match stage {
+            Stage::Whole => true,
+            _ => false,
+        },
+        Node::Scatter { .. } | Node::Distribute { .. } | Node::Remote | Node::Gather { .. } => {
+            false
+        }
+        _ => true,
+    }
+}
+
 #[cycle(alone)]
 fn has_no_fragment(plan: &Plan) -> bool
     ensures { IsTrue result → HasNoFragment (plan_tree plan.now) }
 {
     match plan {
         Plan::Singleton => true,
-        Plan::EnumerateCollection { below, .. } => has_no_fragment(below),
-        Plan::Index { below, .. } => has_no_fragment(below),
-        Plan::EnumerateList { below, .. } => has_no_fragment(below),
-        Plan::Traversal { below, .. } => has_no_fragment(below),
-        Plan::Calculation { below, .. } => has_no_fragment(below),
+        Plan::Over { below, node } => is_no_fragment(node) && has_no_fragment(below),
         Plan::Subquery { below, body, .. } => has_no_fragment(below) && has_no_fragment(body),
-        Plan::Filter { below, .. } => has_no_fragment(below),
-        Plan::Sort { below, .. } => has_no_fragment(below),
-        Plan::Limit { below, .. } => has_no_fragment(below),
-        Plan::Collect {
-            below,
-            stage: Stage::Whole,
-            ..
-        } => has_no_fragment(below),
-        Plan::Return { below, .. } => has_no_fragment(below),
-        _ => false,
     }
 }
 

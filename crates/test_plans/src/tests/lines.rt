@@ -2,7 +2,7 @@
 // single document.
 use aql_func::BinOp;
 use aql_meaning::{Last, Stage, TraversalOptions};
-use aql_plan::{CollFact, Facts, IndexFact, IndexKind, Plan};
+use aql_plan::{CollFact, Facts, IndexFact, IndexKind, Node, Plan};
 use aql_tree::{
     AggregateItem, Direction, Expr, Ident, Into, Key, Let, Link, Step, UniqueEdges, UniqueVertices,
 };
@@ -143,9 +143,8 @@ fn number(n: i64) -> Expr {
     Expr::Lit(Value::Num(n))
 }
 
-fn docs(below: Box<Plan>, var: u32, filter: Option<Expr>, attrs: Option<Seq<Text>>) -> Plan {
-    Plan::EnumerateCollection {
-        below,
+fn docs(var: u32, filter: Option<Expr>, attrs: Option<Seq<Text>>) -> Node {
+    Node::EnumerateCollection {
         var,
         coll: CollNo(0),
         filter,
@@ -154,9 +153,8 @@ fn docs(below: Box<Plan>, var: u32, filter: Option<Expr>, attrs: Option<Seq<Text
     }
 }
 
-fn lone(below: Box<Plan>, var: u32) -> Plan {
-    Plan::EnumerateCollection {
-        below,
+fn lone(var: u32) -> Node {
+    Node::EnumerateCollection {
         var,
         coll: CollNo(1),
         filter: None,
@@ -165,9 +163,8 @@ fn lone(below: Box<Plan>, var: u32) -> Plan {
     }
 }
 
-fn found(alloc: Global, below: Box<Plan>, var: u32) -> Plan {
-    Plan::Index {
-        below,
+fn found(alloc: Global, var: u32) -> Node {
+    Node::Index {
         var,
         coll: CollNo(0),
         filter: None,
@@ -190,16 +187,14 @@ struct Walked {
 
 fn paths(
     alloc: Global,
-    below: Box<Plan>,
     vars: Walked,
     prune: Option<Expr>,
     filter: Option<Expr>,
-) -> Result<Plan, OutOfMemory> {
+) -> Result<Node, OutOfMemory> {
     let start = Expr::Lit(Value::Text(Text::new(alloc, "c/1")?));
     let mut collections = Seq::new(alloc);
     collections.push(CollNo(0))?;
-    Ok(Plan::Traversal {
-        below,
+    Ok(Node::Traversal {
         vertex: vars.vertex,
         edge: vars.edge,
         path: vars.path,
@@ -218,40 +213,34 @@ fn paths(
     })
 }
 
-fn source(alloc: Global, below: Box<Plan>, line: Line) -> Result<Plan, OutOfMemory> {
+fn source(alloc: Global, line: Line) -> Result<Node, OutOfMemory> {
     match line {
-        Line::Docs(var) => Ok(docs(below, var, None, None)),
-        Line::Lone(var) => Ok(lone(below, var)),
-        Line::DocsIf(var, filter) => Ok(docs(below, var, maybe_cond(alloc, filter)?, None)),
-        Line::DocsCut(var) => Ok(docs(below, var, None, Some(names(alloc, "a")?))),
-        Line::Found(var) => Ok(found(alloc, below, var)),
+        Line::Docs(var) => Ok(docs(var, None, None)),
+        Line::Lone(var) => Ok(lone(var)),
+        Line::DocsIf(var, filter) => Ok(docs(var, maybe_cond(alloc, filter)?, None)),
+        Line::DocsCut(var) => Ok(docs(var, None, Some(names(alloc, "a")?))),
+        Line::Found(var) => Ok(found(alloc, var)),
         Line::Each(var, list) => {
             let list = attribute(alloc, list)?;
-            Ok(Plan::EnumerateList { below, var, list })
+            Ok(Node::EnumerateList { var, list })
         }
-        Line::EachOf(var, list) => Ok(Plan::EnumerateList {
-            below,
+        Line::EachOf(var, list) => Ok(Node::EnumerateList {
             var,
             list: Expr::Var(Ident::Num(list)),
         }),
         Line::Paths(vertex, edge, path, prune, filter) => {
             let prune = maybe_cond(alloc, prune)?;
             let filter = maybe_cond(alloc, filter)?;
-            paths(alloc, below, Walked { vertex, edge, path }, prune, filter)
+            paths(alloc, Walked { vertex, edge, path }, prune, filter)
         }
-        _ => Ok(Plan::NoResults { below }),
+        _ => Ok(Node::NoResults),
     }
 }
 
-fn sorted(
-    alloc: Global,
-    below: Box<Plan>,
-    key: Expr,
-    limit: Option<u64>,
-) -> Result<Plan, OutOfMemory> {
+fn sorted(alloc: Global, key: Expr, limit: Option<u64>) -> Result<Node, OutOfMemory> {
     let mut keys = Seq::new(alloc);
     keys.push(Key::new(key, false))?;
-    Ok(Plan::Sort { below, keys, limit })
+    Ok(Node::Sort { keys, limit })
 }
 
 fn aggregates(alloc: Global, all: &[Aggregated]) -> Result<Seq<AggregateItem>, OutOfMemory> {
@@ -276,17 +265,15 @@ fn maybe_into(alloc: Global, into: Option<(u32, Part)>) -> Result<Option<Into>, 
 
 fn collected(
     alloc: Global,
-    below: Box<Plan>,
     group: (u32, Part),
     all: &[Aggregated],
     into: Option<(u32, Part)>,
-) -> Result<Plan, OutOfMemory> {
+) -> Result<Node, OutOfMemory> {
     let mut groups = Seq::new(alloc);
     groups.push(Let::new(Ident::Num(group.0), attribute(alloc, group.1)?))?;
     let aggregates = aggregates(alloc, all)?;
     let into = maybe_into(alloc, into)?;
-    Ok(Plan::Collect {
-        below,
+    Ok(Node::Collect {
         groups,
         aggregates,
         into,
@@ -294,17 +281,16 @@ fn collected(
     })
 }
 
-fn filter(below: Box<Plan>, cond: Expr) -> Plan {
-    Plan::Filter { below, cond }
+fn filter(cond: Expr) -> Node {
+    Node::Filter { cond }
 }
 
-fn calculation(below: Box<Plan>, var: u32, expr: Expr) -> Plan {
-    Plan::Calculation { below, var, expr }
+fn calculation(var: u32, expr: Expr) -> Node {
+    Node::Calculation { var, expr }
 }
 
-fn result(below: Box<Plan>, expr: Expr) -> Plan {
-    Plan::Return {
-        below,
+fn result(expr: Expr) -> Node {
+    Node::Return {
         expr,
         distinct: false,
     }
@@ -315,38 +301,35 @@ fn variable(var: u32) -> Expr {
 }
 
 fn body(alloc: Global, var: u32, n: i64) -> Result<Plan, OutOfMemory> {
-    let start = Box::new(alloc, Plan::Singleton)?;
-    let filtered = Box::new(alloc, filter(start, number(n)))?;
-    let set = Box::new(alloc, calculation(filtered, var, number(3)))?;
-    Ok(result(set, variable(var)))
+    let plan = filter(number(n)).over(alloc, Plan::Singleton)?;
+    let plan = calculation(var, number(3)).over(alloc, plan)?;
+    result(variable(var)).over(alloc, plan)
 }
 
-fn node(alloc: Global, below: Box<Plan>, line: Line) -> Result<Plan, OutOfMemory> {
+fn node(alloc: Global, line: Line) -> Result<Node, OutOfMemory> {
     match line {
-        Line::Let(var, n) => Ok(calculation(below, var, number(n))),
-        Line::Copy(var, part) => Ok(calculation(below, var, attribute(alloc, part)?)),
+        Line::Let(var, n) => Ok(calculation(var, number(n))),
+        Line::Copy(var, part) => Ok(calculation(var, attribute(alloc, part)?)),
+        Line::Filter(parts) => Ok(filter(cond(alloc, parts)?)),
+        Line::FilterBy(n) => Ok(filter(number(n))),
+        Line::Sort(key, limit) => sorted(alloc, attribute(alloc, key)?, limit),
+        Line::SortBy(n, limit) => sorted(alloc, number(n), limit),
+        Line::Limit(count) => Ok(Node::Limit { offset: 0, count }),
+        Line::LimitAfter(offset, count) => Ok(Node::Limit { offset, count }),
+        Line::Collect(var, part, all, into) => collected(alloc, (var, part), all, into),
+        Line::Return(var) => Ok(result(variable(var))),
+        Line::ReturnPart(part) => Ok(result(attribute(alloc, part)?)),
+        _ => source(alloc, line),
+    }
+}
+
+fn over(alloc: Global, below: Plan, line: Line) -> Result<Plan, OutOfMemory> {
+    match line {
         Line::Rows(var, inner, n) => {
-            let body = Box::new(alloc, body(alloc, inner, n)?)?;
-            Ok(Plan::Subquery { below, var, body })
+            let body = body(alloc, inner, n)?;
+            Plan::subquery(alloc, below, var, body)
         }
-        Line::Filter(parts) => Ok(filter(below, cond(alloc, parts)?)),
-        Line::FilterBy(n) => Ok(filter(below, number(n))),
-        Line::Sort(key, limit) => sorted(alloc, below, attribute(alloc, key)?, limit),
-        Line::SortBy(n, limit) => sorted(alloc, below, number(n), limit),
-        Line::Limit(count) => Ok(Plan::Limit {
-            below,
-            offset: 0,
-            count,
-        }),
-        Line::LimitAfter(offset, count) => Ok(Plan::Limit {
-            below,
-            offset,
-            count,
-        }),
-        Line::Collect(var, part, all, into) => collected(alloc, below, (var, part), all, into),
-        Line::Return(var) => Ok(result(below, variable(var))),
-        Line::ReturnPart(part) => Ok(result(below, attribute(alloc, part)?)),
-        _ => source(alloc, below, line),
+        _ => node(alloc, line)?.over(alloc, below),
     }
 }
 
@@ -354,8 +337,7 @@ fn node(alloc: Global, below: Box<Plan>, line: Line) -> Result<Plan, OutOfMemory
 pub fn plan_of(alloc: Global, lines: &[Line]) -> Result<Plan, OutOfMemory> {
     let mut plan = Plan::Singleton;
     for line in lines {
-        let below = Box::new(alloc, plan)?;
-        plan = node(alloc, below, *line)?;
+        plan = over(alloc, plan, *line)?;
     }
     Ok(plan)
 }

@@ -6,32 +6,30 @@ ghost use Rattle.aql_rewrite.specs.Placed.{IsWhole};
 use crate::tests::checked::{expect_page, is_taken};
 use crate::tests::lines::Line::{self, Docs, DocsCut, DocsIf, FilterBy, Found, Let, Return};
 use crate::tests::lines::{plan_of, two_collections};
-use aql_plan::{Facts, Plan};
+use aql_plan::{Facts, Node, Plan};
 use aql_rules_order::candidates;
 use std::alloc::Global;
 use std::process::Abort;
 use test_support::Page;
 
-// The variables of the FORs over collections, the lowest first.
-fn write_loops(plan: &Plan, page: &mut Page) {
-    match plan {
-        Plan::EnumerateCollection { below, var, .. } => {
-            write_loops(below, page);
-            page.put_shown(var);
-        }
-        Plan::Index { below, var, .. } => {
-            write_loops(below, page);
-            page.put_shown(var);
-        }
-        Plan::Calculation { below, .. } => write_loops(below, page),
-        Plan::Filter { below, .. } => write_loops(below, page),
-        Plan::Return { below, .. } => write_loops(below, page),
+fn write_loop(node: &Node, page: &mut Page) {
+    match node {
+        Node::EnumerateCollection { var, .. } => page.put_shown(var),
+        Node::Index { var, .. } => page.put_shown(var),
         _ => {}
     }
 }
 
-fn write_candidates(alloc: Global, plan: &Plan, facts: &Facts, page: &mut Page)
-    requires { IsWhole false facts.now (plan_tree plan.now) }
+// The variables of the FORs over collections, the lowest first.
+fn write_loops(plan: &Plan, page: &mut Page) {
+    if let Plan::Over { below, node } = plan {
+        write_loops(below, page);
+        write_loop(node, page);
+    }
+}
+
+fn write_candidates(alloc: Global, plan: Plan, facts: &Facts, page: &mut Page)
+    requires { IsWhole false facts.now (plan_tree plan) }
 {
     match candidates(alloc, plan, facts) {
         Ok(all) => {
@@ -50,7 +48,7 @@ fn candidates_of(alloc: Global, lines: &[Line], facts: &Facts) -> Page {
     match plan_of(alloc, lines) {
         Ok(plan) => {
             if is_taken(alloc, &plan, facts) {
-                write_candidates(alloc, &plan, facts, &mut page);
+                write_candidates(alloc, plan, facts, &mut page);
             } else {
                 page.put("no such plan");
             }

@@ -1,22 +1,19 @@
 //! Nodes by a word each: a letter for the kind, and a letter for each field.
 
 use crate::tests::exprs::{expr, exprs, keys, maybe_expr, maybe_number, names, number};
-use aql_plan::{Edge, Last, Plan, Stage, TraversalOptions};
+use aql_plan::{Edge, Last, Node, Plan, Stage, TraversalOptions};
 use aql_tree::{
     AggregateItem, Aggregates, Direction, Ident, Into, Let, Lets, UniqueEdges, UniqueVertices,
 };
 use aql_value::{CollNo, CollNos, Names, OutOfMemory, Text};
 use std::alloc::Global;
 
-type Boxed = Box<Plan>;
-
-type Made = Result<Plan, OutOfMemory>;
+type Made = Result<Node, OutOfMemory>;
 
 // E: variable, collection, shard, filter.
-fn scan(alloc: Global, below: Boxed, fields: &[u8; 4]) -> Made {
+fn scan(alloc: Global, fields: &[u8; 4]) -> Made {
     let [var, coll, shard, filter] = *fields;
-    Ok(Plan::EnumerateCollection {
-        below,
+    Ok(Node::EnumerateCollection {
         var: number(var),
         coll: CollNo(number(coll)),
         filter: maybe_expr(alloc, filter)?,
@@ -63,10 +60,9 @@ fn equalities(of: u8) -> &'static [u8] {
 }
 
 // I: variable, collection, shard, index, equalities, last bound, order, kept attribute, filter.
-fn by_index(alloc: Global, below: Boxed, fields: &[u8; 9]) -> Made {
+fn by_index(alloc: Global, fields: &[u8; 9]) -> Made {
     let [var, coll, shard, index, equal, bound, order, kept, filter] = *fields;
-    Ok(Plan::Index {
-        below,
+    Ok(Node::Index {
         var: number(var),
         coll: CollNo(number(coll)),
         filter: maybe_expr(alloc, filter)?,
@@ -88,12 +84,11 @@ fn by_index(alloc: Global, below: Boxed, fields: &[u8; 9]) -> Made {
 }
 
 // T: vertex, edge, path, least and greatest depth, start, collection, PRUNE, filter.
-fn traversal(alloc: Global, below: Boxed, fields: &[u8; 9]) -> Made {
+fn traversal(alloc: Global, fields: &[u8; 9]) -> Made {
     let [vertex, edge, path, min, max, start, coll, prune, filter] = *fields;
     let mut collections = CollNos::new(alloc);
     collections.push(CollNo(number(coll)))?;
-    Ok(Plan::Traversal {
-        below,
+    Ok(Node::Traversal {
         vertex: number(vertex),
         edge: maybe_number(edge),
         path: maybe_number(path),
@@ -114,20 +109,20 @@ fn traversal(alloc: Global, below: Boxed, fields: &[u8; 9]) -> Made {
 
 // The body of a subquery: a Return of this expression, or of null for each document of collection 0
 // at `d`, or none at `x`.
-fn body(alloc: Global, of: u8) -> Made {
+fn body(alloc: Global, of: u8) -> Result<Plan, OutOfMemory> {
     if of == b'x' {
         return Ok(Plan::Singleton);
     }
     let below = if of == b'd' {
-        scan(alloc, Box::new(alloc, Plan::Singleton)?, b"10--")?
+        scan(alloc, b"10--")?.over(alloc, Plan::Singleton)?
     } else {
         Plan::Singleton
     };
-    Ok(Plan::Return {
-        below: Box::new(alloc, below)?,
+    let result = Node::Return {
         expr: expr(alloc, of)?,
         distinct: false,
-    })
+    };
+    result.over(alloc, below)
 }
 
 fn ident(alloc: Global, of: u8) -> Result<Ident, OutOfMemory> {
@@ -180,10 +175,9 @@ fn into(alloc: Global, var: u8, what: u8) -> Result<Option<Into>, OutOfMemory> {
 
 // K: stage, criterion's variable and expression, aggregate's variable, name and argument, INTO's
 // variable and expression.
-fn collect(alloc: Global, below: Boxed, fields: &[u8; 8]) -> Made {
+fn collect(alloc: Global, fields: &[u8; 8]) -> Made {
     let [stage, group, of, var, name, arg, taken, what] = *fields;
-    Ok(Plan::Collect {
-        below,
+    Ok(Node::Collect {
         groups: lets(alloc, group, of)?,
         aggregates: aggregates(alloc, var, name, arg)?,
         into: into(alloc, taken, what)?,
@@ -204,84 +198,77 @@ fn count(of: u8) -> u64 {
 }
 
 /// The node of a word over a plan; a word that is none is NoResults.
-pub fn node(alloc: Global, word: &[u8], below: Plan) -> Made {
-    let below = Box::new(alloc, below)?;
+pub fn node(alloc: Global, word: &[u8], below: Plan) -> Result<Plan, OutOfMemory> {
     match word {
-        [b'E', a, b, c, d] => scan(alloc, below, &[*a, *b, *c, *d]),
-        [b'I', a, b, c, d, e, f, g, h] => {
-            by_index(alloc, below, &[*a, *b, *c, *d, *e, *f, *g, *h, b'-'])
+        [b'Q', var, of] => {
+            let body = body(alloc, *of)?;
+            Plan::subquery(alloc, below, number(*var), body)
         }
-        [b'I', a, b, c, d, e, f, g, h, i] => {
-            by_index(alloc, below, &[*a, *b, *c, *d, *e, *f, *g, *h, *i])
-        }
-        [b'T', a, b, c, d, e, f, g, h, i] => {
-            traversal(alloc, below, &[*a, *b, *c, *d, *e, *f, *g, *h, *i])
-        }
-        [b'K', a, b, c, d, e, f, g, h] => {
-            collect(alloc, below, &[*a, *b, *c, *d, *e, *f, *g, *h])
-        }
-        _ => small_node(alloc, word, below),
+        _ => large_node(alloc, word)?.over(alloc, below),
     }
 }
 
-fn small_node(alloc: Global, word: &[u8], below: Boxed) -> Made {
+fn large_node(alloc: Global, word: &[u8]) -> Made {
     match word {
-        [b'L', var, list] => Ok(Plan::EnumerateList {
-            below,
+        [b'E', a, b, c, d] => scan(alloc, &[*a, *b, *c, *d]),
+        [b'I', a, b, c, d, e, f, g, h] => {
+            by_index(alloc, &[*a, *b, *c, *d, *e, *f, *g, *h, b'-'])
+        }
+        [b'I', a, b, c, d, e, f, g, h, i] => {
+            by_index(alloc, &[*a, *b, *c, *d, *e, *f, *g, *h, *i])
+        }
+        [b'T', a, b, c, d, e, f, g, h, i] => {
+            traversal(alloc, &[*a, *b, *c, *d, *e, *f, *g, *h, *i])
+        }
+        [b'K', a, b, c, d, e, f, g, h] => collect(alloc, &[*a, *b, *c, *d, *e, *f, *g, *h]),
+        _ => small_node(alloc, word),
+    }
+}
+
+fn small_node(alloc: Global, word: &[u8]) -> Made {
+    match word {
+        [b'L', var, list] => Ok(Node::EnumerateList {
             var: number(*var),
             list: expr(alloc, *list)?,
         }),
-        [b'C', var, of] => Ok(Plan::Calculation {
-            below,
+        [b'C', var, of] => Ok(Node::Calculation {
             var: number(*var),
             expr: expr(alloc, *of)?,
         }),
-        [b'Q', var, of] => Ok(Plan::Subquery {
-            below,
-            var: number(*var),
-            body: Box::new(alloc, body(alloc, *of)?)?,
-        }),
-        [b'F', cond] => Ok(Plan::Filter {
-            below,
+        [b'F', cond] => Ok(Node::Filter {
             cond: expr(alloc, *cond)?,
         }),
-        [b'M', offset, most] => Ok(Plan::Limit {
-            below,
+        [b'M', offset, most] => Ok(Node::Limit {
             offset: count(*offset),
             count: count(*most),
         }),
-        [b'R', of, distinct] => Ok(Plan::Return {
-            below,
+        [b'R', of, distinct] => Ok(Node::Return {
             expr: expr(alloc, *of)?,
             distinct: *distinct == b'd',
         }),
-        _ => cluster_node(alloc, word, below),
+        _ => cluster_node(alloc, word),
     }
 }
 
 // S and G have a direction and keys; A a collection and a shard, D a collection and expressions.
-fn cluster_node(alloc: Global, word: &[u8], below: Boxed) -> Made {
+fn cluster_node(alloc: Global, word: &[u8]) -> Made {
     match word {
-        [b'S', direction, letters @ ..] => Ok(Plan::Sort {
-            below,
+        [b'S', direction, letters @ ..] => Ok(Node::Sort {
             keys: keys(alloc, *direction, letters)?,
             limit: None,
         }),
-        [b'G', direction, letters @ ..] => Ok(Plan::Gather {
-            below,
+        [b'G', direction, letters @ ..] => Ok(Node::Gather {
             order: keys(alloc, *direction, letters)?,
         }),
-        [b'A', coll, only] => Ok(Plan::Scatter {
-            below,
+        [b'A', coll, only] => Ok(Node::Scatter {
             coll: CollNo(number(*coll)),
             only: maybe_number(*only),
         }),
-        [b'D', coll, letters @ ..] => Ok(Plan::Distribute {
-            below,
+        [b'D', coll, letters @ ..] => Ok(Node::Distribute {
             coll: CollNo(number(*coll)),
             exprs: exprs(alloc, letters)?,
         }),
-        [b'>'] => Ok(Plan::Remote { below }),
-        _ => Ok(Plan::NoResults { below }),
+        [b'>'] => Ok(Node::Remote),
+        _ => Ok(Node::NoResults),
     }
 }

@@ -1,7 +1,7 @@
 // Passes over a plan with a body, worked out by hand.
 ghost use Rattle.std.specs.Prelude.{◌≡◌, [], false, IfOk};
 ghost use Rattle.aql_tree.specs.View.{tree};
-ghost use Rattle.aql_plan.specs.Plan.{Over, Singleton, Filter};
+ghost use Rattle.aql_plan.specs.Plan.{Over, Singleton, Filter, Return};
 ghost use Rattle.aql_plan.specs.View.{plan_tree};
 ghost use Rattle.test_plans.specs.NotFalse.{not_false as spec_not_false};
 ghost use Rattle.test_plans.specs.Sample.{two_of as spec_two_of, sample as spec_sample};
@@ -11,7 +11,7 @@ use crate::tests::pages::{Page, expect_page};
 use crate::tests::rules::{Never, NotFalse, Nowhere};
 use aql_func::UnaryOp;
 use aql_passes::run_expr_pass;
-use aql_plan::{CollFacts, Facts, Passed, Plan};
+use aql_plan::{CollFacts, Facts, Node, Passed, Plan};
 use aql_rewrite::{ExprRule, first_place, node_exprs, run_pass};
 use aql_tree::Expr;
 use aql_value::{OutOfMemory, Seq, Value};
@@ -40,35 +40,34 @@ fn two_of(alloc: Global) -> Result<Expr, OutOfMemory>
 fn filtered(alloc: Global) -> Result<Plan, OutOfMemory>
     ensures { IfOk result (λ p. plan_tree p ≡ Over Singleton (Filter spec_not_false)) }
 {
-    Ok(Plan::Filter {
-        below: Box::new(alloc, Plan::Singleton)?,
-        cond: not_false(alloc)?,
-    })
+    let cond = not_false(alloc)?;
+    Node::Filter { cond }.over(alloc, Plan::Singleton)
+}
+
+fn returned(alloc: Global, below: Plan, expr: Expr) -> Result<Plan, OutOfMemory>
+    ensures { IfOk result (λ p. plan_tree p ≡ Over (plan_tree below) (Return false (tree expr))) }
+{
+    let node = Node::Return {
+        expr,
+        distinct: false,
+    };
+    node.over(alloc, below)
 }
 
 fn sample_body(alloc: Global) -> Result<Plan, OutOfMemory>
     ensures { IfOk result (λ p. plan_tree p ≡ spec_sample_body) }
 {
-    Ok(Plan::Return {
-        below: Box::new(alloc, filtered(alloc)?)?,
-        expr: not_false(alloc)?,
-        distinct: false,
-    })
+    let below = filtered(alloc)?;
+    returned(alloc, below, not_false(alloc)?)
 }
 
 fn sample(alloc: Global) -> Result<Plan, OutOfMemory>
     ensures { IfOk result (λ p. plan_tree p ≡ spec_sample) }
 {
-    let subquery = Plan::Subquery {
-        below: Box::new(alloc, filtered(alloc)?)?,
-        var: 1,
-        body: Box::new(alloc, sample_body(alloc)?)?,
-    };
-    Ok(Plan::Return {
-        below: Box::new(alloc, subquery)?,
-        expr: two_of(alloc)?,
-        distinct: false,
-    })
+    let below = filtered(alloc)?;
+    let body = sample_body(alloc)?;
+    let subquery = Plan::subquery(alloc, below, 1, body)?;
+    returned(alloc, subquery, two_of(alloc)?)
 }
 
 fn no_facts(alloc: Global) -> Facts

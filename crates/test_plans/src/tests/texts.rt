@@ -1,5 +1,5 @@
 // Plans as texts: a word or two for each node, the lowest first, between slashes.
-use aql_plan::Plan;
+use aql_plan::{Node, Plan};
 use aql_tree::{AggregateItem, Expr, Ident, Into, Key, Let};
 use aql_value::Names;
 use test_support::{Notation, Page, write_expr};
@@ -91,41 +91,34 @@ fn write_walked(vertex: u32, edge: Option<u32>, path: Option<u32>, page: &mut Pa
     write_maybe_var(" path ", path, page);
 }
 
-// A plan with a node at its top that gives a row for each of many things.
-#[cycle(write)]
-fn write_source(plan: &Plan, page: &mut Page) {
-    match plan {
-        Plan::EnumerateCollection {
-            below,
+// A node that gives a row for each of many things.
+fn write_source(node: &Node, page: &mut Page) {
+    match node {
+        Node::EnumerateCollection {
             var,
             filter,
             attrs,
             ..
         } => {
-            write_plan(below, page);
             write_var(" / docs ", *var, page);
             write_maybe(" if ", filter, page);
             write_attrs(attrs, page);
         }
-        Plan::Index {
-            below,
+        Node::Index {
             var,
             filter,
             attrs,
             ..
         } => {
-            write_plan(below, page);
             write_var(" / found ", *var, page);
             write_maybe(" if ", filter, page);
             write_attrs(attrs, page);
         }
-        Plan::EnumerateList { below, var, list } => {
-            write_plan(below, page);
+        Node::EnumerateList { var, list } => {
             write_var(" / each ", *var, page);
             write(" in ", list, page);
         }
-        Plan::Traversal {
-            below,
+        Node::Traversal {
             vertex,
             edge,
             path,
@@ -133,7 +126,6 @@ fn write_source(plan: &Plan, page: &mut Page) {
             filter,
             ..
         } => {
-            write_plan(below, page);
             write_walked(*vertex, *edge, *path, page);
             write_maybe(" prune ", prune, page);
             write_maybe(" if ", filter, page);
@@ -142,23 +134,35 @@ fn write_source(plan: &Plan, page: &mut Page) {
     }
 }
 
-// A plan with a LET at its top, or with such a node.
-#[cycle(write)]
-fn write_setting(plan: &Plan, page: &mut Page) {
-    match plan {
-        Plan::Calculation { below, var, expr } => {
-            write_plan(below, page);
+fn write_node(node: &Node, page: &mut Page) {
+    match node {
+        Node::Calculation { var, expr } => {
             write_var(" / let ", *var, page);
             write(" = ", expr, page);
         }
-        Plan::Subquery { below, var, body } => {
-            write_plan(below, page);
-            write_var(" / let ", *var, page);
-            page.put(" = {");
-            write_plan(body, page);
-            page.put("}");
+        Node::Filter { cond } => write(" / filter ", cond, page),
+        Node::Sort { keys, limit } => {
+            write_keys(keys.as_slice(), page);
+            write_limit(limit, page);
         }
-        _ => write_source(plan, page),
+        Node::Limit { offset, count } => {
+            page.put(" / limit ");
+            write_skipped(*offset, page);
+            page.put_shown(count);
+        }
+        Node::Collect {
+            groups,
+            aggregates,
+            into,
+            ..
+        } => {
+            write_groups(groups.as_slice(), page);
+            write_aggregates(aggregates.as_slice(), page);
+            write_into(into, page);
+        }
+        Node::Return { expr, .. } => write(" / return ", expr, page),
+        Node::NoResults => page.put(" / nothing"),
+        _ => write_source(node, page),
     }
 }
 
@@ -167,45 +171,16 @@ fn write_setting(plan: &Plan, page: &mut Page) {
 pub fn write_plan(plan: &Plan, page: &mut Page) {
     match plan {
         Plan::Singleton => page.put("start"),
-        Plan::Filter { below, cond } => {
+        Plan::Over { below, node } => {
             write_plan(below, page);
-            write(" / filter ", cond, page);
+            write_node(node, page);
         }
-        Plan::Sort { below, keys, limit } => {
+        Plan::Subquery { below, var, body } => {
             write_plan(below, page);
-            write_keys(keys.as_slice(), page);
-            write_limit(limit, page);
+            write_var(" / let ", *var, page);
+            page.put(" = {");
+            write_plan(body, page);
+            page.put("}");
         }
-        Plan::Limit {
-            below,
-            offset,
-            count,
-        } => {
-            write_plan(below, page);
-            page.put(" / limit ");
-            write_skipped(*offset, page);
-            page.put_shown(count);
-        }
-        Plan::Collect {
-            below,
-            groups,
-            aggregates,
-            into,
-            ..
-        } => {
-            write_plan(below, page);
-            write_groups(groups.as_slice(), page);
-            write_aggregates(aggregates.as_slice(), page);
-            write_into(into, page);
-        }
-        Plan::Return { below, expr, .. } => {
-            write_plan(below, page);
-            write(" / return ", expr, page);
-        }
-        Plan::NoResults { below } => {
-            write_plan(below, page);
-            page.put(" / nothing");
-        }
-        _ => write_setting(plan, page),
     }
 }
