@@ -55,8 +55,10 @@ fn number_of_kind(kind: QuantKind) -> u8
     }
 }
 
-fn same_variable(a: &Ident, b: &Ident) -> bool
-    ensures { result ≡ same_ident a.now b.now }
+/// Whether two variables are the same.
+pub fn same_variable(a: &Ident, b: &Ident) -> bool
+    ensures same { result ≡ same_ident a.now b.now }
+    ensures equal { IsTrue result ↔ (a.now ≡ b.now) }
 {
     match (a, b) {
         (Ident::Name(a), Ident::Name(b)) => a.as_str() == b.as_str(),

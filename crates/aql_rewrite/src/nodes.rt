@@ -57,7 +57,8 @@ fn node_is_collect(node: &Node) -> bool
     matches!(node, Node::Collect { .. })
 }
 
-fn is_collect(plan: &Plan) -> bool
+/// Whether a node is a Collect.
+pub fn is_collect(plan: &Plan) -> bool
     ensures { result ≡ spec_is_collect (top (plan_tree plan.now)) }
 {
     match plan {
