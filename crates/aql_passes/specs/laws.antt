@@ -18,3 +18,4 @@ pub mod Finishing
 pub mod StaysPlaced
 pub mod Removing
 pub mod Changing
+pub mod FirstRewritten

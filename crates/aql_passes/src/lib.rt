@@ -5,6 +5,7 @@ mod changing_pass;
 mod exchange_pass;
 mod expr_pass;
 mod exprs;
+mod first_rewrite;
 mod part_pass;
 mod removing_pass;
 

@@ -1,6 +1,6 @@
 //! The pass of a rule that renames nothing: the plan from its lowest node up. Where the rule
-//! rewrote a part, the pass goes on with what stands there now. What the nodes above use is found
-//! only for a rule that looks at it.
+//! rewrote a part, the pass goes on with what stands there now. No node is copied, and what the
+//! nodes above use is found only for a rule that looks at it.
 
 ghost use Rattle.std.specs.Prelude.{◌≡◌, false, OnOk, IfOk};
 ghost use Rattle.aql_plan.specs.Needs.{under};
@@ -13,10 +13,10 @@ ghost use Rattle.aql_rewrite.specs.Swaps.{SetsNoMore};
 ghost use Rattle.aql_rewrite.specs.View.{above_uses};
 ghost use Rattle.aql_passes.specs.Finished.{Finishes};
 
+use crate::first_rewrite::rewrite_here;
 use aql_plan::{Facts, Passed, Plan, Uses};
 use aql_rewrite::{
-    PartRule, gives_new_rows, is_start, only, replace_below, result_uses, swap_here, uses_of,
-    with_below,
+    PartRule, gives_new_rows, is_start, only, replace_below, result_uses, uses_of, with_below,
 };
 use aql_value::OutOfMemory;
 use std::alloc::Global;
@@ -42,14 +42,12 @@ fn settle<R: PartRule>(
     let mut node = plan;
     let below = replace_below(&mut node, Plan::Singleton);
     let below = settle_below(alloc, rule, &node, below, above, facts, changed)?;
-    let part = with_below(node, below);
-    match swap_here(alloc, rule, &part, above.as_slice(), facts)? {
-        None => Ok(part),
-        Some(swap) => {
-            *changed = true;
-            settle(alloc, rule, swap.part, above, facts, changed)
-        }
+    let mut part = with_below(node, below);
+    if !rewrite_here(alloc, rule, &mut part, above.as_slice(), facts)? {
+        return Ok(part);
     }
+    *changed = true;
+    settle(alloc, rule, part, above, facts, changed)
 }
 
 // The same of the input that a node had.

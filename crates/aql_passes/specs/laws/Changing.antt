@@ -19,7 +19,7 @@ use Rattle.aql_rewrite.specs.Changed.{Changes}
 use Rattle.aql_passes.specs.Finished.{Finishes}
 use Rattle.aql_passes.specs.laws.Finishing.{first_nameless, input_reached, input_ended, stayed_finishes}
 
-no_body : (n : Node) → has_body n ≡ false → body_in n ≡ None
+pub no_body : (n : Node) → has_body n ≡ false → body_in n ≡ None
 no_body (Subquery v s) h = absurd (true≢false h)
 no_body n h = refl
 

@@ -1,6 +1,7 @@
 -- A part comes to its end by its input, and then by what the rule makes of it, at its top node or in the body
 -- of this.
 use Rattle.std.proofs.Common.{rules, ◌∙◌, ◌+◌, ◌<◌, true, false, refl, ap, sym, subst, arith}
+use Rattle.std.specs.Prelude.{None}
 use Rattle.std.proofs.lemmas.Result.{IfOk-weaker}
 use Rattle.aql_meaning.specs.Uses.{Uses}
 use Rattle.aql_plan.specs.Needs.{under}
@@ -8,10 +9,9 @@ use Rattle.aql_plan.specs.Plan.{Plan, top}
 use Rattle.aql_plan.specs.View.{plan_tree}
 use Rattle.aql_rewrite.specs.Placed.{IsPlaced}
 use Rattle.aql_rewrite.specs.View.{above_uses}
-use Rattle.aql_rewrite.specs.Walks.{NoPlaceHere, FirstHere}
 use Rattle.aql_rewrite.specs.laws.Walk.{above_new, above_old}
 use Rattle.aql_rewrite.specs.laws.Taken.{taken}
-use Rattle.aql_passes.specs.Finished.{Finishes}
+use Rattle.aql_passes.specs.Finished.{Finishes, IsRewrittenHere}
 use Rattle.aql_passes.specs.laws.Finishing.{work, work_below, start_finishes, input_reached}
 use Rattle.aql_passes.specs.laws.Finishing.{stayed_finishes, then_stepped, then_lower, then_finishes}
 use Rattle.aql_passes.specs.laws.Finishing.{finishes_seen}
@@ -43,8 +43,8 @@ settle-settle_below-requires g t c κs within =
       ),
     )
 
-pub settle-swap_here-requires : goal.settle-swap_here-requires
-settle-swap_here-requires g t c =
+pub settle-rewrite_here-requires : goal.settle-rewrite_here-requires
+settle-rewrite_here-requires g t c =
     let rule = c.args.rule.now in
     let facts = c.args.facts.now in
     let rewrites = g.R.Rule.rewrites rule facts in
@@ -58,8 +58,7 @@ settle-swap_here-requires g t c =
     let y = c.settle_below.new.changed in
     let parts = taken p m b (sym c.is_start.ensures ∙ c.if-is_start.false) c.replace_below-below.ensures.over
     c.replace_below-below.ensures.input in
-    placed_for facts (g.R.Rule.fragments rule) us (above_uses c.as_slice.result.now) k
-    (g.met.R.PartRule.lone rule)
+    placed_for facts false us (above_uses c.as_slice.result.now) k refl
     (ap above_uses (c.as_slice.ensures.value ∙ c.in_ok-below.ensures.kept))
     (stays_placed rewrites facts (g.R.Rule.fragments rule) (g.met.R.PartRule.lone rule)
     (g.met.R.Rule.refines rule facts) (g.met.R.Rule.keeps rule facts) us p k x y c.requires
@@ -78,16 +77,16 @@ settle-settle-requires g t c κs within =
     let b = plan_tree c.replace_below-below.result in
     let d = plan_tree c.in_ok-below.below in
     let k = plan_tree c.with_below-part.result in
-    let q = plan_tree c.in-Some.swap.part in
+    let q = plan_tree c.rewrite_here.new.part in
     let x = c.args.changed.now in
     let y = c.settle_below.new.changed in
     let parts = taken p m b (sym c.is_start.ensures ∙ c.if-is_start.false) c.replace_below-below.ensures.over
     c.replace_below-below.ensures.input in
-    let first = subst (λ (vs : Uses). FirstHere rewrites vs k q c.in-Some.swap.rename)
-    (ap above_uses (c.as_slice.ensures.value ∙ c.in_ok-below.ensures.kept))
-    (rw c.in-Some.is at c.in_ok-swap_here.ensures) in
+    let first = subst (IsRewrittenHere rewrites us k q) c.if-not-branch.false
+    (subst (λ (vs : Uses). IsRewrittenHere rewrites vs k q c.in_ok-rewrite_here.field-0)
+    (ap above_uses (c.as_slice.ensures.value ∙ c.in_ok-below.ensures.kept)) c.in_ok-rewrite_here.ensures) in
     let less = then_lower rewrites (g.met.R.PartRule.nameless rule facts) size
-    (g.met.R.PartRule.lowers rule facts) us p m b d k q c.in-Some.swap.rename x y c.requires.2.suits parts
+    (g.met.R.PartRule.lowers rule facts) us p m b d k q None x y c.requires.2.suits parts
     c.with_below-part.ensures c.in_ok-below.ensures.finishes first in
     let fewer : work size q + work size q < work size p + work size p = omega (arith, less) in (
       search (rules, fewer),
@@ -98,13 +97,13 @@ settle-settle-requires g t c κs within =
             (stays_placed rewrites facts (g.R.Rule.fragments rule) (g.met.R.PartRule.lone rule)
             (g.met.R.Rule.refines rule facts) (g.met.R.Rule.keeps rule facts) us p q x true c.requires
             (then_stepped rewrites (g.met.R.PartRule.nameless rule facts) us p m b d k q
-            c.in-Some.swap.rename x y c.requires.2.suits parts c.with_below-part.ensures
+            None x y c.requires.2.suits parts c.with_below-part.ensures
             c.in_ok-below.ensures.finishes first)),
       ),
     )
 
-pub settle-returns-in-None-clause-finishes : goal.settle-returns-in-None-clause-finishes
-settle-returns-in-None-clause-finishes g t c =
+pub settle-returns-then-not-branch-clause-finishes : goal.settle-returns-then-not-branch-clause-finishes
+settle-returns-then-not-branch-clause-finishes g t c =
     let rewrites = g.R.Rule.rewrites c.args.rule.now c.args.facts.now in
     let us = above_uses c.args.above.now.items in
     let p = plan_tree c.args.plan in
@@ -113,15 +112,17 @@ settle-returns-in-None-clause-finishes g t c =
     let k = plan_tree c.with_below-part.result in
     let parts = taken p m b (sym c.is_start.ensures ∙ c.if-is_start.false) c.replace_below-below.ensures.over
     c.replace_below-below.ensures.input in
-    stayed_finishes rewrites us p m b (plan_tree c.in_ok-below.below) k c.args.changed.now
+    let q = plan_tree c.rewrite_here.new.part in
+    let stays = subst (IsRewrittenHere rewrites us k q) c.if-not-branch.true
+    (subst (λ (vs : Uses). IsRewrittenHere rewrites vs k q c.in_ok-rewrite_here.field-0)
+    (ap above_uses (c.as_slice.ensures.value ∙ c.in_ok-below.ensures.kept)) c.in_ok-rewrite_here.ensures) in
+    subst (λ (o : Plan). Finishes rewrites us p o c.args.changed.now c.settle_below.new.changed) (sym stays.1)
+    (stayed_finishes rewrites us p m b (plan_tree c.in_ok-below.below) k c.args.changed.now
     c.settle_below.new.changed c.requires.2.suits parts c.with_below-part.ensures
-    c.in_ok-below.ensures.finishes
-    (subst (λ (vs : Uses). NoPlaceHere rewrites vs k)
-    (ap above_uses (c.as_slice.ensures.value ∙ c.in_ok-below.ensures.kept))
-    (rw c.in-None.is at c.in_ok-swap_here.ensures))
+    c.in_ok-below.ensures.finishes stays.0)
 
-pub settle-returns-in-Some-clause-finishes : goal.settle-returns-in-Some-clause-finishes
-settle-returns-in-Some-clause-finishes g t c =
+pub settle-returns-clause-finishes : goal.settle-returns-clause-finishes
+settle-returns-clause-finishes g t c =
     let rule = c.args.rule.now in
     let facts = c.args.facts.now in
     let rewrites = g.R.Rule.rewrites rule facts in
@@ -131,16 +132,16 @@ settle-returns-in-Some-clause-finishes g t c =
     let b = plan_tree c.replace_below-below.result in
     let d = plan_tree c.in_ok-below.below in
     let k = plan_tree c.with_below-part.result in
-    let q = plan_tree c.in-Some.swap.part in
+    let q = plan_tree c.rewrite_here.new.part in
     let x = c.args.changed.now in
     let y = c.settle_below.new.changed in
     let parts = taken p m b (sym c.is_start.ensures ∙ c.if-is_start.false) c.replace_below-below.ensures.over
     c.replace_below-below.ensures.input in
-    let first = subst (λ (vs : Uses). FirstHere rewrites vs k q c.in-Some.swap.rename)
-    (ap above_uses (c.as_slice.ensures.value ∙ c.in_ok-below.ensures.kept))
-    (rw c.in-Some.is at c.in_ok-swap_here.ensures) in
+    let first = subst (IsRewrittenHere rewrites us k q) c.if-not-branch.false
+    (subst (λ (vs : Uses). IsRewrittenHere rewrites vs k q c.in_ok-rewrite_here.field-0)
+    (ap above_uses (c.as_slice.ensures.value ∙ c.in_ok-below.ensures.kept)) c.in_ok-rewrite_here.ensures) in
     let way = then_stepped rewrites (g.met.R.PartRule.nameless rule facts) us p m b d k q
-    c.in-Some.swap.rename x y c.requires.2.suits parts c.with_below-part.ensures
+    None x y c.requires.2.suits parts c.with_below-part.ensures
     c.in_ok-below.ensures.finishes first in
     IfOk-weaker c.settle.result _ _
     (λ o h. then_finishes rewrites us p q (plan_tree o) x c.settle.new.changed way
