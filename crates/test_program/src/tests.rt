@@ -1,10 +1,8 @@
 mod catalogs;
 mod pages;
-mod rows;
 mod rule_sets;
 mod scoping;
 mod scoping_rows;
 mod scripts;
 mod shell;
 mod streams;
-mod traversals;

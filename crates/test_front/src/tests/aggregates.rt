@@ -30,41 +30,16 @@ fn gives(alloc: Global, name: &str, members: &str, want: &str) -> bool {
     }
 }
 
-// A name, members, and the aggregate of them.
-static AGGREGATES: [(&str, &str, &str); 29] = [
-    ("LENGTH", "[]", "0"),
+// A name, members, and the aggregate of them; `cases/groups.cases` has more.
+static AGGREGATES: [(&str, &str, &str); 8] = [
     ("count", "[]", "0"),
-    ("SUM", "[]", "0"),
-    ("MIN", "[]", "null"),
-    ("MAX", "[]", "null"),
-    ("SORTED_UNIQUE", "[]", "[]"),
-    ("COUNT_DISTINCT", "[]", "0"),
-    ("COUNT", "[null,null]", "2"),
-    ("SUM", "[null,null]", "0"),
-    ("MIN", "[null,null]", "null"),
-    ("MAX", "[null,null]", "null"),
-    ("SORTED_UNIQUE", "[null,null]", "[null]"),
-    ("COUNT_DISTINCT", "[null,null]", "1"),
     ("LENGTH", "[\"a\",1,null,1]", "4"),
-    ("SUM", "[\"a\",1,null,1]", "null"),
     ("MIN", "[\"a\",1,null,1]", "1"),
-    ("MAX", "[\"a\",1,null,1]", "\"a\""),
     ("SORTED_UNIQUE", "[\"a\",1,null,1]", "[null,1,\"a\"]"),
     ("COUNT_DISTINCT", "[\"a\",1,null,1]", "3"),
-    ("SORTED_UNIQUE", "[1,\"1\",[1],true]", "[true,1,\"1\",[1]]"),
-    ("MIN", "[[1],{\"a\":1},false]", "false"),
     ("Max", "[[1],{\"a\":1},false]", "{\"a\":1}"),
-    ("SUM", "[9223372036854775807]", "9223372036854775807"),
     ("SUM", "[9223372036854775807,1]", "null"),
     ("SUM", "[9223372036854775807,1,-1]", "9223372036854775807"),
-    (
-        "SUM",
-        "[9223372036854775807,9223372036854775807,-9223372036854775807]",
-        "9223372036854775807",
-    ),
-    ("SUM", "[-9223372036854775808,-1,1]", "-9223372036854775808"),
-    ("SUM", "[-9223372036854775808,-1]", "null"),
-    ("SUM", "[1,true]", "null"),
 ];
 
 #[test]

@@ -1,4 +1,5 @@
-// The values of expressions at a row, worked out by hand from the chapter on operators.
+// The values of expressions at a row, worked out by hand from the chapter on operators: one of each
+// form, and what no query can say. `cases/` has more.
 ghost use Rattle.std.specs.Prelude.{[], ◌∷◌, IfOk, map, option_map, refl, slice_get};
 ghost use Rattle.aql_tree.specs.View.{link_part, maybe, step_part, tree};
 ghost use Rattle.aql_tree.specs.View.{links as link_trees, steps as step_trees};
@@ -182,31 +183,6 @@ fn place_in_variable(alloc: Global, number: u32, place: &str) -> Result<Expr, Ou
     Expr::access(alloc, var(number), steps)
 }
 
-fn place_in(alloc: Global, of: &str, place: &str) -> Result<Expr, OutOfMemory>
-    ensures { IfOk result (λ e. IsPlain (tree e)) }
-{
-    let steps = one(alloc, Step::At(lit(alloc, place)))?;
-    Expr::access(alloc, lit(alloc, of), steps)
-}
-
-// `[0]`.
-fn first_place(alloc: Global) -> Step
-    ensures { StepsPlain (step_trees (step_part result ∷ [])) }
-{
-    Step::At(lit(alloc, "0"))
-}
-
-// As many steps as a query has room for.
-fn long(alloc: Global) -> Result<Expr, OutOfMemory>
-    ensures { IfOk result (λ e. IsPlain (tree e)) }
-{
-    let mut steps = Seq::new(alloc);
-    for _ in 0..20_000 {
-        steps.push(first_place(alloc))?;
-    }
-    Expr::access(alloc, lit(alloc, "[[1]]"), steps)
-}
-
 // `CURRENT op right`, if there is memory for it.
 fn of_current(alloc: Global, op: BinOp, right: &str) -> Option<Expr>
     ensures { MaybePlain (maybe (option_map tree result)) }
@@ -225,28 +201,6 @@ fn inline(alloc: Global) -> Result<Expr, OutOfMemory>
     let project = of_current(alloc, BinOp::Mul, "2");
     let steps = one(alloc, Step::each(filter, project))?;
     Expr::access(alloc, lit(alloc, "[1,2,3]"), steps)
-}
-
-// `of[* FILTER CURRENT.p]`, with `.p` after it.
-fn filtered(alloc: Global, of: &str) -> Result<Expr, OutOfMemory>
-    ensures { IfOk result (λ e. IsPlain (tree e)) }
-{
-    let behind_current = named(alloc, "p")?;
-    let filter = Expr::access(alloc, Expr::Current, behind_current)?;
-    let mut steps = Seq::new(alloc);
-    steps.push(Step::each(Some(filter), None))?;
-    steps.push(Step::Name(Text::new(alloc, "p")?))?;
-    Expr::access(alloc, lit(alloc, of), steps)
-}
-
-// `of[*][*]`.
-fn twice(alloc: Global, of: &str) -> Result<Expr, OutOfMemory>
-    ensures { IfOk result (λ e. IsPlain (tree e)) }
-{
-    let mut steps = Seq::new(alloc);
-    steps.push(Step::each(None, None))?;
-    steps.push(Step::each(None, None))?;
-    Expr::access(alloc, lit(alloc, of), steps)
 }
 
 // `{a: 1, [2]: 3, a: 4}`.
@@ -289,27 +243,9 @@ fn call(alloc: Global, name: &str, arg: &str) -> Result<Expr, OutOfMemory>
     Ok(Expr::Call { name, args })
 }
 
-static OPERATIONS: [(&str, BinOp, &str, &str); 11] = [
-    ("5", BinOp::Div, "2", "null"),
-    ("6", BinOp::Div, "2", "3"),
-    ("1", BinOp::Div, "0", "null"),
-    ("-7", BinOp::Rem, "2", "-1"),
-    (r#""3""#, BinOp::Add, "4", "7"),
-    ("9223372036854775807", BinOp::Add, "1", "null"),
-    ("null", BinOp::Or, "5", "5"),
-    ("6", BinOp::Or, "5", "6"),
-    ("0", BinOp::And, "7", "0"),
-    ("1", BinOp::And, "7", "7"),
-    ("[]", BinOp::Lt, "[null]", "true"),
-];
-
 #[test]
 fn operators(rt: HostRuntime) {
     let alloc = rt.alloc();
-    for (left, op, right, want) in &OPERATIONS {
-        let expr = operation(alloc, left, *op, right);
-        expect(&rt, has_value(alloc, expr, want), left, right);
-    }
     expect(&rt, has_value(alloc, chain(alloc), "5"), "a chain", "");
     let not = unary(alloc, UnaryOp::Not, lit(alloc, r#""""#));
     expect(&rt, has_value(alloc, not, "true"), "not", "");
@@ -319,11 +255,9 @@ fn operators(rt: HostRuntime) {
     expect(&rt, has_value(alloc, range, "[3,2,1]"), "a range", "");
 }
 
-static CHOICES: [(&str, Option<&str>, &str, &str); 4] = [
+static CHOICES: [(&str, Option<&str>, &str, &str); 2] = [
     ("1", Some("2"), "3", "2"),
-    ("0", Some("2"), "3", "3"),
     ("7", None, "3", "7"),
-    ("null", None, "3", "3"),
 ];
 
 #[test]
@@ -335,12 +269,9 @@ fn choices(rt: HostRuntime) {
     }
 }
 
-static QUANTIFIERS: [(&str, QuantKind, BinOp, &str, &str); 5] = [
+static QUANTIFIERS: [(&str, QuantKind, BinOp, &str, &str); 2] = [
     ("[1,2]", QuantKind::All, BinOp::Gt, "0", "true"),
-    ("[]", QuantKind::Any, BinOp::Eq, "1", "false"),
     ("[1]", QuantKind::None, BinOp::IsIn, "[2]", "true"),
-    ("[1,2]", QuantKind::Any, BinOp::Eq, "2", "true"),
-    ("1", QuantKind::None, BinOp::Eq, "2", "false"),
 ];
 
 #[test]
@@ -358,15 +289,6 @@ static ATTRIBUTES: [(u32, &str, &str); 3] = [
     (1, "name", "null"),
 ];
 
-static PLACES: [(&str, &str, &str); 6] = [
-    ("[7,8,9]", "0", "7"),
-    ("[7,8,9]", "3", "null"),
-    ("[7,8,9]", "-1", "9"),
-    ("[7,8,9]", "-3", "7"),
-    ("[7,8,9]", "-4", "null"),
-    ("[7]", "true", "null"),
-];
-
 #[test]
 fn accesses(rt: HostRuntime) {
     let alloc = rt.alloc();
@@ -376,28 +298,12 @@ fn accesses(rt: HostRuntime) {
     }
     let tags = place_in_variable(alloc, 0, r#""tags""#);
     expect(&rt, has_value(alloc, tags, "[1,2,3]"), "tags", "");
-    for (of, place, want) in &PLACES {
-        let expr = place_in(alloc, of, place);
-        expect(&rt, has_value(alloc, expr, want), of, place);
-    }
-    expect(&rt, has_value(alloc, long(alloc), "null"), "long", "");
 }
 
 #[test]
 fn inline_operators(rt: HostRuntime) {
     let alloc = rt.alloc();
     expect(&rt, has_value(alloc, inline(alloc), "[4,6]"), "inline", "");
-    let some = filtered(alloc, r#"[{"p":1},{"q":2},{"p":3}]"#);
-    expect(&rt, has_value(alloc, some, "[1,3]"), "some", "");
-    let none = filtered(alloc, "1");
-    expect(&rt, has_value(alloc, none, "[]"), "none", "");
-    let nested = twice(alloc, "[[1],[],2,[3,4]]");
-    expect(
-        &rt,
-        has_value(alloc, nested, "[[1],[],[],[3,4]]"),
-        "nested",
-        "",
-    );
 }
 
 static CALLED: [(&str, &str, &str); 3] = [

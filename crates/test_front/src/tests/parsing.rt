@@ -1,5 +1,6 @@
 // What `parse` gives for texts whose trees were worked out by hand from the chapter on syntax.
-use crate::tests::pages::{Page, expect, expect_page};
+// `cases/` has more texts that are refused.
+use crate::tests::pages::{Page, expect_page};
 use aql_lex::lex;
 use aql_parse::{ParseFault, parse};
 use aql_tree::Query;
@@ -40,13 +41,12 @@ static LITERALS: [(&str, &str); 7] = [
     ("`x y`", "x y"),
 ];
 
-static SUMS_AND_RANGES: [(&str, &str); 7] = [
+static SUMS_AND_RANGES: [(&str, &str); 6] = [
     ("10 - 3 - 2", "(10 Sub 3 Sub 2)"),
     ("1 + 2 * 3", "(1 Add (2 Mul 3))"),
     ("(1 + 2) * 3", "((1 Add 2) Mul 3)"),
     ("1 * 2 % 3 / 4", "(1 Mul 2 Rem 3 Div 4)"),
     ("1 + 2 .. 3 + 4", "((1 Add 2)..(3 Add 4))"),
-    ("1..2..3", NOT),
     ("1..2 < 3", "((1..2) Lt 3)"),
 ];
 
@@ -63,12 +63,10 @@ static COMPARISONS: [(&str, &str); 10] = [
     ("x NOT LIKE 'a'", "(x NotLike 'a')"),
 ];
 
-static QUANTIFIERS: [(&str, &str); 6] = [
+static QUANTIFIERS: [(&str, &str); 4] = [
     ("x ALL == y", "(x All Eq y)"),
     ("x ANY NOT IN y", "(x Any NotIn y)"),
     ("x NONE >= y", "(x None Ge y)"),
-    ("x ANY LIKE y", NOT),
-    ("x ANY == y ANY == z", NOT),
     ("x == 1 ANY == y == 2", "((x Eq 1) Any Eq (y Eq 2))"),
 ];
 
@@ -102,64 +100,54 @@ static ACCESSES: [(&str, &str); 6] = [
     ("x[* RETURN current]", "<x[* filter return current]>"),
 ];
 
-static ARRAYS: [(&str, &str); 6] = [
+static ARRAYS_AND_OBJECTS: [(&str, &str); 6] = [
     ("[]", "[ ]"),
     ("[1, 2]", "[ 1 2 ]"),
     ("[1, 2,]", "[ 1 2 ]"),
-    ("[1, 2,,]", NOT),
-    ("[1,,]", NOT),
-    ("[,]", NOT),
-];
-
-static OBJECTS: [(&str, &str); 5] = [
     ("{}", "{ }"),
     ("{x}", "{ x: x }"),
     ("{x: 1, 'y z': 2, [z]: 3,}", "{ x: 1 y z: 2 [z]: 3 }"),
-    ("{'y'}", NOT),
-    ("{a,,}", NOT),
 ];
 
-static CALLS: [(&str, &str); 9] = [
+static CALLS: [(&str, &str); 4] = [
     ("F()", "F( )"),
     ("F(1, 2)", "F( 1 2 )"),
-    ("F(1,)", NOT),
-    ("`F`(1)", NOT),
     ("F(FOR x IN y RETURN x)", "F( (query for x in y return x) )"),
     ("(RETURN 1)", "(query return 1)"),
-    ("[RETURN 1]", NOT),
-    ("1 2", NOT),
-    ("x.1", NOT),
 ];
 
-static RETURNS: [(&str, &str); 7] = [
+static WHOLE_QUERIES: [(&str, &str); 7] = [
     ("", NOT),
     ("RETURN", NOT),
-    ("RETURN 1,", NOT),
     ("RETURN DISTINCT x", " return distinct x"),
     ("WITH c, d RETURN 1", " with c d return 1"),
-    ("WITH RETURN 1", NOT),
-    ("RETURN (WITH c RETURN 1)", NOT),
+    (
+        "FOR v IN 1..32 OUTBOUND s c RETURN v",
+        " walk v 1..32 Outbound s c prune options return v",
+    ),
+    (
+        "FOR v IN 1..33 OUTBOUND s c RETURN v",
+        "a traversal goes too deep",
+    ),
+    (
+        "FOR x IN (FOR y IN c RETURN y) RETURN x",
+        " for x in (query for y in c return y) return x",
+    ),
 ];
 
-static CLAUSES: [(&str, &str); 11] = [
+static CLAUSES: [(&str, &str); 6] = [
     ("FOR x IN c RETURN x", " for x in c return x"),
-    ("FOR x, y IN c RETURN x", NOT),
-    ("FOR FOR IN c RETURN 1", NOT),
     ("FILTER 1 RETURN 1", " filter 1 return 1"),
     ("LET a = 1, b = 2 RETURN a", " let a = 1 let b = 2 return a"),
-    ("LET a = 1, RETURN a", NOT),
     (
         "SORT a, b DESC, c ASC RETURN 1",
         " sort a b desc c return 1",
     ),
     ("LIMIT 5 RETURN 1", " limit 0 5 return 1"),
     ("LIMIT 1, 2 RETURN 1", " limit 1 2 return 1"),
-    ("LIMIT x RETURN 1", NOT),
-    ("LIMIT RETURN 1", NOT),
 ];
 
 static GROUPINGS: [(&str, &str); 9] = [
-    ("COLLECT RETURN 1", NOT),
     (
         "COLLECT WITH COUNT INTO n RETURN n",
         " collect aggregate n = LENGTH( ) return n",
@@ -185,15 +173,10 @@ static GROUPINGS: [(&str, &str); 9] = [
         "COLLECT INTO KEEP keep KEEP RETURN 1",
         " collect into KEEP keep KEEP return 1",
     ),
-    ("COLLECT INTO g = 1 KEEP a RETURN g", NOT),
-];
-
-static AGGREGATES: [(&str, &str); 3] = [
     (
         "COLLECT a = 1 AGGREGATE s = SUM(x), n = LENGTH() INTO g RETURN 1",
         " collect a = 1 aggregate s = SUM( x ) aggregate n = LENGTH( ) into g keep return 1",
     ),
-    ("COLLECT AGGREGATE s = SUM(x, y) RETURN 1", NOT),
     ("COLLECT COUNT = 1 RETURN 1", " collect COUNT = 1 return 1"),
 ];
 
@@ -220,7 +203,7 @@ static WALKS: [(&str, &str); 5] = [
     ),
 ];
 
-static WALK_WORDS: [(&str, &str); 4] = [
+static LOOPS: [(&str, &str); 6] = [
     (
         "FOR v IN OUTBOUND s OPTIONS OPTIONS {} RETURN v",
         " walk v 1..1 Outbound s OPTIONS prune options return v",
@@ -229,11 +212,6 @@ static WALK_WORDS: [(&str, &str); 4] = [
         "FOR v IN OUTBOUND PRUNE (x) e RETURN v",
         " walk v 1..1 Outbound PRUNE( x ) e prune options return v",
     ),
-    ("FOR v IN OUTBOUND s RETURN v", NOT),
-    ("FOR v IN 1.. OUTBOUND s c RETURN v", NOT),
-];
-
-static LOOPS: [(&str, &str); 4] = [
     (
         "FOR x IN 1..2 ANY == y RETURN x",
         " for x in ((1..2) Any Eq y) return x",
@@ -252,34 +230,6 @@ static LOOPS: [(&str, &str); 4] = [
     ),
 ];
 
-static DEPTHS: [(&str, &str); 5] = [
-    (
-        "FOR v IN 1..32 OUTBOUND s c RETURN v",
-        " walk v 1..32 Outbound s c prune options return v",
-    ),
-    (
-        "FOR v IN 1..33 OUTBOUND s c RETURN v",
-        "a traversal goes too deep",
-    ),
-    (
-        "RETURN [(FOR v IN 33 ANY s c RETURN v)]",
-        "a traversal goes too deep",
-    ),
-    ("FOR v IN 1..33 OUTBOUND s c", NOT),
-    (
-        "FOR v IN 1..9223372036854775807 ANY s c RETURN v",
-        "a traversal goes too deep",
-    ),
-];
-
-static WHOLE_QUERIES: [(&str, &str); 2] = [
-    (
-        "FOR x IN (FOR y IN c RETURN y) RETURN x",
-        " for x in (query for y in c return y) return x",
-    ),
-    ("RETURN x ? 1 : 2 RETURN 3", NOT),
-];
-
 fn check_queries(rt: &impl Abort, alloc: Global, rows: &[(&str, &str)]) {
     for (text, tree) in rows {
         expect_page(rt, &shown(alloc, text), tree, text);
@@ -289,15 +239,11 @@ fn check_queries(rt: &impl Abort, alloc: Global, rows: &[(&str, &str)]) {
 #[test]
 fn trees_of_queries(rt: HostRuntime) {
     let alloc = rt.alloc();
-    check_queries(&rt, alloc, &RETURNS);
+    check_queries(&rt, alloc, &WHOLE_QUERIES);
     check_queries(&rt, alloc, &CLAUSES);
     check_queries(&rt, alloc, &GROUPINGS);
-    check_queries(&rt, alloc, &AGGREGATES);
     check_queries(&rt, alloc, &WALKS);
-    check_queries(&rt, alloc, &WALK_WORDS);
     check_queries(&rt, alloc, &LOOPS);
-    check_queries(&rt, alloc, &DEPTHS);
-    check_queries(&rt, alloc, &WHOLE_QUERIES);
 }
 
 // Both after a RETURN.
@@ -306,7 +252,7 @@ fn check_expressions(rt: &impl Abort, alloc: Global, rows: &[(&str, &str)]) {
         let mut whole = Page::new(alloc);
         whole.put_pair("RETURN ", text);
         let mut expected = Page::new(alloc);
-        expected.put_pair(if *tree == NOT { "" } else { " return " }, tree);
+        expected.put_pair(" return ", tree);
         expect_page(rt, &shown(alloc, whole.as_str()), expected.as_str(), text);
     }
 }
@@ -321,77 +267,6 @@ fn trees_of_expressions(rt: HostRuntime) {
     check_expressions(&rt, alloc, &CHOICES);
     check_expressions(&rt, alloc, &SIGNS);
     check_expressions(&rt, alloc, &ACCESSES);
-    check_expressions(&rt, alloc, &ARRAYS);
-    check_expressions(&rt, alloc, &OBJECTS);
+    check_expressions(&rt, alloc, &ARRAYS_AND_OBJECTS);
     check_expressions(&rt, alloc, &CALLS);
-}
-
-// Pieces of a text, each with how many times it stands there.
-type Pieces = [(&'static str, usize); 4];
-
-// At most 64 brackets, signs and ternaries at once, and at most 256 marks.
-static WITHIN: [Pieces; 9] = [
-    [("RETURN ", 1), ("(", 64), ("1", 1), (")", 64)],
-    [("RETURN ", 1), ("[", 64), ("]", 64), ("", 0)],
-    [("RETURN ", 1), ("- ", 64), ("1", 1), ("", 0)],
-    [("RETURN ", 1), ("NOT ", 64), ("1", 1), ("", 0)],
-    [("RETURN ", 1), ("1 ? : ", 64), ("1", 1), ("", 0)],
-    [("RETURN [", 1), ("1 ? : 1, ", 100), ("1", 1), ("]", 1)],
-    [("RETURN ", 1), ("(1 ? : ", 32), ("1", 1), (")", 32)],
-    [
-        ("LET a = 1 ", 127),
-        ("FILTER 1 ", 1),
-        ("RETURN 1", 1),
-        ("", 0),
-    ],
-    [("FILTER 1 ", 255), ("RETURN 1", 1), ("", 0), ("", 0)],
-];
-
-static TOO_DEEP: [Pieces; 7] = [
-    [("RETURN ", 1), ("(", 65), ("1", 1), (")", 65)],
-    [("RETURN ", 1), ("- ", 65), ("1", 1), ("", 0)],
-    [("RETURN ", 1), ("NOT ", 65), ("1", 1), ("", 0)],
-    [("RETURN ", 1), ("1 ? : ", 65), ("1", 1), ("", 0)],
-    [("RETURN ", 1), ("(1 ? : ", 33), ("1", 1), (")", 33)],
-    [("RETURN ", 1), ("(", 65), ("1", 1), ("", 0)],
-    [("FILTER ", 256), ("(", 65), ("RETURN 1", 1), ("", 0)],
-];
-
-static TOO_MANY: [Pieces; 2] = [
-    [("LET a = 1 ", 128), ("RETURN 1", 1), ("", 0), ("", 0)],
-    [("FILTER 1 ", 256), ("RETURN 1", 1), ("", 0), ("", 0)],
-];
-
-// Whether the text is refused with this, or has a tree where there is no fault.
-fn is_judged(alloc: Global, text: &str, fault: Option<ParseFault>) -> bool {
-    if text.len() > 65536 {
-        return false;
-    }
-    match lex(alloc, text) {
-        Ok(tokens) => parse(alloc, &tokens).err() == fault,
-        Err(_) => false,
-    }
-}
-
-fn check_faults(rt: &impl Abort, alloc: Global, rows: &[Pieces], fault: Option<ParseFault>) {
-    for pieces in rows {
-        let mut text = Page::new(alloc);
-        for (piece, times) in pieces {
-            text.put_times(piece, *times);
-        }
-        expect(
-            rt,
-            is_judged(alloc, text.as_str(), fault),
-            text.as_str(),
-            "",
-        );
-    }
-}
-
-#[test]
-fn limits(rt: HostRuntime) {
-    let alloc = rt.alloc();
-    check_faults(&rt, alloc, &WITHIN, None);
-    check_faults(&rt, alloc, &TOO_DEEP, Some(ParseFault::TooDeep));
-    check_faults(&rt, alloc, &TOO_MANY, Some(ParseFault::TooManyClauses));
 }

@@ -240,25 +240,14 @@ fn hashes(rt: HostRuntime) {
     expect(&rt, distinct.len() == 3, "distinct values", "");
 }
 
-static CONVERSIONS: [(&str, bool, i64); 19] = [
+// `cases/functions.cases` has more.
+static CONVERSIONS: [(&str, bool, i64); 7] = [
     ("null", false, 0),
-    ("false", false, 0),
     ("true", true, 1),
-    ("0", false, 0),
     ("-7", true, -7),
-    ("\"\"", false, 0),
-    ("\"12\"", true, 12),
-    ("\"-0012\"", true, -12),
     ("\"-9223372036854775808\"", true, i64::MIN),
     ("\"9223372036854775808\"", true, 0),
-    ("\"+7\"", true, 0),
-    ("\"-\"", true, 0),
-    ("\"--1\"", true, 0),
-    ("\" 1\"", true, 0),
-    ("\"1x\"", true, 0),
-    ("[]", true, 0),
     ("[[\"5\"]]", true, 5),
-    ("[1,2]", true, 0),
     ("{\"a\":3}", true, 0),
 ];
 

@@ -2,10 +2,7 @@
 use crate::tests::catalogs::declare;
 use crate::tests::pages::{Page, expect, expect_page};
 use crate::tests::scoping_rows::{
-    AGGREGATES, ARGUMENTS, COLLECTION_NAMES, COLLECTIONS, COLLECTS, COLLECTS_WITHIN,
-    COMPUTED_OPTIONS, DECLARED_TWICE, EDGE_COLLECTIONS, GROUPED_VARIABLES, GROUPS, OTHER_OPTIONS,
-    PLAIN, SEVERAL_OPTIONS, SEVERAL_SUBQUERIES, SUBQUERIES, SUBQUERIES_IN_WALKS, SUBQUERIES_INLINE,
-    TEXTS, UNKNOWN_FUNCTIONS, UNKNOWN_NAMES, UNKNOWN_NAMES_WITHIN, WALK_OPTIONS, WALK_VARIABLES,
+    COLLECTION_NAMES, COLLECTS, COLLECTS_WITHIN, PLAIN, REFUSED, SEVERAL_SUBQUERIES, SUBQUERIES,
     WALKS,
 };
 use aql_doc::Catalog;
@@ -61,54 +58,6 @@ fn judge(rt: &impl Abort, alloc: Global, rows: &[(&str, &str)]) {
 }
 
 #[test]
-fn texts(rt: HostRuntime) {
-    let alloc = rt.alloc();
-    judge(&rt, alloc, &TEXTS);
-}
-
-#[test]
-fn names(rt: HostRuntime) {
-    let alloc = rt.alloc();
-    judge(&rt, alloc, &UNKNOWN_NAMES);
-    judge(&rt, alloc, &UNKNOWN_NAMES_WITHIN);
-    judge(&rt, alloc, &DECLARED_TWICE);
-    judge(&rt, alloc, &COLLECTIONS);
-}
-
-#[test]
-fn calls(rt: HostRuntime) {
-    let alloc = rt.alloc();
-    judge(&rt, alloc, &UNKNOWN_FUNCTIONS);
-    judge(&rt, alloc, &ARGUMENTS);
-}
-
-#[test]
-fn walks(rt: HostRuntime) {
-    let alloc = rt.alloc();
-    judge(&rt, alloc, &EDGE_COLLECTIONS);
-    judge(&rt, alloc, &WALK_VARIABLES);
-    judge(&rt, alloc, &WALK_OPTIONS);
-    judge(&rt, alloc, &COMPUTED_OPTIONS);
-    judge(&rt, alloc, &SEVERAL_OPTIONS);
-    judge(&rt, alloc, &OTHER_OPTIONS);
-}
-
-#[test]
-fn subqueries(rt: HostRuntime) {
-    let alloc = rt.alloc();
-    judge(&rt, alloc, &SUBQUERIES_IN_WALKS);
-    judge(&rt, alloc, &SUBQUERIES_INLINE);
-}
-
-#[test]
-fn collects(rt: HostRuntime) {
-    let alloc = rt.alloc();
-    judge(&rt, alloc, &GROUPED_VARIABLES);
-    judge(&rt, alloc, &AGGREGATES);
-    judge(&rt, alloc, &GROUPS);
-}
-
-#[test]
 fn scoped(rt: HostRuntime) {
     let alloc = rt.alloc();
     judge(&rt, alloc, &PLAIN);
@@ -118,30 +67,5 @@ fn scoped(rt: HostRuntime) {
     judge(&rt, alloc, &WALKS);
     judge(&rt, alloc, &COLLECTS);
     judge(&rt, alloc, &COLLECTS_WITHIN);
-}
-
-static LONG: [(&str, &str, usize, &str, &str); 10] = [
-    ("RETURN 1", " ", 65528, "", "return 1 |"),
-    ("RETURN 1", " ", 65529, "", "limit: query bytes"),
-    ("RETURN #", " ", 65529, "", "limit: query bytes"),
-    ("RETURN ", "!", 64, "x", "query: unknown name x"),
-    ("RETURN ", "!", 65, "x", "limit: nesting"),
-    ("RETURN ", "[", 65, "#", "query: byte 72: bad character"),
-    ("RETURN ", "[", 65, "", "limit: nesting"),
-    ("", "FILTER x ", 255, "RETURN 1", "query: unknown name x"),
-    ("", "FILTER x ", 256, "RETURN 1", "limit: clauses"),
-    ("", "FILTER ", 257, "1", "limit: clauses"),
-];
-
-#[test]
-fn limits(rt: HostRuntime) {
-    let alloc = rt.alloc();
-    let catalog = collections(&rt, alloc);
-    for (before, part, times, after, expected) in &LONG {
-        let mut text = Page::new(alloc);
-        text.put(before);
-        text.put_times(part, *times);
-        text.put(after);
-        expect_page(&rt, &shown(alloc, text.as_str(), &catalog), expected, part);
-    }
+    judge(&rt, alloc, &REFUSED);
 }
