@@ -84,7 +84,7 @@ fn plan_of(alloc: Global, script: &Loaded, rules: &Rules) -> Result<Plan, RunFau
     facts_fit();
     scoping_gives_it();
     text_limits_end();
-    let plan = initial_plan(alloc, &scoped.query, &facts)?;
+    let plan = initial_plan(alloc, scoped.query, &facts)?;
     let chosen = optimise(alloc, plan, rules, &facts)?;
     Ok(chosen.plan)
 }
