@@ -3,19 +3,19 @@ use Rattle.std.proofs.Common.{◌≡◌, ◌∙◌, ℕ, suc, List, [], ◌∷�
 use Rattle.std.specs.Prelude.{Option, Some, None, MatchOption, slice_get, filter, not, bytes_eq, eqb}
 use Rattle.std.specs.List.{AllByRecursion, IsDistinct}
 use Rattle.std.proofs.lemmas.Bool.{eqb-true}
-use Rattle.std_collections.proofs.DistinctSets.{IsDistinct-filter}
 use Rattle.std.proofs.lemmas.Slice.Eq.{bytes_eq-Decides}
 use Rattle.aql_meaning.specs.Visible.{each_once}
 use Rattle.aql_plan.specs.declared.facts.Facts.{Facts}
 use Rattle.aql_plan.specs.declared.facts.CollFact.{CollFact}
 use Rattle.aql_plan.specs.Fits.{IsEdgeCollection}
 use Rattle.aql_plan.specs.FirstPlan.{place_of, coll_number}
+use Rattle.aql_build.proofs.Collections.{all_kept}
 
 -- the collection at the place of a name has that name
-Named : List ℕ → Option CollFact → Type 0
+abbrev Named : List ℕ → Option CollFact → Type 0
 Named name found = MatchOption found ⊥ (λ (c : CollFact). bytes_eq c.name name ≡ true)
 
-Edges : Option CollFact → Type 0
+abbrev Edges : Option CollFact → Type 0
 Edges found = MatchOption found ⊥ (λ (c : CollFact). c.edge ≡ true)
 
 named_there : (cs : List CollFact) (name : List ℕ) → Edges (slice_get cs (place_of cs name))
@@ -77,12 +77,24 @@ rest_differs n (m ∷ ms) = by (bytes_eq n m) refl (rest_differs n ms)
     by true e h = h
     by false e h = (e, h)
 
+kept_differ : {X : Type 0} (eq : X → X → Bool) (keeps : X → Bool) (xs : List X) → IsDistinct eq xs
+    → IsDistinct eq (filter keeps xs)
+unfolding IsDistinct
+kept_differ eq keeps [] h = tt
+kept_differ eq keeps (x ∷ xs) h =
+    by (keeps x) (all_kept (λ y. eq x y ≡ false) keeps xs h.0) (kept_differ eq keeps xs h.1)
+  where
+    by : (b : Bool) → AllByRecursion (λ y. eq x y ≡ false) (filter keeps xs) → IsDistinct eq (filter keeps xs)
+        → IsDistinct eq (cond b (x ∷ filter keeps xs) (filter keeps xs))
+    by true k d = (k, d)
+    by false k d = d
+
 names_differ : (names : List (List ℕ)) → IsDistinct bytes_eq (each_once names)
 unfolding IsDistinct
 names_differ [] = tt
 names_differ (n ∷ ns) = (
   rest_differs n (each_once ns),
-  IsDistinct-filter bytes_eq (λ m. not (bytes_eq n m)) (each_once ns) (names_differ ns),
+  kept_differ bytes_eq (λ m. not (bytes_eq n m)) (each_once ns) (names_differ ns),
 )
 
 pub collections_differ : (facts : Facts) (names : List (List ℕ))

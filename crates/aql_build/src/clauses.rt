@@ -1,6 +1,6 @@
-//! A node for each clause, over the plan of the clauses before it.
+//! A node for each clause; what the clause holds moves into it.
 
-ghost use Rattle.std.specs.Prelude.{◌≡◌, ◌<◌, ◌^◌, IfOk, map, length, option_map, option_to_list, None};
+ghost use Rattle.std.specs.Prelude.{◌≡◌, ◌<◌, ◌^◌, length, map, option_map, option_to_list, None};
 ghost use Rattle.std.specs.List.{AllByRecursion};
 ghost use Rattle.aql_tree.specs.declared.syntax.Ident.TheVariants.{Num};
 ghost use Rattle.aql_tree.specs.Tree.{no_expr};
@@ -8,31 +8,27 @@ ghost use Rattle.aql_tree.specs.View.{tree, trees, aggregates, into_tree, collec
 ghost use Rattle.aql_meaning.specs.Numbered.{IsNumber};
 ghost use Rattle.aql_meaning.specs.declared.grouping.Stage.TheVariants.{Whole};
 ghost use Rattle.aql_plan.specs.Plan as spec;
-ghost use Rattle.aql_plan.specs.View.{node_tree, plan_tree, directions, key_trees};
+ghost use Rattle.aql_plan.specs.View.{node_tree, directions, key_trees};
 ghost use Rattle.aql_plan.specs.FirstPlan.{place_of, coll_number};
 
-use aql_plan::{CollFact, Facts, Node, Plan, Stage};
-use aql_tree::{
-    Collect, Expr, Ident, Key, copy_aggregates, copy_expr, copy_into, copy_keys, copy_lets,
-};
-use aql_value::{CollNo, OutOfMemory, Text};
+use aql_plan::{CollFact, Facts, Node, Stage};
+use aql_tree::{Collect, Expr, Ident, Keys};
+use aql_value::{CollNo, Seq, Text, Value};
 use std::alloc::Global;
+use std::mem;
 
-pub(crate) fn boxed(alloc: Global, plan: Plan) -> Result<Box<Plan>, OutOfMemory>
-    ensures { IfOk result (λ b. plan_tree b.value ≡ plan_tree plan) }
+/// The expression; null stays in its place.
+pub(crate) fn take(expr: &mut Expr) -> Expr
+    ensures { result ≡ expr.old }
 {
-    Ok(Box::new(alloc, plan)?)
+    mem::replace(expr, Expr::Lit(Value::Null))
 }
 
-/// A node over a plan.
-pub(crate) fn over(alloc: Global, below: Plan, node: Node) -> Result<Plan, OutOfMemory>
-    ensures { IfOk result
-        (λ p. plan_tree p ≡ spec.Over (plan_tree below) (node_tree node)) }
+/// The expression in a box; null stays in its place.
+pub(crate) fn take_boxed(expr: &mut Box<Expr>) -> Expr
+    ensures { result ≡ expr.old.value }
 {
-    Ok(Plan::Over {
-        below: boxed(alloc, below)?,
-        node: Box::new(alloc, node)?,
-    })
+    take(&mut **expr)
 }
 
 pub(crate) fn number(ident: &Ident) -> u32
@@ -78,124 +74,86 @@ pub(crate) fn collection_number(name: &Text, facts: &Facts) -> CollNo
 }
 
 /// FOR over an array.
-pub fn elements(alloc: Global, below: Plan, var: &Ident, list: &Expr) -> Result<Plan, OutOfMemory>
+pub fn elements(var: &Ident, list: &mut Expr) -> Node
     requires { IsNumber var.now }
-    ensures { IfOk result (λ p. plan_tree p
-        ≡ spec.Over (plan_tree below) (spec.EnumerateList var.now (tree list.now))) }
+    ensures { node_tree result ≡ spec.EnumerateList var.now (tree list.old) }
 {
-    let node = Node::EnumerateList {
+    Node::EnumerateList {
         var: number(var),
-        list: copy_expr(alloc, list)?,
-    };
-    over(alloc, below, node)
+        list: take(list),
+    }
 }
 
 /// FOR over a collection.
-pub fn documents(
-    alloc: Global,
-    below: Plan,
-    var: &Ident,
-    collection: &Text,
-    facts: &Facts,
-) -> Result<Plan, OutOfMemory>
+pub fn documents(var: &Ident, collection: &Text, facts: &Facts) -> Node
     requires var { IsNumber var.now }
     requires few { length facts.now.collections < 2 ^ 32 }
-    ensures { IfOk result (λ p. plan_tree p
-        ≡ spec.Over (plan_tree below) (spec.EnumerateCollection (record {
-          var = var.now;
-          coll = coll_number facts.now collection.now;
-          filter = no_expr;
-          attrs = None;
-          shard = None;
-        }))) }
+    ensures { node_tree result ≡ spec.EnumerateCollection (record {
+      var = var.now;
+      coll = coll_number facts.now collection.now;
+      filter = no_expr;
+      attrs = None;
+      shard = None;
+    }) }
 {
-    let node = Node::EnumerateCollection {
+    Node::EnumerateCollection {
         var: number(var),
         coll: collection_number(collection, facts),
         filter: None,
         attrs: None,
         shard: None,
-    };
-    over(alloc, below, node)
+    }
 }
 
-/// LET.
-pub fn calculation(
-    alloc: Global,
-    below: Plan,
-    var: &Ident,
-    expr: &Expr,
-) -> Result<Plan, OutOfMemory>
+/// LET of any expression but a subquery.
+pub fn calculation(var: &Ident, expr: &mut Expr) -> Node
     requires { IsNumber var.now }
-    ensures { IfOk result (λ p. plan_tree p
-        ≡ spec.Over (plan_tree below) (spec.Calculation var.now (tree expr.now))) }
+    ensures { node_tree result ≡ spec.Calculation var.now (tree expr.old) }
 {
-    let node = Node::Calculation {
+    Node::Calculation {
         var: number(var),
-        expr: copy_expr(alloc, expr)?,
-    };
-    over(alloc, below, node)
-}
-
-/// LET of a subquery.
-pub fn subquery(alloc: Global, below: Plan, var: &Ident, body: Plan) -> Result<Plan, OutOfMemory>
-    requires { IsNumber var.now }
-    ensures { IfOk result (λ p. plan_tree p
-        ≡ spec.Over (plan_tree below) (spec.Subquery var.now (plan_tree body))) }
-{
-    Ok(Plan::Subquery {
-        below: boxed(alloc, below)?,
-        var: number(var),
-        body: boxed(alloc, body)?,
-    })
+        expr: take(expr),
+    }
 }
 
 /// SORT.
-pub fn sort(alloc: Global, below: Plan, keys: &[Key]) -> Result<Plan, OutOfMemory>
-    ensures { IfOk result (λ p. plan_tree p ≡ spec.Over (plan_tree below)
-        (spec.Sort (directions keys.now) (key_trees keys.now) None)) }
+pub fn sort(keys: &mut Keys, alloc: Global) -> Node
+    ensures { node_tree result ≡ spec.Sort (directions keys.old) (key_trees keys.old) None }
 {
-    let node = Node::Sort {
-        keys: copy_keys(alloc, keys)?,
+    Node::Sort {
+        keys: mem::replace(keys, Seq::new(alloc)),
         limit: None,
-    };
-    over(alloc, below, node)
+    }
 }
 
 /// LIMIT.
-pub fn limit(alloc: Global, below: Plan, offset: u64, count: u64) -> Result<Plan, OutOfMemory>
-    ensures { IfOk result
-        (λ p. plan_tree p ≡ spec.Over (plan_tree below) (spec.Limit offset count)) }
+pub fn limit(offset: u64, count: u64) -> Node
+    ensures { node_tree result ≡ spec.Limit offset count }
 {
-    let node = Node::Limit { offset, count };
-    over(alloc, below, node)
+    Node::Limit { offset, count }
 }
 
 /// COLLECT.
-pub fn collect(alloc: Global, below: Plan, clause: &Collect) -> Result<Plan, OutOfMemory>
-    ensures { IfOk result (λ p. plan_tree p
-        ≡ spec.Over (plan_tree below) (spec.Collect (map (λ l. l.0) (collect_part clause.now).0)
-        (trees (map (λ l. l.1) (collect_part clause.now).0))
-        (aggregates (collect_part clause.now).1)
-        (into_tree (collect_part clause.now).2) Whole)) }
+pub fn collect(clause: &mut Collect, alloc: Global) -> Node
+    ensures { node_tree result ≡ spec.Collect (map (λ l. l.0) (collect_part clause.old).0)
+        (trees (map (λ l. l.1) (collect_part clause.old).0))
+        (aggregates (collect_part clause.old).1)
+        (into_tree (collect_part clause.old).2) Whole }
 {
-    let node = Node::Collect {
-        groups: copy_lets(alloc, clause.groups.as_slice())?,
-        aggregates: copy_aggregates(alloc, clause.aggregates.as_slice())?,
-        into: copy_into(alloc, &clause.into)?,
+    Node::Collect {
+        groups: mem::replace(&mut clause.groups, Seq::new(alloc)),
+        aggregates: mem::replace(&mut clause.aggregates, Seq::new(alloc)),
+        into: clause.into.take(),
         stage: Stage::Whole,
-    };
-    over(alloc, below, node)
+    }
 }
 
 /// RETURN.
-pub fn result(alloc: Global, below: Plan, expr: &Expr, distinct: bool) -> Result<Plan, OutOfMemory>
-    ensures { IfOk result (λ p. plan_tree p
-        ≡ spec.Over (plan_tree below) (spec.Return distinct (tree expr.now))) }
+pub fn output(expr: &mut Box<Expr>, distinct: bool) -> Node
+    ensures { node_tree result ≡ spec.Return distinct (tree expr.old.value) }
 {
-    let node = Node::Return {
-        expr: copy_expr(alloc, expr)?,
+    Node::Return {
+        expr: take_boxed(expr),
         distinct,
-    };
-    over(alloc, below, node)
+    }
 }

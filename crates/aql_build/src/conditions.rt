@@ -6,10 +6,10 @@ ghost use Rattle.aql_plan.specs.Plan as spec;
 ghost use Rattle.aql_plan.specs.View.{plan_tree};
 ghost use Rattle.aql_plan.specs.FirstPlan.{all_and, right_sides, parts, filters};
 
-use crate::clauses::over;
+use crate::clauses::{take, take_boxed};
 use aql_func::BinOp;
 use aql_plan::{Node, Plan};
-use aql_tree::{Expr, Link, copy_expr};
+use aql_tree::{Expr, Link, Links};
 use aql_value::OutOfMemory;
 use std::alloc::Global;
 
@@ -25,35 +25,35 @@ fn is_all_and(rest: &[Link]) -> bool
     true
 }
 
-fn filter(alloc: Global, below: Plan, cond: &Expr) -> Result<Plan, OutOfMemory>
+fn filter(cond: Expr, below: Plan, alloc: Global) -> Result<Plan, OutOfMemory>
     ensures { IfOk result
-        (λ p. plan_tree p ≡ spec.Over (plan_tree below) (spec.Filter (tree cond.now))) }
+        (λ p. plan_tree p ≡ spec.Over (plan_tree below) (spec.Filter (tree cond))) }
 {
-    let cond = copy_expr(alloc, cond)?;
-    over(alloc, below, Node::Filter { cond })
+    Node::Filter { cond }.over(alloc, below)
 }
 
-fn filter_sides(rest: &[Link], below: Plan, alloc: Global) -> Result<Plan, OutOfMemory>
+fn filter_sides(rest: &mut Links, below: Plan, alloc: Global) -> Result<Plan, OutOfMemory>
     ensures { IfOk result (λ p. plan_tree p
-        ≡ filters (plan_tree below) (right_sides (links (map link_part rest.now)))) }
+        ≡ filters (plan_tree below) (right_sides (links (map link_part rest.old)))) }
 {
     let mut plan = below;
-    for link in rest {
-        plan = filter(alloc, plan, &link.right)?;
+    let items = rest.as_mut_slice();
+    for link in items.iter_mut() {
+        plan = filter(take(&mut link.right), plan, alloc)?;
     }
     Ok(plan)
 }
 
 /// The rows at which a condition holds: a Filter for each part, the first lowest.
-pub fn filter_parts(cond: &Expr, below: Plan, alloc: Global) -> Result<Plan, OutOfMemory>
+pub fn filter_parts(cond: &mut Expr, below: Plan, alloc: Global) -> Result<Plan, OutOfMemory>
     ensures { IfOk result
-        (λ p. plan_tree p ≡ filters (plan_tree below) (parts (tree cond.now))) }
+        (λ p. plan_tree p ≡ filters (plan_tree below) (parts (tree cond.old))) }
 {
     match cond {
         Expr::Chain { first, rest } if is_all_and(rest.as_slice()) => {
-            let plan = filter(alloc, below, first)?;
-            filter_sides(rest.as_slice(), plan, alloc)
+            let plan = filter(take_boxed(first), below, alloc)?;
+            filter_sides(rest, plan, alloc)
         }
-        _ => filter(alloc, below, cond),
+        _ => filter(take(cond), below, alloc),
     }
 }

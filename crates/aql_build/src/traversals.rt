@@ -10,21 +10,16 @@ ghost use Rattle.aql_plan.specs.View.{plan_tree};
 ghost use Rattle.aql_plan.specs.FirstPlan.{coll_number, after_clause};
 ghost use Rattle.aql_build.specs.Resolved.{traversal_vars};
 
-use crate::clauses::{collection_number, maybe_number, number, over};
+use crate::clauses::{collection_number, maybe_number, number, take};
 use aql_plan::{Facts, Node, Plan, TraversalOptions};
-use aql_tree::{Traversal, copy_expr, copy_maybe};
+use aql_tree::Traversal;
 use aql_value::{CollNos, OutOfMemory, Seq, Text};
 use std::alloc::Global;
 
 fn is_among(names: &[Text], name: &str) -> bool
     ensures { result ≡ list_any (λ n. bytes_eq n name.now) names.now }
 {
-    for other in names {
-        if other.as_str() == name {
-            return true;
-        }
-    }
-    false
+    names.iter().any(|other| other.as_str() == name)
 }
 
 // The numbers of collections; one that is named again counts the first time.
@@ -44,16 +39,17 @@ fn collection_numbers(alloc: Global, names: &[Text], facts: &Facts) -> Result<Co
 
 /// FOR over paths.
 pub fn paths(
-    alloc: Global,
+    traversal: &mut Traversal,
     below: Plan,
-    traversal: &Traversal,
+    alloc: Global,
     facts: &Facts,
 ) -> Result<Plan, OutOfMemory>
     requires few { length facts.now.collections < 2 ^ 32 }
-    requires vars { AllByRecursion IsNumber (traversal_vars (traversal_part traversal.now).0) }
+    requires vars { AllByRecursion IsNumber (traversal_vars (traversal_part traversal.old).0) }
     ensures { IfOk result (λ p. plan_tree p ≡ after_clause facts.now (plan_tree below)
-        (traversal_clause (traversal_part traversal.now))) }
+        (traversal_clause (traversal_part traversal.old))) }
 {
+    let collections = collection_numbers(alloc, traversal.collections.as_slice(), facts)?;
     let node = Node::Traversal {
         vertex: number(&traversal.vertex),
         edge: maybe_number(&traversal.edge),
@@ -61,9 +57,9 @@ pub fn paths(
         min: traversal.min,
         max: traversal.max,
         direction: traversal.direction,
-        start: copy_expr(alloc, &traversal.start)?,
-        collections: collection_numbers(alloc, traversal.collections.as_slice(), facts)?,
-        prune: copy_maybe(alloc, &traversal.prune)?,
+        start: take(&mut traversal.start),
+        collections,
+        prune: traversal.prune.take(),
         options: TraversalOptions {
             edges: traversal.options.edges,
             vertices: traversal.options.vertices,
@@ -71,5 +67,5 @@ pub fn paths(
         },
         filter: None,
     };
-    over(alloc, below, node)
+    node.over(alloc, below)
 }
