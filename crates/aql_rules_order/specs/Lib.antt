@@ -1,10 +1,11 @@
 pub mod InlineSubqueries
-pub mod RemoveRedundantSorts
-pub mod RemoveCollectVariables
-pub mod SortLimit
-pub mod Readers
-pub mod laws
 pub mod InterchangeAdjacentEnumerations
+pub mod RemoveCollectVariables
+pub mod RemoveRedundantSorts
+pub mod SortLimit
+pub mod Measures
+pub mod Readers
 pub mod StandsFor
 pub mod View
 pub mod Worked
+pub mod laws

@@ -1,13 +1,13 @@
 -- The rule remove-collect-variables: an INTO variable or an aggregate that isn't used goes from its Collect,
 -- all of one Collect at once.
-use Rattle.std.specs.Prelude.{ℕ, ◌≡◌, ◌++◌, List, Bool, false, cond, length, Option, None, option_to_list}
+use Rattle.std.specs.Prelude.{◌≡◌, ◌++◌, List, Bool, false, cond, Option, None, option_to_list}
 use Rattle.std.specs.List.{list_all}
 use Rattle.aql_tree.specs.declared.syntax.Ident.{Ident}
 use Rattle.aql_tree.specs.Tree.{ExprTrees, AggregateTrees, no_aggregates, aggregate_then, IntoTree, no_into, into}
 use Rattle.aql_meaning.specs.declared.grouping.Stage.{Stage}
 use Rattle.aql_meaning.specs.Uses.{Uses, is_used}
 use Rattle.aql_meaning.specs.Visible.{aggregate_vars, into_var}
-use Rattle.aql_plan.specs.Plan.{Plan, Over, Node, Collect}
+use Rattle.aql_plan.specs.Plan.{Plan, Over, Collect}
 use Rattle.aql_rewrite.specs.declared.swap.Rename.{Rename}
 
 -- the aggregates whose variables are used
@@ -33,8 +33,3 @@ pub data Drops : Uses → Plan → Plan → Option Rename → Type 0 where
       {s : Stage} → all_used us (own_vars gs i) ≡ false
       → Drops us (Over b (Collect xs es gs i s))
       (Over b (Collect xs es (used_aggregates us gs) (used_into us i) s)) None
-
--- what falls: how many such variables the nodes set
-abbrev pub vars_to_go : Node → ℕ
-vars_to_go (Collect xs es gs i s) = length (own_vars gs i)
-vars_to_go n = 0

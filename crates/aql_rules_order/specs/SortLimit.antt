@@ -23,8 +23,3 @@ pub data Limited (limit : ℕ) : Plan → Plan → Type 0 where
 pub data Limits : Uses → Plan → Plan → Option Rename → Type 0 where
   limited : {us : Uses} {b c : Plan} {offset most : ℕ} → Limited (offset + most) b c
       → Limits us (Over b (Limit offset most)) (Over c (Limit offset most)) None
-
--- what falls: the Sorts without limit
-abbrev pub is_unlimited : Node → ℕ
-is_unlimited (Sort directions es None) = 1
-is_unlimited n = 0

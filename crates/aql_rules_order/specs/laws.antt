@@ -1,3 +1,4 @@
+pub mod InPlace
 pub mod Spine
 pub mod Permuted
 pub mod Members

@@ -1,67 +1,91 @@
 //! A FOR over the values of a subquery becomes the subquery's own nodes.
 
-ghost use Rattle.std.specs.Prelude.{◌≡◌, None, false, IfOk, MatchOption};
+ghost use Rattle.std.specs.Prelude.{◌≡◌, None, true, false, MatchOption};
 ghost use Rattle.aql_tree.specs.declared.syntax.Ident.TheVariants.{Num};
 ghost use Rattle.aql_tree.specs.Tree.{variable};
-ghost use Rattle.aql_tree.specs.View.{tree};
 ghost use Rattle.aql_meaning.specs.Row.{same_ident};
+ghost use Rattle.aql_plan.specs.Nodes.{body_in};
 ghost use Rattle.aql_plan.specs.Plan as spec;
 ghost use Rattle.aql_plan.specs.Plan.{top};
-ghost use Rattle.aql_plan.specs.View.{plan_tree};
-ghost use Rattle.aql_rewrite.specs.Nodes.{is_collect as spec_is_collect};
+ghost use Rattle.aql_plan.specs.View.{node_tree, plan_tree};
+ghost use Rattle.aql_rewrite.specs.Places.{Stays};
 ghost use Rattle.aql_rewrite.specs.View.{above_uses};
+ghost use Rattle.aql_rules_order.specs.InlineSubqueries.{Inlines, started_from};
 ghost use Rattle.aql_rules_order.specs.InlineSubqueries.{is_single as spec_is_single};
 ghost use Rattle.aql_rules_order.specs.InlineSubqueries.{has_collect as spec_has_collect};
-ghost use Rattle.aql_rules_order.specs.InlineSubqueries.{started_from as spec_started_from};
-ghost use Rattle.aql_rules_order.specs.Readers.{over_variable, over_subquery, over_return};
+ghost use Rattle.aql_rules_order.specs.Readers.{list_variable, as_value, with_value};
+ghost use Rattle.aql_rules_order.specs.Readers.{is_calculation as spec_is_calculation};
+ghost use Rattle.aql_rules_order.specs.Readers.{is_plain_return as spec_is_plain_return};
 ghost use Rattle.aql_rules_order.specs.Readers.{may_inline as spec_may_inline};
+ghost use Rattle.aql_rules_order.specs.Readers.{inline as spec_inline};
 
-use aql_plan::{Facts, Plan, Uses};
-use aql_rewrite::{PartRule, Rule, Swap, is_used};
-use aql_tree::{Expr, Ident, copy_expr};
+use aql_plan::{Facts, Node, Plan, Uses};
+use aql_rewrite::{PartRule, Rule, Swap, is_collect, is_used, replace_below, replace_body};
+use aql_tree::{Expr, Ident};
 use aql_value::OutOfMemory;
 use std::alloc::Global;
+use std::mem;
 
-// A FOR over a variable: its input, its own variable and that one.
-fn list_variable(node: &Plan) -> Option<(&Plan, u32, &Ident)>
-    ensures { MatchOption result (over_variable (plan_tree node.now) ≡ None)
-        (λ l. plan_tree node.now ≡ spec.Over (plan_tree l.0.now)
-        (spec.EnumerateList (Num l.1) (variable l.2.now))) }
+fn variable_of(node: &Node) -> Option<(u32, &Ident)>
+    ensures { MatchOption result (list_variable (node_tree node.now) ≡ None)
+        (λ l. node_tree node.now ≡ spec.EnumerateList (Num l.0) (variable l.1.now)) }
 {
     match node {
-        Plan::EnumerateList {
-            below,
+        Node::EnumerateList {
             var,
             list: Expr::Var(over),
-        } => Some((below, *var, over)),
+        } => Some((*var, over)),
+        _ => None,
+    }
+}
+
+// A FOR over a variable: its input, its own variable and that one.
+fn over_variable(plan: &Plan) -> Option<(&Plan, u32, &Ident)>
+    ensures { MatchOption result (list_variable (top (plan_tree plan.now)) ≡ None)
+        (λ l. plan_tree plan.now ≡ spec.Over (plan_tree l.0.now)
+        (spec.EnumerateList (Num l.1) (variable l.2.now))) }
+{
+    match plan {
+        Plan::Over { below, node } => {
+            let (var, over) = variable_of(node)?;
+            Some((below, var, over))
+        }
         _ => None,
     }
 }
 
 // A Subquery: its input, its variable and its body.
-fn subquery_of(node: &Plan) -> Option<(&Plan, u32, &Plan)>
-    ensures { MatchOption result (over_subquery (plan_tree node.now) ≡ None)
-        (λ l. plan_tree node.now ≡ spec.Over (plan_tree l.0.now)
+fn subquery_of(plan: &Plan) -> Option<(&Plan, u32, &Plan)>
+    ensures { MatchOption result (body_in (top (plan_tree plan.now)) ≡ None)
+        (λ l. plan_tree plan.now ≡ spec.Over (plan_tree l.0.now)
         (spec.Subquery (Num l.1) (plan_tree l.2.now))) }
 {
-    match node {
+    match plan {
         Plan::Subquery { below, var, body } => Some((below, *var, body)),
         _ => None,
     }
 }
 
-// A Return without DISTINCT: its input and its expression.
-fn return_of(node: &Plan) -> Option<(&Plan, &Expr)>
-    ensures { MatchOption result (over_return (plan_tree node.now) ≡ None)
-        (λ l. plan_tree node.now
-        ≡ spec.Over (plan_tree l.0.now) (spec.Return false (tree l.1.now))) }
+fn is_plain_return(node: &Node) -> bool
+    ensures { result ≡ spec_is_plain_return (node_tree node.now) }
 {
-    match node {
-        Plan::Return {
-            below,
-            expr,
+    matches!(
+        node,
+        Node::Return {
             distinct: false,
-        } => Some((below, expr)),
+            ..
+        }
+    )
+}
+
+// The input of a Return without DISTINCT.
+fn below_return(plan: &Plan) -> Option<&Plan>
+    ensures { MatchOption result (spec_is_plain_return (top (plan_tree plan.now)) ≡ false)
+        (λ b. (plan_tree plan.now ≡ spec.Over (plan_tree b.now) (top (plan_tree plan.now)))
+        × (spec_is_plain_return (top (plan_tree plan.now)) ≡ true)) }
+{
+    match plan {
+        Plan::Over { below, node } if is_plain_return(node) => Some(below),
         _ => None,
     }
 }
@@ -75,22 +99,21 @@ fn is_variable(var: u32, ident: &Ident) -> bool
     }
 }
 
+fn is_calculation(node: &Node) -> bool
+    ensures { result ≡ spec_is_calculation (node_tree node.now) }
+{
+    matches!(node, Node::Calculation { .. })
+}
+
 // The start row alone, with values that are set in it.
 fn is_single(plan: &Plan) -> bool
     ensures { result ≡ spec_is_single (plan_tree plan.now) }
 {
     match plan {
         Plan::Singleton => true,
-        Plan::Calculation { below, .. } => is_single(below),
+        Plan::Over { below, node } => is_calculation(node) && is_single(below),
         Plan::Subquery { below, .. } => is_single(below),
-        _ => false,
     }
-}
-
-fn is_collect(plan: &Plan) -> bool
-    ensures { result ≡ spec_is_collect (top (plan_tree plan.now)) }
-{
-    matches!(plan, Plan::Collect { .. })
 }
 
 // Whether a Collect stands on the spine.
@@ -111,36 +134,61 @@ fn may_inline(above: &[Uses], var: u32, start: &Plan, inner: &Plan) -> bool
     !is_used(var, above) && is_single(start) && !has_collect(inner)
 }
 
-// A plan over another one in place of its start row.
-fn started_from(alloc: Global, start: &Plan, plan: &Plan) -> Result<Plan, OutOfMemory>
-    ensures { IfOk result
-        (λ p. plan_tree p ≡ spec_started_from (plan_tree start.now) (plan_tree plan.now)) }
+// The variable of a FOR over the values of a subquery that may be inlined; `None` exactly where the
+// rule does not apply.
+fn inlined_at(part: &Plan, above: &[Uses]) -> Option<u32>
+    ensures { MatchOption result (Stays Inlines (above_uses above.now) (plan_tree part.now))
+        (λ x. Inlines (above_uses above.now) (plan_tree part.now)
+        (spec_inline (Num x) (plan_tree part.now)) None) }
 {
-    match plan.below() {
-        None => start.copy(alloc),
-        Some(below) => {
-            let below = started_from(alloc, start, below)?;
-            plan.over(alloc, below)
-        }
+    let (node, var, over) = over_variable(part)?;
+    let (start, own, body) = subquery_of(node)?;
+    let inner = below_return(body)?;
+    if is_variable(own, over) && may_inline(above, own, start, inner) {
+        return Some(var);
+    }
+    None
+}
+
+// Puts a plan in the place of the start row of another one.
+fn start_from(plan: &mut Plan, start: Plan)
+    ensures { plan_tree plan.new ≡ started_from (plan_tree start) (plan_tree plan.old) }
+{
+    match plan {
+        Plan::Singleton => *plan = start,
+        Plan::Over { below, .. } => start_from(&mut **below, start),
+        Plan::Subquery { below, .. } => start_from(&mut **below, start),
     }
 }
 
-// The nodes of a subquery over its input, with the value that it returned.
-fn with_value(
-    alloc: Global,
-    start: &Plan,
-    inner: &Plan,
-    var: u32,
-    expr: &Expr,
-) -> Result<Plan, OutOfMemory>
-    ensures { IfOk result (λ p. plan_tree p
-        ≡ spec.Over (spec_started_from (plan_tree start.now) (plan_tree inner.now))
-        (spec.Calculation (Num var) (tree expr.now))) }
+// Makes a Calculation of a Return.
+fn set_value(node: &mut Node, var: u32)
+    ensures { node_tree node.new ≡ as_value (Num var) (node_tree node.old) }
 {
-    let below = started_from(alloc, start, inner)?;
-    let below = Box::new(alloc, below)?;
-    let expr = copy_expr(alloc, expr)?;
-    Ok(Plan::Calculation { below, var, expr })
+    if let Node::Return { expr, .. } = node {
+        let expr = mem::replace(expr, Expr::Current);
+        *node = Node::Calculation { var, expr };
+    }
+}
+
+fn set_value_at(plan: &mut Plan, var: u32)
+    ensures { plan_tree plan.new ≡ with_value (Num var) (plan_tree plan.old) }
+{
+    if let Plan::Over { node, .. } = plan {
+        set_value(&mut **node, var);
+    }
+}
+
+// The nodes of the subquery in the place of a FOR over its values.
+fn inline(part: &mut Plan, var: u32)
+    ensures { plan_tree part.new ≡ spec_inline (Num var) (plan_tree part.old) }
+{
+    let mut node = replace_below(part, Plan::Singleton);
+    let mut body = replace_body(&mut node, Plan::Singleton);
+    let start = replace_below(&mut node, Plan::Singleton);
+    start_from(&mut body, start);
+    set_value_at(&mut body, var);
+    *part = body;
 }
 
 /// The rule inline-subqueries.
@@ -165,27 +213,13 @@ impl Rule for InlineSubqueries {
         alloc: Global,
         part: &Plan,
         above: &[Uses],
-        _facts: &Facts,
+        facts: &Facts,
     ) -> Result<Option<Swap>, OutOfMemory> {
-        match list_variable(part) {
-            None => Ok(None),
-            Some((node, var, over)) => match subquery_of(node) {
-                None => Ok(None),
-                Some((start, own, body)) => match return_of(body) {
-                    None => Ok(None),
-                    Some((inner, expr)) => {
-                        if !is_variable(own, over) {
-                            return Ok(None);
-                        }
-                        if !may_inline(above, own, start, inner) {
-                            return Ok(None);
-                        }
-                        let part = with_value(alloc, start, inner, var, expr)?;
-                        Ok(Some(Swap { part, rename: None }))
-                    }
-                },
-            },
+        let mut part = part.copy(alloc)?;
+        if self.rewrite(alloc, &mut part, above, facts)? {
+            return Ok(Some(Swap { part, rename: None }));
         }
+        Ok(None)
     }
 
     ghost refines = { λ _ facts outer away us p q r placed h.
@@ -204,6 +238,22 @@ impl PartRule for InlineSubqueries {
     ghost use Rattle.aql_rules_order.specs.laws.SubqueriesInlined.{inlines_nameless, inlines_shrink};
 
     ghost looks = { λ _. true };
+
+    fn rewrite(
+        &self,
+        _alloc: Global,
+        part: &mut Plan,
+        above: &[Uses],
+        _facts: &Facts,
+    ) -> Result<bool, OutOfMemory> {
+        match inlined_at(part, above) {
+            None => Ok(false),
+            Some(var) => {
+                inline(part, var);
+                Ok(true)
+            }
+        }
+    }
 
     fn looks_above(&self) -> bool {
         true

@@ -1,6 +1,5 @@
-//! Rules on sorts, subqueries and what COLLECT sets: each stands in the file of the name that
-//! plans print.
-//! The order of FOR loops over collections.
+//! Rules on sorts, subqueries, what COLLECT sets and the order of FOR loops: each stands in the
+//! file of the name that plans print.
 #![tactic(auto)]
 
 mod inline_subqueries;

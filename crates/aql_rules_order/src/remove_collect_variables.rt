@@ -1,19 +1,19 @@
 //! A variable of INTO or of an aggregate goes where it isn't used.
 
-ghost use Rattle.std.specs.Prelude.{◌≡◌, ◌&&◌, IfOk, map, filter, option_map, option_to_list};
+ghost use Rattle.std.specs.Prelude.{◌≡◌, IfOk, OnOk, map, filter, option_map, option_to_list};
 ghost use Rattle.std.specs.List.{AllByRecursion};
 ghost use Rattle.aql_tree.specs.View.{AggregatePart, aggregate_part, into_part, aggregates as aggregate_trees, into_tree};
 ghost use Rattle.aql_meaning.specs.Numbered.{IsNumber};
 ghost use Rattle.aql_meaning.specs.Visible.{aggregate_vars, into_var};
 ghost use Rattle.aql_meaning.specs.Uses.{is_used as spec_is_used};
+ghost use Rattle.aql_plan.specs.View.{node_tree};
 ghost use Rattle.aql_rewrite.specs.View.{above_uses};
+ghost use Rattle.aql_rules_order.specs.Readers.{vars_beside, used_alone};
 ghost use Rattle.aql_rules_order.specs.RemoveCollectVariables.{all_used, used_into};
 
-use aql_plan::{Facts, Plan, Uses};
+use aql_plan::{Facts, Node, Plan, Uses};
 use aql_rewrite::{PartRule, Rule, Swap, is_used};
-use aql_tree::{
-    AggregateItem, Aggregates, Ident, Into, copy_ident, copy_into, copy_lets, copy_maybe,
-};
+use aql_tree::{AggregateItem, Aggregates, Ident, Into, copy_ident, copy_maybe};
 use aql_value::{OutOfMemory, Seq};
 use std::alloc::Global;
 
@@ -54,20 +54,6 @@ fn into_kept(into: &Option<Into>, above: &[Uses]) -> bool
     }
 }
 
-// Whether the nodes above use all of these variables.
-fn are_kept(aggregates: &[AggregateItem], into: &Option<Into>, above: &[Uses]) -> bool
-    requires aggregates { AllByRecursion IsNumber
-        (aggregate_vars (aggregate_trees (map aggregate_part aggregates.now))) }
-    requires into { AllByRecursion IsNumber
-        (option_to_list (into_var (into_tree (option_map into_part into.now)))) }
-    ensures { result ≡ (all_used (above_uses above.now)
-        (aggregate_vars (aggregate_trees (map aggregate_part aggregates.now)))
-        && all_used (above_uses above.now)
-        (option_to_list (into_var (into_tree (option_map into_part into.now))))) }
-{
-    all_kept(aggregates, above) && into_kept(into, above)
-}
-
 // The aggregates whose variables are used.
 fn kept_aggregates(
     alloc: Global,
@@ -91,31 +77,62 @@ fn kept_aggregates(
     Ok(out)
 }
 
-// INTO, if its variable is used.
-fn kept_into(
-    alloc: Global,
-    into: &Option<Into>,
-    above: &[Uses],
-) -> Result<Option<Into>, OutOfMemory>
+// Drops INTO, if its variable is not used.
+fn drop_into(into: &mut Option<Into>, above: &[Uses])
     requires { AllByRecursion IsNumber
-        (option_to_list (into_var (into_tree (option_map into_part into.now)))) }
-    ensures { IfOk result (λ out. into_tree (option_map into_part out)
-        ≡ used_into (above_uses above.now) (into_tree (option_map into_part into.now))) }
+        (option_to_list (into_var (into_tree (option_map into_part into.old)))) }
+    ensures { into_tree (option_map into_part into.new)
+        ≡ used_into (above_uses above.now) (into_tree (option_map into_part into.old)) }
 {
-    if into_kept(into, above) {
-        return copy_into(alloc, into);
+    if !into_kept(into, above) {
+        *into = None;
     }
-    Ok(None)
 }
 
-/// The rule remove-collect-variables.
+// Whether the nodes above use all that a Collect sets beside its groups.
+fn are_kept(node: &Node, above: &[Uses]) -> bool
+    requires { AllByRecursion IsNumber (vars_beside (node_tree node.now)) }
+    ensures { result ≡ all_used (above_uses above.now) (vars_beside (node_tree node.now)) }
+{
+    match node {
+        Node::Collect {
+            aggregates,
+            into,
+            ..
+        } => all_kept(aggregates.as_slice(), above) && into_kept(into, above),
+        _ => true,
+    }
+}
+
+// Drops the aggregates and the INTO variable of a Collect that the nodes above do not use.
+fn drop_unused(alloc: Global, node: &mut Node, above: &[Uses]) -> Result<(), OutOfMemory>
+    requires { AllByRecursion IsNumber (vars_beside (node_tree node.old)) }
+    ensures { OnOk result
+        (node_tree node.new ≡ used_alone (above_uses above.now) (node_tree node.old)) }
+{
+    match node {
+        Node::Collect {
+            aggregates,
+            into,
+            ..
+        } => {
+            *aggregates = kept_aggregates(alloc, aggregates.as_slice(), above)?;
+            drop_into(into, above);
+            Ok(())
+        }
+        _ => Ok(()),
+    }
+}
+
+/// The rule remove-collect-variables. One application drops all that is unused of its Collect.
 #[derive(Clone, Copy, Drop)]
 pub struct RemoveCollectVariables;
 
 impl Rule for RemoveCollectVariables {
     ghost use Rattle.std.specs.Prelude.{false};
     ghost use Rattle.aql_rewrite.specs.Sums.{total};
-    ghost use Rattle.aql_rules_order.specs.RemoveCollectVariables.{Drops, vars_to_go};
+    ghost use Rattle.aql_rules_order.specs.RemoveCollectVariables.{Drops};
+    ghost use Rattle.aql_rules_order.specs.Measures.{vars_to_go};
     ghost use Rattle.aql_rules_order.specs.laws.VariablesDropped.{drops_refine, drops_keep, drops_fall};
 
     ghost rewrites = { λ _ _. Drops };
@@ -129,31 +146,13 @@ impl Rule for RemoveCollectVariables {
         alloc: Global,
         part: &Plan,
         above: &[Uses],
-        _facts: &Facts,
+        facts: &Facts,
     ) -> Result<Option<Swap>, OutOfMemory> {
-        match part {
-            Plan::Collect {
-                below,
-                groups,
-                aggregates,
-                into,
-                stage,
-            } => {
-                if are_kept(aggregates.as_slice(), into, above) {
-                    return Ok(None);
-                }
-                let below = below.copy(alloc)?;
-                let part = Plan::Collect {
-                    below: Box::new(alloc, below)?,
-                    groups: copy_lets(alloc, groups.as_slice())?,
-                    aggregates: kept_aggregates(alloc, aggregates.as_slice(), above)?,
-                    into: kept_into(alloc, into, above)?,
-                    stage: *stage,
-                };
-                Ok(Some(Swap { part, rename: None }))
-            }
-            _ => Ok(None),
+        let mut part = part.copy(alloc)?;
+        if self.rewrite(alloc, &mut part, above, facts)? {
+            return Ok(Some(Swap { part, rename: None }));
         }
+        Ok(None)
     }
 
     ghost refines = { λ _ facts outer away us p q r placed h.
@@ -168,10 +167,29 @@ impl Rule for RemoveCollectVariables {
 impl PartRule for RemoveCollectVariables {
     ghost use Rattle.std.specs.Prelude.{refl, true};
     ghost use Rattle.std.proofs.Common.{true≢false};
-    ghost use Rattle.aql_rules_order.specs.RemoveCollectVariables.{vars_to_go};
+    ghost use Rattle.aql_rules_order.specs.Measures.{vars_to_go};
     ghost use Rattle.aql_rules_order.specs.laws.VariablesDropped.{drops_nameless, drops_shrink};
 
     ghost looks = { λ _. true };
+
+    fn rewrite(
+        &self,
+        alloc: Global,
+        part: &mut Plan,
+        above: &[Uses],
+        _facts: &Facts,
+    ) -> Result<bool, OutOfMemory> {
+        match part {
+            Plan::Over { node, .. } => {
+                if are_kept(node, above) {
+                    return Ok(false);
+                }
+                drop_unused(alloc, &mut **node, above)?;
+                Ok(true)
+            }
+            _ => Ok(false),
+        }
+    }
 
     fn looks_above(&self) -> bool {
         true

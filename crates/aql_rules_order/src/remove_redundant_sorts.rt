@@ -1,18 +1,19 @@
 //! A Sort goes where nothing is left of its order.
 
-ghost use Rattle.std.specs.Prelude.{◌≡◌, ◌↔◌, IsTrue, IfOk, MatchOption};
-ghost use Rattle.aql_plan.specs.Plan as spec;
+ghost use Rattle.std.specs.Prelude.{◌≡◌, ◌↔◌, IsTrue, IfOk};
+ghost use Rattle.aql_plan.specs.Nodes.{over};
 ghost use Rattle.aql_plan.specs.Plan.{top};
-ghost use Rattle.aql_plan.specs.View.{plan_tree, key_trees};
+ghost use Rattle.aql_plan.specs.View.{node_tree, plan_tree, key_trees};
 ghost use Rattle.aql_rewrite.specs.Constant.{AreConstant};
 ghost use Rattle.aql_rewrite.specs.Parts.{list_parts};
+ghost use Rattle.aql_rules_order.specs.Readers.{Becomes, InputBecomes};
 ghost use Rattle.aql_rules_order.specs.RemoveRedundantSorts.{IsIdle, WithoutSort};
 ghost use Rattle.aql_rules_order.specs.RemoveRedundantSorts.{goes_by_row as spec_goes_by_row};
 ghost use Rattle.aql_rules_order.specs.RemoveRedundantSorts.{ignores_order as spec_ignores_order};
 
 use crate::readers::is_open_sort;
-use aql_plan::{Facts, Plan, Uses};
-use aql_rewrite::{PartRule, Rule, Swap, is_constant};
+use aql_plan::{Facts, Node, Plan, Uses};
+use aql_rewrite::{PartRule, Rule, Swap, is_constant, replace_below};
 use aql_tree::Key;
 use aql_value::OutOfMemory;
 use std::alloc::Global;
@@ -29,68 +30,103 @@ fn are_constant(alloc: Global, keys: &[Key]) -> Result<bool, OutOfMemory>
     Ok(true)
 }
 
-// Whether a node is a Sort without limit that may give its rows in any order.
-fn is_idle(alloc: Global, node: &Plan) -> Result<bool, OutOfMemory>
-    ensures { IfOk result (λ answer. IsTrue answer ↔ IsIdle (top (plan_tree node.now))) }
+fn node_is_idle(alloc: Global, node: &Node) -> Result<bool, OutOfMemory>
+    ensures { IfOk result (λ answer. IsTrue answer ↔ IsIdle (node_tree node.now)) }
 {
     match node {
-        Plan::Sort {
-            keys,
-            limit: None,
-            ..
-        } => are_constant(alloc, keys.as_slice()),
+        Node::Sort { keys, limit: None } => are_constant(alloc, keys.as_slice()),
         _ => Ok(false),
     }
 }
 
-fn goes_by_row(node: &Plan) -> bool
-    ensures { result ≡ spec_goes_by_row (top (plan_tree node.now)) }
+// Whether a node is a Sort without limit that may give its rows in any order.
+fn is_idle(alloc: Global, plan: &Plan) -> Result<bool, OutOfMemory>
+    ensures { IfOk result (λ answer. IsTrue answer ↔ IsIdle (top (plan_tree plan.now))) }
 {
-    matches!(
-        node,
-        Plan::Calculation { .. }
-            | Plan::Subquery { .. }
-            | Plan::Filter { .. }
-            | Plan::EnumerateList { .. }
-    )
-}
-
-fn ignores_order(node: &Plan) -> bool
-    ensures { result ≡ spec_ignores_order (top (plan_tree node.now)) }
-{
-    matches!(
-        node,
-        Plan::Sort { .. }
-            | Plan::Collect { .. }
-            | Plan::EnumerateCollection { .. }
-            | Plan::Traversal { .. }
-    )
-}
-
-// The plan without the Sort that stands at its top, or below nodes that go by row.
-fn without_sort(alloc: Global, plan: &Plan) -> Result<Option<Plan>, OutOfMemory>
-    ensures { IfOk result (λ o. MatchOption o
-        ((q : spec.Plan) → WithoutSort (plan_tree plan.now) q → ⊥)
-        (λ q. WithoutSort (plan_tree plan.now) (plan_tree q))) }
-{
-    match plan.below() {
-        None => Ok(None),
-        Some(below) => {
-            if is_open_sort(plan) {
-                return Ok(Some(below.copy(alloc)?));
-            }
-            if !goes_by_row(plan) {
-                return Ok(None);
-            }
-            match without_sort(alloc, below)? {
-                None => Ok(None),
-                Some(below) => Ok(Some(plan.over(alloc, below)?)),
-            }
-        }
+    match plan {
+        Plan::Over { node, .. } => node_is_idle(alloc, node),
+        _ => Ok(false),
     }
 }
 
-/// The rule remove-redundant-sorts.
+fn node_goes_by_row(node: &Node) -> bool
+    ensures { result ≡ spec_goes_by_row (node_tree node.now) }
+{
+    matches!(
+        node,
+        Node::Calculation { .. } | Node::Filter { .. } | Node::EnumerateList { .. }
+    )
+}
+
+fn goes_by_row(plan: &Plan) -> bool
+    ensures { result ≡ spec_goes_by_row (top (plan_tree plan.now)) }
+{
+    match plan {
+        Plan::Singleton => false,
+        Plan::Over { node, .. } => node_goes_by_row(node),
+        Plan::Subquery { .. } => true,
+    }
+}
+
+fn node_ignores_order(node: &Node) -> bool
+    ensures { result ≡ spec_ignores_order (node_tree node.now) }
+{
+    matches!(
+        node,
+        Node::Sort { .. }
+            | Node::Collect { .. }
+            | Node::EnumerateCollection { .. }
+            | Node::Traversal { .. }
+    )
+}
+
+fn ignores_order(plan: &Plan) -> bool
+    ensures { result ≡ spec_ignores_order (top (plan_tree plan.now)) }
+{
+    match plan {
+        Plan::Over { node, .. } => node_ignores_order(node),
+        _ => false,
+    }
+}
+
+// Takes the top node of a plan away.
+fn remove_top(plan: &mut Plan)
+    ensures { plan_tree plan.old ≡ over (plan_tree plan.old) (plan_tree plan.new) }
+{
+    let below = replace_below(plan, Plan::Singleton);
+    *plan = below;
+}
+
+// Takes away the Sort that stands at the top of a plan, or below nodes that go by row; `false`
+// exactly where there is none.
+#[cycle(remove)]
+fn remove_sort(plan: &mut Plan) -> bool
+    ensures { Becomes WithoutSort (plan_tree plan.old) (plan_tree plan.new) result }
+{
+    if is_open_sort(plan) {
+        remove_top(plan);
+        return true;
+    }
+    if !goes_by_row(plan) {
+        return false;
+    }
+    remove_sort_below(plan)
+}
+
+// The same of the input of a node.
+#[cycle(remove)]
+fn remove_sort_below(plan: &mut Plan) -> bool
+    ensures { InputBecomes WithoutSort (plan_tree plan.old) (plan_tree plan.new) result }
+{
+    match plan {
+        Plan::Singleton => false,
+        Plan::Over { below, .. } => remove_sort(&mut **below),
+        Plan::Subquery { below, .. } => remove_sort(&mut **below),
+    }
+}
+
+/// The rule remove-redundant-sorts. A Sort that may go by itself, as its keys are constant, goes
+/// before one that stands below it.
 #[derive(Clone, Copy, Drop)]
 pub struct RemoveRedundantSorts;
 
@@ -110,28 +146,14 @@ impl Rule for RemoveRedundantSorts {
         &self,
         alloc: Global,
         part: &Plan,
-        _above: &[Uses],
-        _facts: &Facts,
+        above: &[Uses],
+        facts: &Facts,
     ) -> Result<Option<Swap>, OutOfMemory> {
-        match part.below() {
-            None => Ok(None),
-            Some(below) => {
-                if is_idle(alloc, part)? {
-                    let part = below.copy(alloc)?;
-                    return Ok(Some(Swap { part, rename: None }));
-                }
-                if !ignores_order(part) {
-                    return Ok(None);
-                }
-                match without_sort(alloc, below)? {
-                    None => Ok(None),
-                    Some(below) => {
-                        let part = part.over(alloc, below)?;
-                        Ok(Some(Swap { part, rename: None }))
-                    }
-                }
-            }
+        let mut part = part.copy(alloc)?;
+        if self.rewrite(alloc, &mut part, above, facts)? {
+            return Ok(Some(Swap { part, rename: None }));
         }
+        Ok(None)
     }
 
     ghost refines = { λ _ facts outer away us p q r placed h.
@@ -149,6 +171,23 @@ impl PartRule for RemoveRedundantSorts {
     ghost use Rattle.aql_rules_order.specs.laws.SortsRemoved.{unsorts_blind, unsorts_nameless, unsorts_shrink};
 
     ghost looks = { λ _. false };
+
+    fn rewrite(
+        &self,
+        alloc: Global,
+        part: &mut Plan,
+        _above: &[Uses],
+        _facts: &Facts,
+    ) -> Result<bool, OutOfMemory> {
+        if is_idle(alloc, part)? {
+            remove_top(part);
+            return Ok(true);
+        }
+        if !ignores_order(part) {
+            return Ok(false);
+        }
+        Ok(remove_sort_below(part))
+    }
 
     fn looks_above(&self) -> bool {
         false

@@ -1,45 +1,91 @@
 //! A Sort below a Limit gives only as many rows as the Limit asks for.
 
-ghost use Rattle.std.specs.Prelude.{◌≡◌, IfOk, MatchOption};
+ghost use Rattle.std.specs.Prelude.{◌≡◌, None, MatchOption};
 ghost use Rattle.aql_plan.specs.Plan as spec;
 ghost use Rattle.aql_plan.specs.Plan.{top};
-ghost use Rattle.aql_plan.specs.View.{plan_tree};
+ghost use Rattle.aql_plan.specs.View.{node_tree, plan_tree};
+ghost use Rattle.aql_rules_order.specs.Readers.{Becomes, InputBecomes, limit_in};
+ghost use Rattle.aql_rules_order.specs.Readers.{with_limit};
 ghost use Rattle.aql_rules_order.specs.SortLimit.{Limited, sets_value as spec_sets_value};
 
-use crate::readers::{is_open_sort, with_limit};
-use aql_plan::{Facts, Plan, Uses};
+use crate::readers::is_open_sort;
+use aql_plan::{Facts, Node, Plan, Uses};
 use aql_rewrite::{PartRule, Rule, Swap};
 use aql_value::OutOfMemory;
 use std::alloc::Global;
 
-fn sets_value(node: &Plan) -> bool
-    ensures { result ≡ spec_sets_value (top (plan_tree node.now)) }
+fn is_calculation(node: &Node) -> bool
+    ensures { result ≡ spec_sets_value (node_tree node.now) }
 {
-    matches!(node, Plan::Calculation { .. } | Plan::Subquery { .. })
+    matches!(node, Node::Calculation { .. })
 }
 
-// The plan with a limit at the Sort that stands at its top without one, or below nodes that set a
-// value.
-fn limited(alloc: Global, plan: &Plan, limit: u64) -> Result<Option<Plan>, OutOfMemory>
-    ensures { IfOk result (λ o. MatchOption o
-        ((q : spec.Plan) → Limited limit (plan_tree plan.now) q → ⊥)
-        (λ q. Limited limit (plan_tree plan.now) (plan_tree q))) }
+fn sets_value(plan: &Plan) -> bool
+    ensures { result ≡ spec_sets_value (top (plan_tree plan.now)) }
 {
-    match plan.below() {
-        None => Ok(None),
-        Some(below) => {
-            if is_open_sort(plan) {
-                let sort = plan.copy(alloc)?;
-                return Ok(Some(with_limit(sort, limit)));
-            }
-            if !sets_value(plan) {
-                return Ok(None);
-            }
-            match limited(alloc, below, limit)? {
-                None => Ok(None),
-                Some(below) => Ok(Some(plan.over(alloc, below)?)),
-            }
+    match plan {
+        Plan::Singleton => false,
+        Plan::Over { node, .. } => is_calculation(node),
+        Plan::Subquery { .. } => true,
+    }
+}
+
+fn set_limit(plan: &mut Plan, limit: u64)
+    ensures { plan_tree plan.new ≡ with_limit limit (plan_tree plan.old) }
+{
+    if let Plan::Over { node, .. } = plan {
+        if let Node::Sort { limit: own, .. } = &mut **node {
+            *own = Some(limit);
         }
+    }
+}
+
+// Limits the Sort that stands at the top of a plan without a limit, or below nodes that set a
+// value; `false` exactly where there is none.
+#[cycle(limit)]
+fn limit_sort(plan: &mut Plan, limit: u64) -> bool
+    ensures { Becomes (Limited limit) (plan_tree plan.old) (plan_tree plan.new) result }
+{
+    if is_open_sort(plan) {
+        set_limit(plan, limit);
+        return true;
+    }
+    if !sets_value(plan) {
+        return false;
+    }
+    limit_below(plan, limit)
+}
+
+// The same of the input of a node.
+#[cycle(limit)]
+fn limit_below(plan: &mut Plan, limit: u64) -> bool
+    ensures { InputBecomes (Limited limit) (plan_tree plan.old) (plan_tree plan.new) result }
+{
+    match plan {
+        Plan::Singleton => false,
+        Plan::Over { below, .. } => limit_sort(&mut **below, limit),
+        Plan::Subquery { below, .. } => limit_sort(&mut **below, limit),
+    }
+}
+
+fn limit_at(node: &Node) -> Option<(u64, u64)>
+    ensures { MatchOption result (limit_in (node_tree node.now) ≡ None)
+        (λ l. node_tree node.now ≡ spec.Limit l.0 l.1) }
+{
+    match node {
+        Node::Limit { offset, count } => Some((*offset, *count)),
+        _ => None,
+    }
+}
+
+// How many rows a Limit leaves out, and how many it keeps at most.
+fn limit_of(plan: &Plan) -> Option<(u64, u64)>
+    ensures { MatchOption result (limit_in (top (plan_tree plan.now)) ≡ None)
+        (λ l. top (plan_tree plan.now) ≡ spec.Limit l.0 l.1) }
+{
+    match plan {
+        Plan::Over { node, .. } => limit_at(node),
+        _ => None,
     }
 }
 
@@ -50,7 +96,8 @@ pub struct SortLimit;
 impl Rule for SortLimit {
     ghost use Rattle.std.specs.Prelude.{false};
     ghost use Rattle.aql_rewrite.specs.Sums.{total};
-    ghost use Rattle.aql_rules_order.specs.SortLimit.{Limits, is_unlimited};
+    ghost use Rattle.aql_rules_order.specs.SortLimit.{Limits};
+    ghost use Rattle.aql_rules_order.specs.Measures.{is_unlimited};
     ghost use Rattle.aql_rules_order.specs.laws.SortsLimited.{limits_refine, limits_keep, limits_fall};
 
     ghost rewrites = { λ _ _. Limits };
@@ -63,23 +110,14 @@ impl Rule for SortLimit {
         &self,
         alloc: Global,
         part: &Plan,
-        _above: &[Uses],
-        _facts: &Facts,
+        above: &[Uses],
+        facts: &Facts,
     ) -> Result<Option<Swap>, OutOfMemory> {
-        match part {
-            Plan::Limit {
-                below,
-                offset,
-                count,
-            } => match limited(alloc, below, *offset + *count)? {
-                None => Ok(None),
-                Some(below) => {
-                    let part = part.over(alloc, below)?;
-                    Ok(Some(Swap { part, rename: None }))
-                }
-            },
-            _ => Ok(None),
+        let mut part = part.copy(alloc)?;
+        if self.rewrite(alloc, &mut part, above, facts)? {
+            return Ok(Some(Swap { part, rename: None }));
         }
+        Ok(None)
     }
 
     ghost refines = { λ _ facts _ _ us p q r _ h. limits_refine facts us p q r h };
@@ -92,10 +130,23 @@ impl Rule for SortLimit {
 
 impl PartRule for SortLimit {
     ghost use Rattle.std.specs.Prelude.{refl, false};
-    ghost use Rattle.aql_rules_order.specs.SortLimit.{is_unlimited};
+    ghost use Rattle.aql_rules_order.specs.Measures.{is_unlimited};
     ghost use Rattle.aql_rules_order.specs.laws.SortsLimited.{limits_blind, limits_nameless, limits_shrink};
 
     ghost looks = { λ _. false };
+
+    fn rewrite(
+        &self,
+        _alloc: Global,
+        part: &mut Plan,
+        _above: &[Uses],
+        _facts: &Facts,
+    ) -> Result<bool, OutOfMemory> {
+        match limit_of(part) {
+            None => Ok(false),
+            Some((offset, count)) => Ok(limit_below(part, offset + count)),
+        }
+    }
 
     fn looks_above(&self) -> bool {
         false

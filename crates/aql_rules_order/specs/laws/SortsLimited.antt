@@ -14,21 +14,23 @@ use Rattle.aql_meaning.specs.laws.SomeAnswer.{all_some}
 use Rattle.aql_plan.specs.declared.facts.Facts.{Facts}
 use Rattle.aql_plan.specs.Exprs.{map_node}
 use Rattle.aql_plan.specs.Needs.{result_uses}
-use Rattle.aql_plan.specs.Nodes.{over, weight}
-use Rattle.aql_plan.specs.Plan.{Plan, Over, Node, NoResults, Scatter, Distribute, Gather, Calculation, Subquery, Sort, Limit, top}
+use Rattle.aql_plan.specs.Nodes.{weight}
+use Rattle.aql_plan.specs.Plan.{Plan, Singleton, Over, Node, NoResults, Scatter, Distribute, Gather, Calculation, Subquery, Sort, Limit, top}
 use Rattle.aql_plan.specs.Refines.{world}
 use Rattle.aql_plan.specs.Runs.{World, Outside, Runs, Gives, result_of}
 use Rattle.aql_plan.specs.Shapes.{Shape, Shaped, is_inside, plain_rows, lowest, other_reading, passing, sorting, KeepsShape}
 use Rattle.aql_plan_laws.specs.laws.Agreement.{rows_agree}
 use Rattle.aql_plan.proofs.SomeRun.{some_run}
 use Rattle.aql_rewrite.specs.declared.swap.Rename.{Rename}
+use Rattle.aql_rewrite.specs.Changed.{IsChanged}
 use Rattle.aql_rewrite.specs.Places.{Stays, First}
 use Rattle.aql_rewrite.specs.Placed.{IsWhole, Placed, IsPlaced}
 use Rattle.aql_rewrite.specs.Swaps.{Replaced, KeepsPlaced}
 use Rattle.aql_rewrite.specs.Sums.{total}
 use Rattle.aql_rewrite.specs.laws.Falling.{total_falls}
-use Rattle.aql_rules_order.specs.Readers.{is_open_sort, with_limit}
-use Rattle.aql_rules_order.specs.SortLimit.{sets_value, Limited, here, below, Limits, limited, is_unlimited}
+use Rattle.aql_rules_order.specs.Readers.{is_open_sort, with_limit, limit_in, Becomes, InputBecomes}
+use Rattle.aql_rules_order.specs.SortLimit.{sets_value, Limited, here, below, Limits, limited}
+use Rattle.aql_rules_order.specs.Measures.{is_unlimited}
 use Rattle.aql_rules_order.specs.laws.Spine.{takes_rows, made, run_of, SameFrame, frame_over, frame_kept}
 
 -- ---- the first rows
@@ -133,11 +135,12 @@ fits_range facts b offset most s o (lowest i f h) = absurd i
 fits_range facts b offset most s o (other_reading i f h) = absurd i
 fits_range facts b offset most s o (passing i f h) = absurd i
 
-pub in_range : (facts : Facts) (us : Uses) (p b : Plan) (offset most : ℕ)
-    → IsPlaced false false facts us p → p ≡ Over b (Limit offset most) → offset + most < 2 ^ 64
-in_range facts us p b offset most placed e =
+pub in_range : (facts : Facts) (us : Uses) (p : Plan) (offset most : ℕ) → IsPlaced false false facts us p
+    → top p ≡ Limit offset most → offset + most < 2 ^ 64
+in_range facts us Singleton offset most placed e = cc
+in_range facts us (Over b n) offset most placed e =
     let s = placed.2.shaped in
-    fits_range facts b offset most s.0 s.1 (subst (λ (q : Plan). Shaped facts q s.0) e s.2)
+    fits_range facts b offset most s.0 s.1 (subst (λ (m : Node). Shaped facts (Over b m) s.0) e s.2)
 
 pub limits_keep : (facts : Facts) (outer away : List Ident) (us : Uses) (p q : Plan) (r : Option Rename)
     → Placed false false facts outer away us p → Limits us p q r
@@ -190,38 +193,42 @@ open_limited : (limit : ℕ) (b : Plan) (n : Node) → is_open_sort n ≡ true
 open_limited limit b (Sort directions es None) h = here
 open_limited limit b n h = absurd (true≢false (sym h))
 
-pub limit_at : (limit : ℕ) (p b q : Plan) → p ≡ Over b (top p) → is_open_sort (top p) ≡ true
-    → q ≡ with_limit limit p → Limited limit p q
-limit_at limit p b q d h e =
-    subst₂ (λ (m s : Plan). Limited limit m s) (sym d) (sym (e ∙ ap (with_limit limit) d))
-    (open_limited limit b (top p) h)
-
-pub limit_below_at : (limit : ℕ) (p b c q : Plan) → p ≡ Over b (top p) → sets_value (top p) ≡ true
-    → Limited limit b c → q ≡ over p c → Limited limit p q
-limit_below_at limit p b c q d l h e =
-    subst₂ (λ (m s : Plan). Limited limit m s) (sym d) (sym (e ∙ ap (λ (m : Plan). over m c) d)) (below l h)
+pub limit_at : (limit : ℕ) (p q : Plan) → is_open_sort (top p) ≡ true → q ≡ with_limit limit p
+    → Limited limit p q
+limit_at limit Singleton q h e = absurd (true≢false (sym h))
+limit_at limit (Over b n) q h e = subst (Limited limit (Over b n)) (sym e) (open_limited limit b n h)
 
 pub no_limit_here : (limit : ℕ) (p : Plan) → is_open_sort (top p) ≡ false → sets_value (top p) ≡ false
     → (q : Plan) → Limited limit p q → ⊥
 no_limit_here limit _ h l _ here = true≢false h
 no_limit_here limit _ h l _ (below m k) = true≢false (sym m ∙ l)
 
-pub no_limit_below : (limit : ℕ) (p b : Plan) → p ≡ Over b (top p) → is_open_sort (top p) ≡ false
-    → ((c : Plan) → Limited limit b c → ⊥) → (q : Plan) → Limited limit p q → ⊥
-no_limit_below limit _ b d h f _ here = true≢false h
-no_limit_below limit _ b d h f _ (below {b = a} {c = c} m k) =
-    let e : a ≡ b = cc in f c (subst (λ (m : Plan). Limited limit m c) e k)
+no_limit_below : (limit : ℕ) (p : Plan) → is_open_sort (top p) ≡ false
+    → ((b c : Plan) → p ≡ Over b (top p) → Limited limit b c → ⊥) → (q : Plan) → Limited limit p q → ⊥
+no_limit_below limit _ h f _ here = true≢false h
+no_limit_below limit _ h f _ (below {b = b} {c = c} m k) = f b c refl k
 
-pub limits_at : (us : Uses) (p b c q : Plan) (offset most : ℕ) → p ≡ Over b (Limit offset most)
-    → Limited (offset + most) b c → q ≡ over p c → Limits us p q None
-limits_at us p b c q offset most d h e =
-    subst₂ (λ (m s : Plan). Limits us m s None) (sym d) (sym (e ∙ ap (λ (m : Plan). over m c) d)) (limited h)
+pub limit_through : (limit : ℕ) (p q : Plan) (changed : Bool) → is_open_sort (top p) ≡ false
+    → sets_value (top p) ≡ true → InputBecomes (Limited limit) p q changed
+    → Becomes (Limited limit) p q changed
+limit_through limit p q true h l k =
+    subst₂ (λ (m s : Plan). Limited limit m s) (sym k.2) (sym k.3) (below l k.4)
+limit_through limit p q false h l k = (no_limit_below limit p h k.0, k.1)
 
-not_limited : (us : Uses) (b : Plan) (offset most : ℕ) → ((c : Plan) → Limited (offset + most) b c → ⊥)
-    → Stays Limits us (Over b (Limit offset most))
-not_limited us _ _ _ f _ _ (limited {c = c} h) = f c h
+pub no_limit_at : (us : Uses) (p : Plan) → limit_in (top p) ≡ None → Stays Limits us p
+no_limit_at us _ h _ _ (limited k) = cc
 
-pub stays_unlimited : (us : Uses) (p b : Plan) (offset most : ℕ) → p ≡ Over b (Limit offset most)
-    → ((c : Plan) → Limited (offset + most) b c → ⊥) → Stays Limits us p
-stays_unlimited us p b offset most d f =
-    subst (λ (m : Plan). Stays Limits us m) (sym d) (not_limited us b offset most f)
+not_limited : (us : Uses) (p : Plan) (offset most : ℕ) → top p ≡ Limit offset most
+    → ((b c : Plan) → p ≡ Over b (top p) → Limited (offset + most) b c → ⊥) → Stays Limits us p
+not_limited us _ offset most e f _ _ (limited {b = b} {c = c} {offset = first} {most = count} h) =
+    let i : first ≡ offset = cc in
+    let j : count ≡ most = cc in
+    f b c refl (subst₂ (λ (n m : ℕ). Limited (n + m) b c) i j h)
+
+pub limits_changed : (us : Uses) (p q : Plan) (offset most : ℕ) (changed : Bool)
+    → top p ≡ Limit offset most → InputBecomes (Limited (offset + most)) p q changed
+    → IsChanged Limits us p q changed
+limits_changed us p q offset most true e k =
+    subst₂ (λ (m s : Plan). Limits us m s None) (sym (k.2 ∙ ap (Over k.0) e)) (sym (k.3 ∙ ap (Over k.1) e))
+    (limited k.4)
+limits_changed us p q offset most false e k = (not_limited us p offset most e k.0, k.1)

@@ -1,5 +1,5 @@
 -- What a plan gives without a redundant Sort, it gave with it.
-use Rattle.std.proofs.Common.{◌≡◌, ◌∙◌, ◌<◌, List, [], ◌∷◌, map, Bool, true, false, true≢false, refl, ap, ap₂, sym, subst, subst₂, arith, ℕ, ◌+◌, ◌≤◌}
+use Rattle.std.proofs.Common.{◌≡◌, ◌∙◌, ◌<◌, List, [], ◌∷◌, map, Bool, true, false, true≢false, refl, ap₂, sym, subst, subst₂, arith, ℕ, ◌+◌, ◌≤◌}
 use Rattle.std.specs.Prelude.{zip, IsPermutation, Option, None}
 use Rattle.std.specs.Cmp.{IsStrictWeakOrder}
 use Rattle.std.proofs.lemmas.List.Sorted.{IsPermutation-refl, IsPermutation-map}
@@ -15,7 +15,7 @@ use Rattle.aql_meaning.specs.laws.SomeOrder.{Ascends, AscendsAll, sorted_of_asce
 use Rattle.aql_plan.specs.declared.facts.Facts.{Facts}
 use Rattle.aql_plan.specs.Needs.{result_uses}
 use Rattle.aql_plan.specs.Nodes.{weight, over}
-use Rattle.aql_plan.specs.Plan.{Plan, Over, Node, NoResults, Scatter, Distribute, Gather, Sort, top}
+use Rattle.aql_plan.specs.Plan.{Plan, Singleton, Over, Node, NoResults, Scatter, Distribute, Gather, Sort, top}
 use Rattle.aql_plan.specs.Refines.{world, RefinesFor}
 use Rattle.aql_plan.specs.Runs.{World, Outside, Runs}
 use Rattle.aql_plan.specs.Shapes.{plain_rows, lowest, other_reading, passing, sorting, KeepsShape}
@@ -24,13 +24,14 @@ use Rattle.aql_rewrite.specs.Constant.{AreConstant, constant_then}
 use Rattle.aql_rewrite.specs.Parts.{list_parts}
 use Rattle.aql_rewrite.specs.laws.Constants.{constant_value}
 use Rattle.aql_rewrite.specs.declared.swap.Rename.{Rename}
+use Rattle.aql_rewrite.specs.Changed.{IsChanged}
 use Rattle.aql_rewrite.specs.Places.{Stays, First}
 use Rattle.aql_rewrite.specs.Placed.{IsWhole, Placed}
 use Rattle.aql_rewrite.specs.Swaps.{Replaced, KeepsPlaced}
 use Rattle.aql_rewrite.specs.laws.Carried.{Lowers, first_lowers}
 use Rattle.aql_rewrite.specs.laws.PlacedBelow.{whole_placed}
 use Rattle.aql_rewrite.specs.laws.Weights.{weight_lifts}
-use Rattle.aql_rules_order.specs.Readers.{is_open_sort}
+use Rattle.aql_rules_order.specs.Readers.{is_open_sort, Becomes, InputBecomes}
 use Rattle.aql_rules_order.specs.RemoveRedundantSorts.{IsIdle, goes_by_row, ignores_order, WithoutSort, here, below, Unsorts, constant_keys, order_lost}
 use Rattle.aql_rules_order.specs.laws.Permuted.{unkeyed}
 use Rattle.aql_rules_order.specs.laws.RowsPermuted.{row_by_row, order_free}
@@ -218,45 +219,42 @@ open_sort : (b : Plan) (n : Node) → is_open_sort n ≡ true → WithoutSort (O
 open_sort b (Sort directions es None) h = here
 open_sort b n h = absurd (true≢false (sym h))
 
-pub sort_out_at : (p b q : Plan) → p ≡ Over b (top p) → is_open_sort (top p) ≡ true → q ≡ b
-    → WithoutSort p q
-sort_out_at p b q d h e =
-    subst₂ (λ (m s : Plan). WithoutSort m s) (sym d) (sym e) (open_sort b (top p) h)
-
-pub sort_below_at : (p b c q : Plan) → p ≡ Over b (top p) → goes_by_row (top p) ≡ true → WithoutSort b c
-    → q ≡ over p c → WithoutSort p q
-sort_below_at p b c q d l h e =
-    subst₂ (λ (m s : Plan). WithoutSort m s) (sym d) (sym (e ∙ ap (λ (m : Plan). over m c) d)) (below l h)
+pub sort_out_at : (p q : Plan) → is_open_sort (top p) ≡ true → p ≡ over p q → WithoutSort p q
+sort_out_at Singleton q h e = absurd (true≢false (sym h))
+sort_out_at (Over b n) q h e = subst (λ (p : Plan). WithoutSort p q) (sym e) (open_sort q n h)
 
 pub no_sort_here : (p : Plan) → is_open_sort (top p) ≡ false → goes_by_row (top p) ≡ false
     → (q : Plan) → WithoutSort p q → ⊥
 no_sort_here _ h l _ here = true≢false h
 no_sort_here _ h l _ (below m k) = true≢false (sym m ∙ l)
 
-pub no_sort_below : (p b : Plan) → p ≡ Over b (top p) → is_open_sort (top p) ≡ false
-    → ((c : Plan) → WithoutSort b c → ⊥) → (q : Plan) → WithoutSort p q → ⊥
-no_sort_below _ b d h f _ here = true≢false h
-no_sort_below _ b d h f _ (below {b = a} {c = c} m k) =
-    let e : a ≡ b = cc in f c (subst (λ (m : Plan). WithoutSort m c) e k)
+no_sort_below : (p : Plan) → is_open_sort (top p) ≡ false
+    → ((b c : Plan) → p ≡ Over b (top p) → WithoutSort b c → ⊥) → (q : Plan) → WithoutSort p q → ⊥
+no_sort_below _ h f _ here = true≢false h
+no_sort_below _ h f _ (below {b = b} {c = c} m k) = f b c refl k
 
-pub idle_at : (us : Uses) (p b q : Plan) → p ≡ Over b (top p) → IsIdle (top p) → q ≡ b
-    → Unsorts us p q None
-idle_at us p b q d h e =
-    subst₂ (λ (m s : Plan). Unsorts us m s None) (sym d) (sym e) (constant_keys h)
+pub sort_through : (p q : Plan) (removed : Bool) → is_open_sort (top p) ≡ false
+    → goes_by_row (top p) ≡ true → InputBecomes WithoutSort p q removed → Becomes WithoutSort p q removed
+sort_through p q true h l k =
+    subst₂ (λ (m s : Plan). WithoutSort m s) (sym k.2) (sym k.3) (below l k.4)
+sort_through p q false h l k = (no_sort_below p h k.0, k.1)
 
-pub order_lost_at : (us : Uses) (p b c q : Plan) → p ≡ Over b (top p) → ignores_order (top p) ≡ true
-    → (IsIdle (top p) → ⊥) → WithoutSort b c → q ≡ over p c → Unsorts us p q None
-order_lost_at us p b c q d l other h e =
-    subst₂ (λ (m s : Plan). Unsorts us m s None) (sym d) (sym (e ∙ ap (λ (m : Plan). over m c) d))
-    (order_lost l other h)
+pub idle_at : (us : Uses) (p q : Plan) → IsIdle (top p) → p ≡ over p q → Unsorts us p q None
+idle_at us Singleton q h e = absurd h
+idle_at us (Over b n) q h e = subst (λ (p : Plan). Unsorts us p q None) (sym e) (constant_keys h)
 
 pub stays_sorted : (us : Uses) (p : Plan) → (IsIdle (top p) → ⊥) → ignores_order (top p) ≡ false
     → Stays Unsorts us p
 stays_sorted us _ f l _ _ (constant_keys h) = f h
 stays_sorted us _ f l _ _ (order_lost m other h) = true≢false (sym m ∙ l)
 
-pub stays_without : (us : Uses) (p b : Plan) → p ≡ Over b (top p) → (IsIdle (top p) → ⊥)
-    → ((c : Plan) → WithoutSort b c → ⊥) → Stays Unsorts us p
-stays_without us _ b d f g _ _ (constant_keys h) = f h
-stays_without us _ b d f g _ _ (order_lost {b = a} {c = c} m other h) =
-    let e : a ≡ b = cc in g c (subst (λ (m : Plan). WithoutSort m c) e h)
+stays_without : (us : Uses) (p : Plan) → (IsIdle (top p) → ⊥)
+    → ((b c : Plan) → p ≡ Over b (top p) → WithoutSort b c → ⊥) → Stays Unsorts us p
+stays_without us _ f g _ _ (constant_keys h) = f h
+stays_without us _ f g _ _ (order_lost {b = b} {c = c} m other h) = g b c refl h
+
+pub order_lost_at : (us : Uses) (p q : Plan) (removed : Bool) → (IsIdle (top p) → ⊥)
+    → ignores_order (top p) ≡ true → InputBecomes WithoutSort p q removed → IsChanged Unsorts us p q removed
+order_lost_at us p q true f l k =
+    subst₂ (λ (m s : Plan). Unsorts us m s None) (sym k.2) (sym k.3) (order_lost l f k.4)
+order_lost_at us p q false f l k = (stays_without us p f k.0, k.1)

@@ -16,7 +16,7 @@ use Rattle.aql_meaning.specs.Row.{Row, bind, value_at, same_ident}
 use Rattle.aql_meaning.specs.Uses.{Whole, Part, Uses, Agree, uses, is_used}
 use Rattle.aql_plan.specs.declared.facts.Facts.{Facts}
 use Rattle.aql_plan.specs.Needs.{sets, result_uses}
-use Rattle.aql_plan.specs.Nodes.{weight}
+use Rattle.aql_plan.specs.Nodes.{weight, over, body_in, with_body}
 use Rattle.aql_plan.specs.Plan.{Plan, Singleton, Over, Node, Index, EnumerateList, Calculation, Subquery, Collect, Return, NoResults, Scatter, Distribute, Gather, top}
 use Rattle.aql_plan.specs.Refines.{world}
 use Rattle.aql_plan.specs.Runs.{World, Outside, Runs, result_row, result_of}
@@ -30,6 +30,7 @@ use Rattle.aql_plan_laws.specs.laws.RenamedPlaces.{number_is_no_result}
 use Rattle.aql_plan_laws.specs.laws.ShapesKept.{one_is_rows}
 use Rattle.aql_plan.proofs.SomeRun.{some_run}
 use Rattle.aql_rewrite.specs.declared.swap.Rename.{Rename}
+use Rattle.aql_rewrite.specs.Apart.{is_start, has_body}
 use Rattle.aql_rewrite.specs.Nodes.{gives_new_rows, is_collect}
 use Rattle.aql_rewrite.specs.Places.{Stays, First}
 use Rattle.aql_rewrite.specs.Placed.{IsWhole, Placed}
@@ -42,7 +43,7 @@ use Rattle.aql_rewrite.specs.Sums.{total}
 use Rattle.aql_rewrite.specs.laws.Apart.{vars_counted, counts_itself}
 use Rattle.aql_rewrite.specs.laws.RowsHold.{Leaves, over_holds}
 use Rattle.aql_rewrite.specs.laws.Unused.{agree_unused, unused_from, used_other}
-use Rattle.aql_rules_order.specs.Readers.{over_variable, over_subquery, over_return, may_inline}
+use Rattle.aql_rules_order.specs.Readers.{list_variable, is_plain_return, may_inline, input_of, body_of, with_value, inline}
 use Rattle.aql_rules_order.specs.InlineSubqueries.{is_single, has_collect, started_from, Inlines, inlined}
 
 -- ---- one row
@@ -407,67 +408,99 @@ inlines_keep facts outer away _ _ _ _ placed
 
 -- ---- what the rule finds
 
-pub inlines_at : (us : Uses) (m l k p b q : Plan) (x t s : Ident) (e : ExprTree)
-    → m ≡ Over l (EnumerateList x (variable t)) → l ≡ Over p (Subquery s k) → k ≡ Over b (Return false e)
-    → same_ident s t ≡ true → may_inline us s p b ≡ true
-    → q ≡ Over (started_from p b) (Calculation x e) → Inlines us m q None
-inlines_at us m l k p b q x t s e d f g h a c =
-    let i = and_parts (not (is_used s us) && is_single p) (not (has_collect b)) a in
-    let j = and_parts (not (is_used s us)) (is_single p) i.0 in
-    subst₂ (λ (n o : Plan). Inlines us n o None)
-    (sym (d ∙ ap₂ (λ (n : Plan) (y : Ident). Over n (EnumerateList x (variable y)))
-    (f ∙ ap (λ (n : Plan). Over p (Subquery s n)) g) (sym (same_is s t h)))) (sym c)
-    (inlined (not-true (is_used s us) j.0) j.1 (not-true (has_collect b) i.1))
+plain_return : (n : Node) → is_plain_return n ≡ true → (e : ExprTree) × (n ≡ Return false e)
+plain_return (Return false e) h = (e, refl)
+plain_return n h = absurd (true≢false (sym h))
 
-pub no_variable : (us : Uses) (m : Plan) → over_variable m ≡ None → Stays Inlines us m
+pub no_variable : (us : Uses) (m : Plan) → list_variable (top m) ≡ None → Stays Inlines us m
 no_variable us _ h _ _ (inlined u j l) = cc
 
-no_subquery_in : (us : Uses) (l : Plan) (x t : Ident) → over_subquery l ≡ None
+no_subquery_in : (us : Uses) (l : Plan) (x t : Ident) → body_in (top l) ≡ None
     → Stays Inlines us (Over l (EnumerateList x (variable t)))
 no_subquery_in us _ _ _ h _ _ (inlined u j l) = cc
 
-pub no_subquery : (us : Uses) (m l : Plan) (x t : Ident) → m ≡ Over l (EnumerateList x (variable t))
-    → over_subquery l ≡ None → Stays Inlines us m
-no_subquery us m l x t d h =
-    subst (λ (n : Plan). Stays Inlines us n) (sym d) (no_subquery_in us l x t h)
-
-no_return_in : (us : Uses) (p k : Plan) (x t s : Ident) → over_return k ≡ None
+no_return_in : (us : Uses) (p k : Plan) (x t s : Ident) → is_plain_return (top k) ≡ false
     → Stays Inlines us (Over (Over p (Subquery s k)) (EnumerateList x (variable t)))
-no_return_in us _ _ _ _ _ h _ _ (inlined u j l) = cc
+no_return_in us _ _ _ _ _ h _ _ (inlined u j l) = true≢false h
 
-pub no_return : (us : Uses) (m l k p : Plan) (x t s : Ident) → m ≡ Over l (EnumerateList x (variable t))
-    → l ≡ Over p (Subquery s k) → over_return k ≡ None → Stays Inlines us m
-no_return us m l k p x t s d f h =
-    subst (λ (n : Plan). Stays Inlines us n)
-    (sym (d ∙ ap (λ (n : Plan). Over n (EnumerateList x (variable t))) f)) (no_return_in us p k x t s h)
-
-other_in : (us : Uses) (p b : Plan) (x t s : Ident) (e : ExprTree) → same_ident s t ≡ false
-    → Stays Inlines us (Over (Over p (Subquery s (Over b (Return false e)))) (EnumerateList x (variable t)))
-other_in us _ _ _ _ _ _ h _ _ (inlined {s = s} u j l) = true≢false (sym (same_self s) ∙ h)
-
-pub other_variable : (us : Uses) (m l k p b : Plan) (x t s : Ident) (e : ExprTree)
-    → m ≡ Over l (EnumerateList x (variable t)) → l ≡ Over p (Subquery s k) → k ≡ Over b (Return false e)
-    → same_ident s t ≡ false → Stays Inlines us m
-other_variable us m l k p b x t s e d f g h =
-    subst (λ (n : Plan). Stays Inlines us n)
-    (sym (d ∙ ap (λ (n : Plan). Over n (EnumerateList x (variable t)))
-    (f ∙ ap (λ (n : Plan). Over p (Subquery s n)) g))) (other_in us p b x t s e h)
+other_in : (us : Uses) (p k : Plan) (x t s : Ident) → same_ident s t ≡ false
+    → Stays Inlines us (Over (Over p (Subquery s k)) (EnumerateList x (variable t)))
+other_in us _ _ _ _ _ h _ _ (inlined {s = s} u j l) = true≢false (sym (same_self s) ∙ h)
 
 all_three : (a b c : Bool) → a ≡ false → b ≡ true → c ≡ false → ((not a && b) && not c) ≡ true
 all_three a b c h k l = ap₂ (λ (x y : Bool). (not x && y) && not c) h k ∙ ap not l
 
-may_not_in : (us : Uses) (p b : Plan) (x t s : Ident) (e : ExprTree) → may_inline us s p b ≡ false
-    → Stays Inlines us (Over (Over p (Subquery s (Over b (Return false e)))) (EnumerateList x (variable t)))
+may_not_in : (us : Uses) (p b : Plan) (n : Node) (x t s : Ident) → may_inline us s p b ≡ false
+    → Stays Inlines us (Over (Over p (Subquery s (Over b n))) (EnumerateList x (variable t)))
 may_not_in us _ _ _ _ _ _ h _ _ (inlined {p = p} {b = b} {s = s} u j l) =
     true≢false (sym (all_three (is_used s us) (is_single p) (has_collect b) u j l) ∙ h)
 
-pub may_not : (us : Uses) (m l k p b : Plan) (x t s : Ident) (e : ExprTree)
-    → m ≡ Over l (EnumerateList x (variable t)) → l ≡ Over p (Subquery s k) → k ≡ Over b (Return false e)
-    → may_inline us s p b ≡ false → Stays Inlines us m
-may_not us m l k p b x t s e d f g h =
-    subst (λ (n : Plan). Stays Inlines us n)
-    (sym (d ∙ ap (λ (n : Plan). Over n (EnumerateList x (variable t)))
-    (f ∙ ap (λ (n : Plan). Over p (Subquery s n)) g))) (may_not_in us p b x t s e h)
+inlines_in : (us : Uses) (p b : Plan) (n : Node) (x t s : Ident) → is_plain_return n ≡ true
+    → same_ident s t ≡ true → may_inline us s p b ≡ true
+    → (λ (m : Plan). Inlines us m (inline x m) None)
+    (Over (Over p (Subquery s (Over b n))) (EnumerateList x (variable t)))
+inlines_in us p b n x t s r h a =
+    let i = and_parts (not (is_used s us) && is_single p) (not (has_collect b)) a in
+    let j = and_parts (not (is_used s us)) (is_single p) i.0 in
+    let e = plain_return n r in
+    subst₂ (λ (m : Node) (y : Ident). (λ (q : Plan). Inlines us q (inline x q) None)
+    (Over (Over p (Subquery s (Over b m))) (EnumerateList x (variable y)))) (sym e.1) (same_is s t h)
+    (inlined (not-true (is_used s us) j.0) j.1 (not-true (has_collect b) i.1))
+
+-- a FOR over a variable, over a Subquery, over a body
+module _ (us : Uses) (m l : Plan) (x t : Ident) (d : m ≡ Over l (EnumerateList x (variable t))) where
+  pub no_subquery : body_in (top l) ≡ None → Stays Inlines us m
+  no_subquery h = subst (λ (n : Plan). Stays Inlines us n) (sym d) (no_subquery_in us l x t h)
+
+  module _ (p k : Plan) (s : Ident) (f : l ≡ Over p (Subquery s k)) where
+    over_body : m ≡ Over (Over p (Subquery s k)) (EnumerateList x (variable t))
+    over_body = d ∙ ap (λ (n : Plan). Over n (EnumerateList x (variable t))) f
+
+    pub no_return : is_plain_return (top k) ≡ false → Stays Inlines us m
+    no_return h = subst (λ (n : Plan). Stays Inlines us n) (sym over_body) (no_return_in us p k x t s h)
+
+    pub other_variable : same_ident s t ≡ false → Stays Inlines us m
+    other_variable h = subst (λ (n : Plan). Stays Inlines us n) (sym over_body) (other_in us p k x t s h)
+
+    module _ (b : Plan) (g : k ≡ Over b (top k)) where
+      over_return : m ≡ Over (Over p (Subquery s (Over b (top k)))) (EnumerateList x (variable t))
+      over_return =
+          over_body ∙ ap (λ (n : Plan). Over (Over p (Subquery s n)) (EnumerateList x (variable t))) g
+
+      pub may_not : may_inline us s p b ≡ false → Stays Inlines us m
+      may_not h =
+          subst (λ (n : Plan). Stays Inlines us n) (sym over_return) (may_not_in us p b (top k) x t s h)
+
+      pub inlines_at : is_plain_return (top k) ≡ true → same_ident s t ≡ true → may_inline us s p b ≡ true
+          → Inlines us m (inline x m) None
+      inlines_at r h a =
+          subst (λ (n : Plan). Inlines us n (inline x n) None) (sym over_return)
+          (inlines_in us p b (top k) x t s r h a)
+
+-- what the program takes apart
+pub input_is : (p below : Plan) → p ≡ over p below → (is_start p ≡ true → below ≡ Singleton)
+    → below ≡ input_of p
+input_is Singleton below e h = h refl
+input_is (Over b n) below e h = cc
+
+pub body_is : (p body : Plan) → p ≡ with_body p body → (has_body (top p) ≡ false → body ≡ Singleton)
+    → body ≡ body_of p
+body_is Singleton body e h = h refl
+body_is (Over b (Subquery s k)) body e h = cc
+body_is (Over b n) body e h = h refl
+
+input_kept : (p body : Plan) → input_of (with_body p body) ≡ input_of p
+input_kept Singleton body = refl
+input_kept (Over b (Subquery s k)) body = refl
+input_kept (Over b n) body = refl
+
+pub start_is : (p q start : Plan) → q ≡ with_body p Singleton → start ≡ input_of q → start ≡ input_of p
+start_is p q start e h = h ∙ ap input_of e ∙ input_kept p Singleton
+
+pub inlined_is : (x : Ident) (p node body start made : Plan) → node ≡ input_of p → body ≡ body_of node
+    → start ≡ input_of node → made ≡ with_value x (started_from start body) → made ≡ inline x p
+inlined_is x p node body start made e f g h =
+    h ∙ ap₂ (λ (s b : Plan). with_value x (started_from s b)) (g ∙ ap input_of e) (f ∙ ap body_of e)
 
 collect_beneath : (b : Plan) (n : Node) → is_collect n ≡ false → has_collect b ≡ has_collect (Over b n)
 collect_beneath b (Collect xs es gs i s) h = absurd (true≢false h)

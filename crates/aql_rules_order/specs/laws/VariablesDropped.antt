@@ -1,11 +1,11 @@
 -- A COLLECT without the variables that are not used.
-use Rattle.std.proofs.Common.{◌≡◌, ◌∙◌, ◌<◌, List, [], ◌∷◌, ◌++◌, map, length, Bool, true, false, true≢false, refl, ap, ap₂, sym, subst, subst₂, arith, ◌+◌}
+use Rattle.std.proofs.Common.{◌≡◌, ◌∙◌, ◌<◌, List, [], ◌∷◌, ◌++◌, length, Bool, true, false, true≢false, refl, ap, ap₂, sym, subst, subst₂, arith, ◌+◌}
 use Rattle.std.specs.Prelude.{◌&&◌, cond, filter, Option, None, option_to_list}
 use Rattle.std.specs.List.{AllByRecursion}
 use Rattle.std.proofs.lemmas.List.Folds.{list_all-append}
 use Rattle.aql_tree.specs.declared.syntax.Ident.{Ident}
 use Rattle.aql_tree.specs.Tree.{ExprTree, ExprTrees, AggregateTrees, aggregate_then, IntoTree}
-use Rattle.aql_tree.specs.View.{AggregatePart, LetPart, aggregates, maybe, trees}
+use Rattle.aql_tree.specs.View.{AggregatePart, aggregates, maybe}
 use Rattle.aql_meaning.specs.Numbered.{IsNumber}
 use Rattle.aql_meaning.specs.declared.grouping.Stage.{Stage}
 use Rattle.aql_meaning.specs.declared.grouping.Stage.TheVariants as stage
@@ -14,7 +14,7 @@ use Rattle.aql_meaning.specs.Visible.{aggregate_vars, into_var}
 use Rattle.aql_plan.specs.declared.facts.Facts.{Facts}
 use Rattle.aql_plan.specs.Exprs.{map_node}
 use Rattle.aql_plan.specs.Needs.{result_uses}
-use Rattle.aql_plan.specs.Plan.{Plan, Over, Node, Collect}
+use Rattle.aql_plan.specs.Plan.{Plan, Over, Node, Collect, top}
 use Rattle.aql_plan.specs.Refines.{RefinesFor}
 use Rattle.aql_plan.specs.Shapes.{HasNoFragment, plain_rows, lowest, other_reading, passing, KeepsShape}
 use Rattle.aql_plan.specs.Variables.{vars_of, vars_set}
@@ -28,7 +28,9 @@ use Rattle.aql_rewrite.specs.Swaps.{Replaced, KeepsPlaced}
 use Rattle.aql_rewrite.specs.laws.Among.{has_front, has_back, has_either, among_join, among_split}
 use Rattle.aql_rewrite.specs.Sums.{total}
 use Rattle.aql_rewrite.specs.laws.Falling.{total_falls}
-use Rattle.aql_rules_order.specs.RemoveCollectVariables.{used_aggregates, used_into, own_vars, all_used, Drops, unused_go, vars_to_go}
+use Rattle.aql_rules_order.specs.RemoveCollectVariables.{used_aggregates, used_into, own_vars, all_used, Drops, unused_go}
+use Rattle.aql_rules_order.specs.Measures.{vars_to_go}
+use Rattle.aql_rules_order.specs.Readers.{vars_beside, used_alone}
 use Rattle.aql_rules_order.specs.laws.Members.{by_rows, as_defined}
 use Rattle.aql_rules_order.specs.laws.UsedAlone.{groups_agree, aggregates_among, into_among, still_known, still_plain, own_there, own_fewer, fewer_own}
 use Rattle.aql_plan.specs.Nodes.{weight}
@@ -131,28 +133,28 @@ drops_fall facts = total_falls vars_to_go same_vars facts Drops drops_lower
 
 -- ---- what the rule finds
 
-both_used : (us : Uses) (gs : AggregateTrees) (i : IntoTree)
+pub both_used : (us : Uses) (gs : AggregateTrees) (i : IntoTree)
     → all_used us (own_vars gs i)
     ≡ (all_used us (aggregate_vars gs) && all_used us (option_to_list (into_var i)))
 both_used us gs i = list_all-append (λ x. is_used x us) (aggregate_vars gs) (option_to_list (into_var i))
 
-used_stays : (us : Uses) (b : Plan) (xs : List Ident) (es : ExprTrees) (gs : AggregateTrees) (i : IntoTree)
-    (s : Stage) → all_used us (own_vars gs i) ≡ true → Stays Drops us (Over b (Collect xs es gs i s))
-used_stays us _ _ _ _ _ _ h _ _ (unused_go k) = true≢false (sym h ∙ k)
+pub drops_stays : (us : Uses) (b : Plan) (n : Node) → all_used us (vars_beside n) ≡ true
+    → Stays Drops us (Over b n)
+drops_stays us _ _ h _ _ (unused_go k) = true≢false (sym h ∙ k)
 
-pub drops_stays : (us : Uses) (p b : Plan) (xs : List Ident) (es : ExprTrees) (gs : AggregateTrees)
-    (i : IntoTree) (s : Stage) → p ≡ Over b (Collect xs es gs i s)
-    → (all_used us (aggregate_vars gs) && all_used us (option_to_list (into_var i))) ≡ true
-    → Stays Drops us p
-drops_stays us p b xs es gs i s d h =
-    subst (λ (m : Plan). Stays Drops us m) (sym d) (used_stays us b xs es gs i s (both_used us gs i ∙ h))
+drops_in : (us : Uses) (b : Plan) (n : Node) → all_used us (vars_beside n) ≡ false
+    → Drops us (Over b n) (Over b (used_alone us n)) None
+drops_in us b (Collect xs es gs i s) h = unused_go h
+drops_in us b n h = absurd (true≢false h)
 
-pub drops_at : (us : Uses) (p b q : Plan) (xs : List Ident) (es : ExprTrees) (gs : AggregateTrees)
-    (i : IntoTree) (s : Stage) → p ≡ Over b (Collect xs es gs i s)
-    → (all_used us (aggregate_vars gs) && all_used us (option_to_list (into_var i))) ≡ false
-    → q ≡ Over b (Collect xs es (used_aggregates us gs) (used_into us i) s) → Drops us p q None
-drops_at us p b q xs es gs i s d h e =
-    subst₂ (λ (m r : Plan). Drops us m r None) (sym d) (sym e) (unused_go (both_used us gs i ∙ h))
+pub drops_at : (us : Uses) (p b : Plan) (n m : Node) → p ≡ Over b n → all_used us (vars_beside n) ≡ false
+    → m ≡ used_alone us n → Drops us p (Over b m) None
+drops_at us p b n m d h e =
+    subst₂ (λ (q : Plan) (k : Node). Drops us q (Over b k) None) (sym d) (sym e) (drops_in us b n h)
+
+pub no_drops : (us : Uses) (p : Plan) → vars_beside (top p) ≡ [] → Stays Drops us p
+no_drops us _ h _ _ (unused_go k) =
+    true≢false (sym (ap (all_used us) h) ∙ k)
 
 -- the aggregates that are used, as the program finds them
 pub used_parts : (us : Uses) (all : List AggregatePart)
@@ -170,34 +172,31 @@ used_parts us (a ∷ rest) = by (is_used a.0 us) (used_parts us rest)
     by true e = ap (aggregate_then a.0 a.1 (maybe a.2)) e
     by false e = e
 
--- the node as the program makes it
-pub collect_made : (us : Uses) (b c : Plan) (lets others : List LetPart) (all kept : List AggregatePart)
-    (i j : IntoTree) (s : Stage) → c ≡ b → others ≡ lets
+-- the node as the program changes it
+pub collect_made : (us : Uses) (xs : List Ident) (es : ExprTrees) (all kept : List AggregatePart)
+    (i j : IntoTree) (s : Stage) (n : Node) → n ≡ Collect xs es (aggregates all) i s
     → kept ≡ filter (λ (a : AggregatePart). is_used a.0 us) all → j ≡ used_into us i
-    → Over c (Collect (map (λ l. l.0) others) (trees (map (λ l. l.1) others)) (aggregates kept) j s)
-    ≡ Over b (Collect (map (λ l. l.0) lets) (trees (map (λ l. l.1) lets))
-    (used_aggregates us (aggregates all)) (used_into us i) s)
-collect_made us b c lets others all kept i j s d e f h =
-    ap₂ (λ (m : Plan) (ls : List LetPart). Over m (Collect (map (λ l. l.0) ls) (trees (map (λ l. l.1) ls))
-    (aggregates kept) j s)) d e
-    ∙ ap₂ (λ (gs : AggregateTrees) (k : IntoTree). Over b (Collect (map (λ l. l.0) lets)
-    (trees (map (λ l. l.1) lets)) gs k s)) (ap aggregates f ∙ used_parts us all) h
+    → Collect xs es (aggregates kept) j s ≡ used_alone us n
+collect_made us xs es all kept i j s n d e f =
+    ap₂ (λ (gs : AggregateTrees) (k : IntoTree). Collect xs es gs k s) (ap aggregates e ∙ used_parts us all) f
+    ∙ ap (used_alone us) (sym d)
 
 -- variables are numbers
-pub own_numbers : (facts : Facts) (us : Uses) (p b : Plan) (xs : List Ident) (es : ExprTrees)
-    (gs : AggregateTrees) (i : IntoTree) (s : Stage) → IsPlaced false false facts us p
-    → p ≡ Over b (Collect xs es gs i s)
-    → AllByRecursion IsNumber (aggregate_vars gs) × AllByRecursion IsNumber (option_to_list (into_var i))
-own_numbers facts us p b xs es gs i s placed d =
-    by s (subst (λ (m : Plan). HasNoFragment m) d placed.2.suits)
+pub own_numbers : (facts : Facts) (us : Uses) (p b : Plan) (n : Node) → IsPlaced false false facts us p
+    → p ≡ Over b n → AllByRecursion IsNumber (vars_beside n)
+own_numbers facts us p b n placed d =
+    by n (subst (λ (m : Plan). HasNoFragment m) d placed.2.suits)
     (subst (λ (m : Plan). AllByRecursion IsNumber (vars_set m)) d placed.2.numbers)
   where
-    by : (s : Stage) → HasNoFragment (Over b (Collect xs es gs i s))
-        → AllByRecursion IsNumber (vars_set (Over b (Collect xs es gs i s)))
-        → AllByRecursion IsNumber (aggregate_vars gs) × AllByRecursion IsNumber (option_to_list (into_var i))
-    by stage.Whole lone h =
+    by : (n : Node) → HasNoFragment (Over b n) → AllByRecursion IsNumber (vars_set (Over b n))
+        → AllByRecursion IsNumber (vars_beside n)
+    by (Collect xs es gs i stage.Whole) lone h =
         let k = all_parts IsNumber (xs ++ own_vars gs i) (vars_set b) h in
-        let l = all_parts IsNumber xs (own_vars gs i) k.0 in
-        all_parts IsNumber (aggregate_vars gs) (option_to_list (into_var i)) l.1
-    by stage.Partial lone h = absurd lone.1
-    by stage.Final lone h = absurd lone.1
+        (all_parts IsNumber xs (own_vars gs i) k.0).1
+    by (Collect xs es gs i stage.Partial) lone h = absurd lone.1
+    by (Collect xs es gs i stage.Final) lone h = absurd lone.1
+    by n lone h = tt
+
+pub numbers_apart : (gs : AggregateTrees) (i : IntoTree) → AllByRecursion IsNumber (own_vars gs i)
+    → AllByRecursion IsNumber (aggregate_vars gs) × AllByRecursion IsNumber (option_to_list (into_var i))
+numbers_apart gs i = all_parts IsNumber (aggregate_vars gs) (option_to_list (into_var i))
