@@ -3,13 +3,13 @@ use Rattle.std.proofs.Common.{◌≡◌, ◌∙◌, ℕ, suc, List, [], ◌∷�
 use Rattle.std.specs.Prelude.{Option, Some, None, MatchOption, slice_get, filter, not, bytes_eq, eqb}
 use Rattle.std.specs.List.{AllByRecursion, IsDistinct}
 use Rattle.std.proofs.lemmas.Bool.{eqb-true}
-use Rattle.std_collections.proofs.DistinctSets.{IsDistinct-filter}
 use Rattle.std.proofs.lemmas.Slice.Eq.{bytes_eq-Decides}
 use Rattle.aql_meaning.specs.Visible.{each_once}
 use Rattle.aql_plan.specs.declared.facts.Facts.{Facts}
 use Rattle.aql_plan.specs.declared.facts.CollFact.{CollFact}
 use Rattle.aql_plan.specs.Fits.{IsEdgeCollection}
 use Rattle.aql_plan.specs.FirstPlan.{place_of, coll_number}
+use Rattle.aql_build.proofs.Collections.{all_kept}
 
 -- the collection at the place of a name has that name
 Named : List ℕ → Option CollFact → Type 0
@@ -77,12 +77,24 @@ rest_differs n (m ∷ ms) = by (bytes_eq n m) refl (rest_differs n ms)
     by true e h = h
     by false e h = (e, h)
 
+-- what is kept of distinct names is distinct
+kept_differ : (keeps : List ℕ → Bool) (ms : List (List ℕ)) → IsDistinct bytes_eq ms
+    → IsDistinct bytes_eq (filter keeps ms)
+unfolding IsDistinct
+kept_differ keeps [] d = d
+kept_differ keeps (m ∷ ms) d = by (keeps m) (kept_differ keeps ms d.1)
+  where
+    by : (b : Bool) → IsDistinct bytes_eq (filter keeps ms)
+        → IsDistinct bytes_eq (cond b (m ∷ filter keeps ms) (filter keeps ms))
+    by true h = (all_kept (λ k. bytes_eq m k ≡ false) keeps ms d.0, h)
+    by false h = h
+
 names_differ : (names : List (List ℕ)) → IsDistinct bytes_eq (each_once names)
 unfolding IsDistinct
 names_differ [] = tt
 names_differ (n ∷ ns) = (
   rest_differs n (each_once ns),
-  IsDistinct-filter bytes_eq (λ m. not (bytes_eq n m)) (each_once ns) (names_differ ns),
+  kept_differ (λ m. not (bytes_eq n m)) (each_once ns) (names_differ ns),
 )
 
 pub collections_differ : (facts : Facts) (names : List (List ℕ))

@@ -199,11 +199,7 @@ fn over_collected<'a>(
     }
 }
 
-fn node_shape_over<'a>(
-    node: &'a Node,
-    facts: &'a Facts,
-    below: Shape<'a>,
-) -> Option<Shape<'a>>
+fn node_shape_over<'a>(node: &'a Node, facts: &'a Facts, below: Shape<'a>) -> Option<Shape<'a>>
     requires { Fits facts.now (node_tree node.now) }
     ensures { MatchOption result (MayStand (node_tree node.now) (shape_of below.entry) → ⊥)
         (λ s. MayStand (node_tree node.now) (shape_of below.entry)

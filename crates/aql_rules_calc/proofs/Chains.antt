@@ -3,7 +3,7 @@ use Rattle.std.proofs.Common.{◌≡◌, ◌∙◌, ◌<◌, ◌+◌, ℕ, List,
 use Rattle.std.proofs.Common.{append_assoc, Bool, true, false, cond, refl, ap, sym, subst, subst₂, rules}
 use Rattle.std.specs.Prelude.{Option, Some, None, MatchOption}
 use Rattle.std.specs.Borrow.{Bor}
-use Rattle.std.proofs.lemmas.List.{nil_from_length, append-nil, take_more, take-append-drop, map-append}
+use Rattle.std.proofs.lemmas.List.{append-nil, take_more, take-append-drop, map-append}
 use Rattle.aql_value.specs.declared.operators.BinOp.{BinOp}
 use Rattle.aql_value.specs.declared.operators.BinOp.TheVariants.{Eq, IsIn}
 use Rattle.aql_tree.specs.declared.syntax.Expr.{Expr, the_lemmas}
@@ -27,10 +27,6 @@ module _ (e : Expr) (es : List Expr) (h : e ≡ code.List es) where
   as_array : tree e ≡ array_literal (trees (map tree es))
   as_array = ap tree h
       ∙ (let k : tree (code.List es) ≡ array_literal (trees (map tree es)) = search (rules, the_lemmas) in k)
-
-  pub no_element : length es ≡ 0 → array_in (tree e) ≡ None
-  no_element n = ap array_in (as_array ∙ ap (λ (ds : List Expr). array_literal (trees (map tree ds)))
-      (nil_from_length es n))
 
   pub some_elements : (length es ≡ 0 → ⊥) → array_in (tree e) ≡ Some (map tree es)
   some_elements n = ap array_in as_array ∙ by es n

@@ -13,5 +13,5 @@ returns-then-not-is_unneeded c = (
 
 pub returns : goal.returns
 returns c = removes_back (above_uses c.args.above.now) (plan_tree c.args.part.now)
-    (plan_tree c.replace_below.result) _ c.replace_below.ensures.input
+    (plan_tree c.replace_below-below.result) _ c.replace_below-below.ensures.input
     (sym c.is_unneeded.ensures ∙ c.if-not-is_unneeded.false) refl
