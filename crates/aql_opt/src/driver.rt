@@ -18,6 +18,7 @@ use aql_plan::{Facts, Plan, Plans, RuleName, RuleNames};
 use aql_rules_order::candidates;
 use aql_value::{OutOfMemory, Seq};
 use std::alloc::Global;
+use std::mem;
 
 /// The rules whose passes run before there are candidates.
 const FIRST: [RuleName; 2] = [RuleName::SimplifyConditions, RuleName::InlineSubqueries];
@@ -136,45 +137,42 @@ fn run_rules(
 // The plans to choose from.
 fn candidates_by(
     alloc: Global,
-    plan: &Plan,
+    plan: Plan,
     rules: &Rules,
     facts: &Facts,
 ) -> Result<Plans, OutOfMemory>
-    requires { IsWhole false facts.now (plan_tree plan.now) }
+    requires { IsWhole false facts.now (plan_tree plan) }
     ensures candidates { IfOk result
-        (λ all. CandidatesBy rules.now (plan_tree plan.now) (map plan_tree all)) }
+        (λ all. CandidatesBy rules.now (plan_tree plan) (map plan_tree all)) }
     ensures stand { IfOk result (λ all. AllByRecursion
-        (StandsFor facts.now (plan_tree plan.now)) (map plan_tree all)) }
-    ensures first { IfOk result (λ all. (others : List spec_Plan)
-        × (map plan_tree all ≡ plan_tree plan.now ∷ others)) }
+        (StandsFor facts.now (plan_tree plan)) (map plan_tree all)) }
     ensures some { IfOk result (λ all. 1 ≤ length all) }
 {
     if rules.has(RuleName::InterchangeAdjacentEnumerations) {
         return candidates(alloc, plan, facts);
     }
     let mut all = Seq::new(alloc);
-    all.push(plan.copy(alloc)?)?;
+    all.push(plan)?;
     Ok(all)
 }
 
 // A candidate with the later passes.
-fn ended(
+fn finish(
     alloc: Global,
-    candidate: &Plan,
+    candidate: Plan,
     reordered: bool,
     rules: &Rules,
     facts: &Facts,
 ) -> Result<Candidate, OutOfMemory>
-    requires { IsWhole false facts.now (plan_tree candidate.now) }
-    ensures runs { IfOk result (λ x. AfterRules facts.now rules.now (plan_tree candidate.now)
+    requires { IsWhole false facts.now (plan_tree candidate) }
+    ensures runs { IfOk result (λ x. AfterRules facts.now rules.now (plan_tree candidate)
         later_rules (plan_tree x.plan) x.applied) }
     ensures stands { IfOk result
-        (λ x. StandsFor facts.now (plan_tree candidate.now) (plan_tree x.plan)) }
+        (λ x. StandsFor facts.now (plan_tree candidate) (plan_tree x.plan)) }
     ensures cost { IfOk result (λ x. x.cost ≡ cost_of facts.now (plan_tree x.plan)) }
     ensures reordered { IfOk result (λ x. x.reordered ≡ reordered) }
 {
-    let plan = candidate.copy(alloc)?;
-    let Rewritten { plan, applied } = run_rules(alloc, &LATER, plan, rules, facts)?;
+    let Rewritten { plan, applied } = run_rules(alloc, &LATER, candidate, rules, facts)?;
     let cost = estimate(&plan, facts).cost;
     Ok(Candidate {
         plan,
@@ -184,33 +182,55 @@ fn ended(
     })
 }
 
-// The candidate that ends cheapest, the first of these.
-fn cheapest(
+// The candidate that ends cheapest, the first of these. The others are taken out of their list.
+fn cheapest_of(
     alloc: Global,
-    plan: &Plan,
+    first: Plan,
+    others: &mut [Plan],
     rules: &Rules,
     facts: &Facts,
 ) -> Result<Candidate, OutOfMemory>
-    requires { IsWhole false facts.now (plan_tree plan.now) }
-    ensures best { IfOk result (λ x. (candidates : List spec_Plan)
-        × CandidatesBy rules.now (plan_tree plan.now) candidates
-        × Best facts.now rules.now candidates (plan_tree x.plan) x.applied x.reordered) }
-    ensures stands { IfOk result
-        (λ x. StandsFor facts.now (plan_tree plan.now) (plan_tree x.plan)) }
+    requires first { IsWhole false facts.now (plan_tree first) }
+    requires others { AllByRecursion (IsWhole false facts.now) (map plan_tree others.old) }
+    ensures best { IfOk result (λ x. Best facts.now rules.now
+        (plan_tree first ∷ map plan_tree others.old) (plan_tree x.plan) x.applied x.reordered) }
+    ensures stands { IfOk result (λ x. (p : spec_Plan) → StandsFor facts.now p (plan_tree first)
+        → AllByRecursion (StandsFor facts.now p) (map plan_tree others.old)
+        → StandsFor facts.now p (plan_tree x.plan)) }
     ensures cost { IfOk result (λ x. x.cost ≡ cost_of facts.now (plan_tree x.plan)) }
 {
-    let candidates = candidates_by(alloc, plan, rules, facts)?;
-    match candidates.as_slice().split_first() {
+    let mut best = finish(alloc, first, false, rules, facts)?;
+    for candidate in others.iter_mut() {
+        let candidate = mem::replace(candidate, Plan::Singleton);
+        let other = finish(alloc, candidate, true, rules, facts)?;
+        if other.cost < best.cost {
+            best = other;
+        }
+    }
+    Ok(best)
+}
+
+// The candidate for a plan that ends cheapest, the first of these.
+fn cheapest(
+    alloc: Global,
+    plan: Plan,
+    rules: &Rules,
+    facts: &Facts,
+) -> Result<Candidate, OutOfMemory>
+    requires { IsWhole false facts.now (plan_tree plan) }
+    ensures best { IfOk result (λ x. (candidates : List spec_Plan)
+        × CandidatesBy rules.now (plan_tree plan) candidates
+        × Best facts.now rules.now candidates (plan_tree x.plan) x.applied x.reordered) }
+    ensures stands { IfOk result
+        (λ x. StandsFor facts.now (plan_tree plan) (plan_tree x.plan)) }
+    ensures cost { IfOk result (λ x. x.cost ≡ cost_of facts.now (plan_tree x.plan)) }
+{
+    let mut candidates = candidates_by(alloc, plan, rules, facts)?;
+    match candidates.as_mut_slice().split_first_mut() {
         None => unreachable!(),
         Some((first, others)) => {
-            let mut best = ended(alloc, first, false, rules, facts)?;
-            for candidate in others {
-                let other = ended(alloc, candidate, true, rules, facts)?;
-                if other.cost < best.cost {
-                    best = other;
-                }
-            }
-            Ok(best)
+            let first = mem::replace(first, Plan::Singleton);
+            cheapest_of(alloc, first, others, rules, facts)
         }
     }
 }
@@ -254,7 +274,7 @@ pub fn optimise(
     ensures sets { IfOk result (λ x. SetsNoMore (plan_tree plan) (plan_tree x.plan)) }
 {
     let Rewritten { plan, applied } = run_rules(alloc, &FIRST, plan, rules, facts)?;
-    let chosen = cheapest(alloc, &plan, rules, facts)?;
+    let chosen = cheapest(alloc, plan, rules, facts)?;
     let mut applied = with_order(applied, chosen.reordered)?;
     add_names(chosen.applied.as_slice(), &mut applied)?;
     Ok(Optimised {

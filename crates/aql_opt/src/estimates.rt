@@ -5,15 +5,14 @@ ghost use Rattle.std.specs.Int.{div_ceil};
 ghost use Rattle.aql_tree.specs.Tree.{range_of};
 ghost use Rattle.aql_tree.specs.View.{tree, maybe};
 ghost use Rattle.aql_meaning.specs.View.{last_tree};
-ghost use Rattle.aql_plan.specs.Plan.{top};
 ghost use Rattle.aql_plan.specs.Fits.{exprs_in};
-ghost use Rattle.aql_plan.specs.View.{plan_tree, expr_trees};
+ghost use Rattle.aql_plan.specs.View.{node_tree, plan_tree, expr_trees};
 ghost use Rattle.aql_opt.specs.Estimate.{times, binary_digits, documents_in, widest, range_size};
 ghost use Rattle.aql_opt.specs.Estimate.{elements_in, literal_elements, guess, filtered, at_most};
 ghost use Rattle.aql_opt.specs.Estimate.{shards_reached, gives, estimate, node_estimate};
 
 use aql_meaning::Last;
-use aql_plan::{Facts, Plan};
+use aql_plan::{Facts, Node, Plan};
 use aql_tree::Expr;
 use aql_value::{CollNo, Value};
 
@@ -59,7 +58,7 @@ fn shards(coll: CollNo, only: Option<u32>, facts: &Facts) -> u64
     }
 }
 
-fn widest(coll: CollNo, index: u32, attributes: usize, facts: &Facts) -> u64
+fn largest_group(coll: CollNo, index: u32, attributes: usize, facts: &Facts) -> u64
     ensures { result ≡ widest facts.now coll.0 index attributes }
 {
     let Some(collection) = facts.collections.get(coll.0 as usize) else {
@@ -127,7 +126,7 @@ fn guess(coll: CollNo, index: u32, equal: usize, next: usize, last: &Last, facts
     requires { next ≡ equal + 1 }
     ensures { result ≡ guess facts.now coll.0 index equal (last_tree last.now) }
 {
-    let found = widest(coll, index, equal, facts);
+    let found = largest_group(coll, index, equal, facts);
     match last {
         Last::None => {
             if equal == 0 {
@@ -137,8 +136,8 @@ fn guess(coll: CollNo, index: u32, equal: usize, next: usize, last: &Last, facts
             }
         }
         Last::OneOf(list) => {
-            let widest_next = widest(coll, index, next, facts);
-            let all = widest_next.saturating_mul(literal_elements(list, 10));
+            let next_group = largest_group(coll, index, next, facts);
+            let all = next_group.saturating_mul(literal_elements(list, 10));
             documents(coll, facts).min(all)
         }
         Last::Range { low, high } => match (low.is_some(), high.is_some()) {
@@ -157,7 +156,7 @@ fn guess_for(coll: CollNo, index: u32, equal: &[Expr], last: &Last, facts: &Fact
 }
 
 // So many rows, which cost so much beside the input.
-fn given(input: Cost, rows: u64, more: u64) -> Cost
+fn cost_after(input: Cost, rows: u64, more: u64) -> Cost
     ensures { result ≡ gives input rows more }
 {
     Cost {
@@ -166,7 +165,7 @@ fn given(input: Cost, rows: u64, more: u64) -> Cost
     }
 }
 
-fn filtered(filter: &Option<Expr>, rows: u64) -> u64
+fn rows_kept(filter: &Option<Expr>, rows: u64) -> u64
     ensures { result ≡ filtered (maybe (option_map tree filter.now)) rows }
 {
     match filter {
@@ -175,20 +174,20 @@ fn filtered(filter: &Option<Expr>, rows: u64) -> u64
     }
 }
 
-fn walked(input: Cost, min: u32, max: u32) -> Cost
+fn traversal_estimate(input: Cost, min: u32, max: u32) -> Cost
     ensures { result ≡ gives input (times input.rows (10 * (max - min + 1)))
         (times input.rows (10 * (max + 1))) }
 {
     let depths = u64::from(max.saturating_sub(min)) + 1;
     let rows = input.rows.saturating_mul(10 * depths);
-    given(
+    cost_after(
         input,
         rows,
         input.rows.saturating_mul(10 * (u64::from(max) + 1)),
     )
 }
 
-fn sorted(input: Cost, limit: Option<u64>) -> Cost
+fn sort_estimate(input: Cost, limit: Option<u64>) -> Cost
     ensures { result ≡ gives input (at_most limit input.rows)
         (times input.rows (1 + binary_digits input.rows)) }
 {
@@ -196,24 +195,23 @@ fn sorted(input: Cost, limit: Option<u64>) -> Cost
         Some(limit) => input.rows.min(limit),
         None => input.rows,
     };
-    given(
+    cost_after(
         input,
         rows,
         input.rows.saturating_mul(1 + binary_digits(input.rows)),
     )
 }
 
-#[cycle(estimate)]
-fn node_estimate(node: &Plan, input: Cost, facts: &Facts) -> Cost
-    ensures { result ≡ node_estimate facts.now (top (plan_tree node.now)) input }
+fn node_estimate(node: &Node, input: Cost, facts: &Facts) -> Cost
+    ensures { result ≡ node_estimate facts.now (node_tree node.now) input }
 {
     let rows = input.rows;
     match node {
-        Plan::EnumerateCollection { coll, filter, .. } => {
+        Node::EnumerateCollection { coll, filter, .. } => {
             let read = rows.saturating_mul(documents(*coll, facts));
-            given(input, filtered(filter, read), read)
+            cost_after(input, rows_kept(filter, read), read)
         }
-        Plan::Index {
+        Node::Index {
             coll,
             filter,
             index,
@@ -224,46 +222,52 @@ fn node_estimate(node: &Plan, input: Cost, facts: &Facts) -> Cost
             let found = guess_for(*coll, *index, equal.as_slice(), last, facts);
             let read = rows.saturating_mul(found);
             let more = rows.saturating_mul(found.saturating_add(1));
-            given(input, filtered(filter, read), more)
+            cost_after(input, rows_kept(filter, read), more)
         }
-        Plan::EnumerateList { list, .. } => {
+        Node::EnumerateList { list, .. } => {
             let read = rows.saturating_mul(elements(list, 100));
-            given(input, read, read)
+            cost_after(input, read, read)
         }
-        Plan::Traversal { min, max, .. } => walked(input, *min, *max),
-        Plan::Subquery { body, .. } => {
-            given(input, rows, rows.saturating_mul(estimate(body, facts).cost))
-        }
-        Plan::Filter { .. } => given(input, half(rows), rows),
-        Plan::Sort { limit, .. } => sorted(input, *limit),
-        Plan::Limit { offset, count, .. } => {
+        Node::Traversal { min, max, .. } => traversal_estimate(input, *min, *max),
+        Node::Filter { .. } => cost_after(input, half(rows), rows),
+        Node::Sort { limit, .. } => sort_estimate(input, *limit),
+        Node::Limit { offset, count, .. } => {
             let kept = rows.saturating_sub(*offset).min(*count);
-            given(input, kept, kept)
+            cost_after(input, kept, kept)
         }
-        Plan::Collect { groups, .. } => {
-            let given_rows = if groups.len() == 0 { 1 } else { half(rows) };
-            given(input, given_rows, rows)
+        Node::Collect { groups, .. } => {
+            let classes = if groups.len() == 0 { 1 } else { half(rows) };
+            cost_after(input, classes, rows)
         }
-        Plan::Singleton | Plan::NoResults { .. } => Cost { rows: 0, cost: 1 },
-        Plan::Scatter { coll, only, .. } => {
-            given(
+        Node::NoResults => Cost { rows: 0, cost: 1 },
+        Node::Scatter { coll, only, .. } => {
+            cost_after(
                 input,
                 rows,
                 rows.saturating_mul(shards(*coll, *only, facts)),
             )
         }
-        _ => given(input, rows, rows),
+        _ => cost_after(input, rows, rows),
     }
+}
+
+// A Subquery, whose body runs once for each row.
+fn subquery_estimate(input: Cost, body: Cost) -> Cost
+    ensures { result ≡ gives input input.rows (times input.rows body.cost) }
+{
+    cost_after(input, input.rows, input.rows.saturating_mul(body.cost))
 }
 
 /// The estimate of a plan: a line for each node in `specs/Estimate.antt`. Sums and products end at
 /// the greatest number, and halves are rounded up.
-#[cycle(estimate)]
 pub fn estimate(plan: &Plan, facts: &Facts) -> Cost
     ensures { result ≡ estimate facts.now (plan_tree plan.now) }
 {
-    match plan.below() {
-        None => Cost { rows: 1, cost: 1 },
-        Some(below) => node_estimate(plan, estimate(below, facts), facts),
+    match plan {
+        Plan::Singleton => Cost { rows: 1, cost: 1 },
+        Plan::Over { below, node } => node_estimate(node, estimate(below, facts), facts),
+        Plan::Subquery { below, body, .. } => {
+            subquery_estimate(estimate(below, facts), estimate(body, facts))
+        }
     }
 }

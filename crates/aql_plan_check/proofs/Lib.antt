@@ -3,6 +3,7 @@ mod Finding
 mod Numbered
 mod Whole
 mod Tests
+mod Once
 mod UsesFound
 mod Distinct
 mod Shaping

@@ -41,3 +41,11 @@ pub sets_over : (p b : Plan) → p ≡ Over b (top p)
     ↔ AllByRecursion IsNumber (vars_set p)
 sets_over p b e = subst (λ (q : Plan). (AllByRecursion IsNumber (set_once (top p)) × AllByRecursion IsNumber (vars_set b))
     ↔ AllByRecursion IsNumber (vars_set q)) (sym e) (joined IsNumber (set_once (top p)) (vars_set b))
+
+-- three that hold, and three that are tested
+pub six : {A B C D E F : Type 0} (r : Bool) → A × B × C → IsTrue r ↔ (D × E × F)
+    → IsTrue r ↔ (A × B × C × D × E × F)
+six r p h = (
+  (λ t. let d = h.0 t in (p.0, p.1, p.2, d.0, d.1, d.2)),
+  (λ q. h.1 (q.3, q.4, q.5)),
+)

@@ -1,10 +1,10 @@
 -- The variables of rows, by number: for the contracts of private functions.
-use Rattle.std.specs.Prelude.{ℕ, ◌≡◌, ◌↔◌, List, ◌++◌, map, Bool, true, false, IsTrue}
+use Rattle.std.specs.Prelude.{ℕ, ◌≡◌, ◌↔◌, List, ◌++◌, map, Bool, IsTrue}
 use Rattle.std.specs.List.{list_any, AllByRecursion}
 use Rattle.aql_tree.specs.declared.syntax.Ident.{Ident}
 use Rattle.aql_tree.specs.declared.syntax.Ident.TheVariants.{Name, Num}
 use Rattle.aql_meaning.specs.Row.{same_ident}
-use Rattle.aql_plan.specs.Plan.{Plan, Singleton, Over, Node, Subquery, Collect, Return}
+use Rattle.aql_plan.specs.Plan.{Plan, Singleton, Over, Node, Subquery, Return}
 use Rattle.aql_plan.specs.Needs.{sets}
 use Rattle.aql_plan.specs.Variables.{FindsAll, vars_of}
 
@@ -27,11 +27,6 @@ IsNum (Name name) = ⊥
 
 abbrev pub AreNumbers : List Ident → Type 0
 AreNumbers xs = AllByRecursion IsNum xs
-
--- a node whose rows have the start row's variables and its own alone
-abbrev pub is_collect : Node → Bool
-is_collect (Collect xs es gs i s) = true
-is_collect n = false
 
 abbrev pub GivesRows : Node → Type 0
 GivesRows (Return distinct e) = ⊥

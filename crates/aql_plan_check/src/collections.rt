@@ -1,7 +1,7 @@
 //! What is known of the collections.
 
-ghost use Rattle.std.specs.Prelude.{◌≡◌, ◌+◌, ◌↔◌, IsTrue, length, map, slice_get, option_copied};
-ghost use Rattle.std.specs.List.{AllByRecursion};
+ghost use Rattle.std.specs.Prelude.{◌≡◌, ◌+◌, ◌↔◌, IsTrue, length, map, eqb, slice_get, option_copied};
+ghost use Rattle.std.specs.List.{list_any, AllByRecursion, IsDistinct};
 ghost use Rattle.aql_plan.specs.declared.facts.CollFact.{CollFact};
 ghost use Rattle.aql_plan.specs.declared.facts.IndexFact.{IndexFact};
 ghost use Rattle.aql_plan.specs.Facts.{keys_in, indexes_in, attributes_in};
@@ -72,6 +72,29 @@ pub(crate) fn are_edge_collections(facts: &Facts, all: &[CollNo]) -> bool
 {
     for coll in all {
         if !is_edge_collection(facts, *coll) {
+            return false;
+        }
+    }
+    true
+}
+
+fn is_among(coll: CollNo, others: &[CollNo]) -> bool
+    ensures { result ≡ list_any (eqb coll.0) (map (λ (c : CollNo). c.0) others.now) }
+{
+    for other in others {
+        if coll.0 == other.0 {
+            return true;
+        }
+    }
+    false
+}
+
+/// Whether each of these collections is named once.
+pub(crate) fn are_distinct(all: &[CollNo]) -> bool
+    ensures { IsTrue result ↔ IsDistinct eqb (map (λ (c : CollNo). c.0) all.now) }
+{
+    for (at, coll) in all.iter().enumerate() {
+        if is_among(*coll, &all[at + 1..]) {
             return false;
         }
     }

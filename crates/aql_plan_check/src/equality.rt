@@ -11,24 +11,14 @@ ghost use Rattle.aql_plan.specs.Shapes as spec;
 ghost use Rattle.aql_plan_check.specs.Sameness.{LetsSame, KeysSame, AggregatesSame, AreAttributes};
 
 use crate::shapes::Order;
-use aql_rewrite::same_expr;
+use aql_rewrite::{same_expr, same_variable};
 use aql_tree::{AggregateItem, Expr, Ident, Key, Let, Step};
 use aql_value::Text;
-
-fn same_ident(a: &Ident, b: &Ident) -> bool
-    ensures { IsTrue result ↔ (a.now ≡ b.now) }
-{
-    match (a, b) {
-        (Ident::Name(a), Ident::Name(b)) => a.as_str() == b.as_str(),
-        (Ident::Num(a), Ident::Num(b)) => *a == *b,
-        _ => false,
-    }
-}
 
 fn same_let(a: &Let, b: &Let) -> bool
     ensures { IsTrue result ↔ LetsSame (let_part a.now ∷ []) (let_part b.now ∷ []) }
 {
-    same_ident(&a.var, &b.var) && same_expr(&a.expr, &b.expr)
+    same_variable(&a.var, &b.var) && same_expr(&a.expr, &b.expr)
 }
 
 /// Whether these variables take the same expressions, without a subquery.
@@ -82,7 +72,7 @@ fn same_aggregate(a: &AggregateItem, b: &AggregateItem) -> bool
     ensures { IsTrue result
         ↔ AggregatesSame (aggregate_part a.now ∷ []) (aggregate_part b.now ∷ []) }
 {
-    same_ident(&a.var, &b.var)
+    same_variable(&a.var, &b.var)
         && a.name.as_str() == b.name.as_str()
         && same_argument(&a.arg, &b.arg)
 }

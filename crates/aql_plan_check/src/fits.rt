@@ -1,20 +1,20 @@
 //! What each node needs by itself.
 
-ghost use Rattle.std.specs.Prelude.{◌≡◌, ◌↔◌, ◌≤◌, ◌<◌, ◌^◌, IsTrue, MatchOption, length, map, option_map, option_copied};
-ghost use Rattle.std.specs.List.{AllByRecursion};
+ghost use Rattle.std.specs.Prelude.{◌≡◌, ◌↔◌, ◌≤◌, ◌<◌, ◌^◌, IsTrue, MatchOption, length, map, eqb, option_map, option_copied};
+ghost use Rattle.std.specs.List.{AllByRecursion, IsDistinct};
 ghost use Rattle.aql_tree.specs.View.{tree, trees, maybe};
 ghost use Rattle.aql_meaning.specs.Plain.{AllPlain, IsPlain, MaybePlain};
 ghost use Rattle.aql_meaning.specs.View.{last_tree};
 ghost use Rattle.aql_plan.specs.Facts.{keys_in};
 ghost use Rattle.aql_plan.specs.Fits.{Fits, LastPlain, IsEdgeCollection, BoundsFit, KindFits, KeepsOrder, exprs_in};
 ghost use Rattle.aql_plan.specs.Plan.{top};
-ghost use Rattle.aql_plan.specs.View.{plan_tree};
+ghost use Rattle.aql_plan.specs.View.{node_tree, plan_tree};
 
 use crate::aggregates::{all_known, into_plain};
 use crate::bounds::{index_fits, last_plain};
-use crate::collections::{are_edge_collections, index_of, is_shard, key_count};
+use crate::collections::{are_distinct, are_edge_collections, index_of, is_shard, key_count};
 use crate::plain::{all_plain, is_plain, keys_plain, lets_plain, maybe_plain};
-use aql_plan::{Facts, IndexFact, Last, Plan};
+use aql_plan::{Facts, IndexFact, Last, Node, Plan};
 use aql_tree::Expr;
 use aql_value::{CollNo, Names};
 
@@ -54,9 +54,9 @@ fn traversal_is_plain(start: &Expr, prune: &Option<Expr>, filter: &Option<Expr>)
 fn edges_fit(facts: &Facts, collections: &[CollNo], min: u32, max: u32) -> bool
     ensures { IsTrue result
         ↔ (AllByRecursion (IsEdgeCollection facts.now) (map (λ (c : CollNo). c.0) collections.now)
-        × (min ≤ max)) }
+        × (min ≤ max) × IsDistinct eqb (map (λ (c : CollNo). c.0) collections.now)) }
 {
-    are_edge_collections(facts, collections) && min <= max
+    are_edge_collections(facts, collections) && min <= max && are_distinct(collections)
 }
 
 // A limit is a number of 64 bits.
@@ -95,18 +95,17 @@ fn distribution_fits(facts: &Facts, coll: CollNo, exprs: &[Expr]) -> bool
     all_plain(exprs) && count(exprs) == key_count(facts, coll)
 }
 
-/// Whether the node at the top has what it needs by itself.
-pub(crate) fn fits(plan: &Plan, facts: &Facts) -> bool
-    ensures { IsTrue result ↔ Fits facts.now (top (plan_tree plan.now)) }
+fn node_fits(node: &Node, facts: &Facts) -> bool
+    ensures { IsTrue result ↔ Fits facts.now (node_tree node.now) }
 {
-    match plan {
-        Plan::EnumerateCollection {
+    match node {
+        Node::EnumerateCollection {
             coll,
             filter,
             shard,
             ..
         } => is_shard(facts, *coll, *shard) && maybe_plain(filter),
-        Plan::Index {
+        Node::Index {
             coll,
             filter,
             attrs,
@@ -122,8 +121,8 @@ pub(crate) fn fits(plan: &Plan, facts: &Facts) -> bool
                 && maybe_plain(filter)
                 && index_node_fits(known, attrs, equal.as_slice(), last, *ordered)
         }
-        Plan::EnumerateList { list, .. } => is_plain(list),
-        Plan::Traversal {
+        Node::EnumerateList { list, .. } => is_plain(list),
+        Node::Traversal {
             min,
             max,
             start,
@@ -135,14 +134,14 @@ pub(crate) fn fits(plan: &Plan, facts: &Facts) -> bool
             traversal_is_plain(start, prune, filter)
                 && edges_fit(facts, collections.as_slice(), *min, *max)
         }
-        Plan::Calculation { expr, .. } => is_plain(expr),
-        Plan::Filter { cond, .. } => is_plain(cond),
-        Plan::Sort { keys, limit, .. } => {
+        Node::Calculation { expr, .. } => is_plain(expr),
+        Node::Filter { cond, .. } => is_plain(cond),
+        Node::Sort { keys, limit, .. } => {
             recall_limit(*limit);
             keys_plain(keys.as_slice())
         }
-        Plan::Limit { offset, count, .. } => offset.checked_add(*count).is_some(),
-        Plan::Collect {
+        Node::Limit { offset, count, .. } => offset.checked_add(*count).is_some(),
+        Node::Collect {
             groups,
             aggregates,
             into,
@@ -150,12 +149,22 @@ pub(crate) fn fits(plan: &Plan, facts: &Facts) -> bool
         } => {
             lets_plain(groups.as_slice()) && all_known(aggregates.as_slice()) && into_plain(into)
         }
-        Plan::Return { expr, .. } => is_plain(expr),
-        Plan::Scatter { coll, only, .. } => is_shard(facts, *coll, *only),
-        Plan::Distribute { coll, exprs, .. } => {
+        Node::Return { expr, .. } => is_plain(expr),
+        Node::Scatter { coll, only, .. } => is_shard(facts, *coll, *only),
+        Node::Distribute { coll, exprs, .. } => {
             is_shard(facts, *coll, None) && distribution_fits(facts, *coll, exprs.as_slice())
         }
-        Plan::Gather { order, .. } => keys_plain(order.as_slice()),
+        Node::Gather { order, .. } => keys_plain(order.as_slice()),
+        _ => true,
+    }
+}
+
+/// Whether the node at the top has what it needs by itself.
+pub(crate) fn fits(plan: &Plan, facts: &Facts) -> bool
+    ensures { IsTrue result ↔ Fits facts.now (top (plan_tree plan.now)) }
+{
+    match plan {
+        Plan::Over { node, .. } => node_fits(node, facts),
         _ => true,
     }
 }

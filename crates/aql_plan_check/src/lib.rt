@@ -22,7 +22,6 @@ ghost use Rattle.aql_plan.specs.WellFormed.{IsWellFormed};
 
 use crate::sets::{distinct, sets_numbers};
 use crate::uses::result_finds;
-use crate::{collections_fit, has_result};
 use aql_plan::{Facts, Plan};
 use aql_value::OutOfMemory;
 pub use collections::collections_fit;

@@ -6,10 +6,10 @@ ghost use Rattle.aql_tree.specs.View.{let_part, aggregate_part, into_part, aggre
 ghost use Rattle.aql_meaning.specs.Visible.{aggregate_vars, into_var};
 ghost use Rattle.aql_plan.specs.Plan.{top};
 ghost use Rattle.aql_plan.specs.Needs.{sets};
-ghost use Rattle.aql_plan.specs.View.{plan_tree};
+ghost use Rattle.aql_plan.specs.View.{node_tree, plan_tree};
 ghost use Rattle.aql_plan_check.specs.Rows.{AreNumbers, GivesRows, Adds};
 
-use aql_plan::Plan;
+use aql_plan::{Node, Plan};
 use aql_tree::{AggregateItem, Ident, Into, Let};
 use aql_value::OutOfMemory;
 use indexmap::IndexSet;
@@ -128,6 +128,32 @@ fn add_traversed(
     Ok(())
 }
 
+fn add_node_sets(rows: &mut Variables, node: &Node) -> Result<(), OutOfMemory>
+    requires numbers { AreNumbers (sets (node_tree node.now)) }
+    requires rows { GivesRows (node_tree node.now) }
+    ensures { OnOk result (Adds rows.old.keys (sets (node_tree node.now)) rows.new.keys) }
+{
+    match node {
+        Node::EnumerateCollection { var, .. } => add_number(rows, *var),
+        Node::Index { var, .. } => add_number(rows, *var),
+        Node::EnumerateList { var, .. } => add_number(rows, *var),
+        Node::Traversal {
+            vertex,
+            edge,
+            path,
+            ..
+        } => add_traversed(rows, *vertex, *edge, *path),
+        Node::Calculation { var, .. } => add_number(rows, *var),
+        Node::Collect {
+            groups,
+            aggregates,
+            into,
+            ..
+        } => add_collected(rows, groups.as_slice(), aggregates.as_slice(), into),
+        _ => Ok(()),
+    }
+}
+
 /// Adds what a node sets, apart from a Return.
 pub(crate) fn add_sets(rows: &mut Variables, plan: &Plan) -> Result<(), OutOfMemory>
     requires numbers { AreNumbers (sets (top (plan_tree plan.now))) }
@@ -136,23 +162,8 @@ pub(crate) fn add_sets(rows: &mut Variables, plan: &Plan) -> Result<(), OutOfMem
         (Adds rows.old.keys (sets (top (plan_tree plan.now))) rows.new.keys) }
 {
     match plan {
-        Plan::EnumerateCollection { var, .. } => add_number(rows, *var),
-        Plan::Index { var, .. } => add_number(rows, *var),
-        Plan::EnumerateList { var, .. } => add_number(rows, *var),
-        Plan::Traversal {
-            vertex,
-            edge,
-            path,
-            ..
-        } => add_traversed(rows, *vertex, *edge, *path),
-        Plan::Calculation { var, .. } => add_number(rows, *var),
+        Plan::Singleton => Ok(()),
+        Plan::Over { node, .. } => add_node_sets(rows, node),
         Plan::Subquery { var, .. } => add_number(rows, *var),
-        Plan::Collect {
-            groups,
-            aggregates,
-            into,
-            ..
-        } => add_collected(rows, groups.as_slice(), aggregates.as_slice(), into),
-        _ => Ok(()),
     }
 }

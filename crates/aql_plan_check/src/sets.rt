@@ -8,10 +8,10 @@ ghost use Rattle.aql_meaning.specs.Numbered.{IsNumber};
 ghost use Rattle.aql_meaning.specs.Visible.{aggregate_vars, into_var};
 ghost use Rattle.aql_plan.specs.Plan.{top};
 ghost use Rattle.aql_plan.specs.Variables.{vars_set, set_once, are_distinct};
-ghost use Rattle.aql_plan.specs.View.{plan_tree};
+ghost use Rattle.aql_plan.specs.View.{node_tree, plan_tree};
 ghost use Rattle.aql_plan_check.specs.Rows.{variables};
 
-use aql_plan::{Plan, Stage};
+use aql_plan::{Node, Plan, Stage};
 use aql_tree::{AggregateItem, Ident, Into, Let};
 use aql_value::OutOfMemory;
 use indexmap::IndexSet;
@@ -85,23 +85,21 @@ fn collect_numbers(groups: &[Let], all: &[AggregateItem], into: &Option<Into>) -
     groups_numbers(groups) && results_numbers(all, into)
 }
 
-#[cycle(numbers)]
-fn node_sets_numbers(plan: &Plan) -> bool
-    ensures { IsTrue result ↔ AllByRecursion IsNumber (set_once (top (plan_tree plan.now))) }
+fn node_sets_numbers(node: &Node) -> bool
+    ensures { IsTrue result ↔ AllByRecursion IsNumber (set_once (node_tree node.now)) }
 {
-    match plan {
-        Plan::EnumerateCollection { var, .. } => *var != 0,
-        Plan::Index { var, .. } => *var != 0,
-        Plan::EnumerateList { var, .. } => *var != 0,
-        Plan::Traversal {
+    match node {
+        Node::EnumerateCollection { var, .. } => *var != 0,
+        Node::Index { var, .. } => *var != 0,
+        Node::EnumerateList { var, .. } => *var != 0,
+        Node::Traversal {
             vertex,
             edge,
             path,
             ..
         } => *vertex != 0 && maybe_number(*edge) && maybe_number(*path),
-        Plan::Calculation { var, .. } => *var != 0,
-        Plan::Subquery { var, body, .. } => *var != 0 && sets_numbers(body),
-        Plan::Collect {
+        Node::Calculation { var, .. } => *var != 0,
+        Node::Collect {
             groups,
             aggregates,
             into,
@@ -116,6 +114,17 @@ fn node_sets_numbers(plan: &Plan) -> bool
     }
 }
 
+#[cycle(numbers)]
+fn top_sets_numbers(plan: &Plan) -> bool
+    ensures { IsTrue result ↔ AllByRecursion IsNumber (set_once (top (plan_tree plan.now))) }
+{
+    match plan {
+        Plan::Singleton => true,
+        Plan::Over { node, .. } => node_sets_numbers(node),
+        Plan::Subquery { var, body, .. } => *var != 0 && sets_numbers(body),
+    }
+}
+
 /// Whether each variable that a plan sets is a number from 1 on.
 #[cycle(numbers)]
 pub(crate) fn sets_numbers(plan: &Plan) -> bool
@@ -123,7 +132,7 @@ pub(crate) fn sets_numbers(plan: &Plan) -> bool
 {
     match plan.below() {
         None => true,
-        Some(below) => node_sets_numbers(plan) && sets_numbers(below),
+        Some(below) => top_sets_numbers(plan) && sets_numbers(below),
     }
 }
 

@@ -7,7 +7,7 @@ ghost use Rattle.aql_plan.specs.declared.facts.Facts.{Facts};
 ghost use Rattle.aql_plan.specs.Fits.{AllKnown, Fits};
 ghost use Rattle.aql_plan.specs.Plan.{top};
 ghost use Rattle.aql_plan.specs.Shapes.{Rows, Foot, Sent, IsSent};
-ghost use Rattle.aql_plan.specs.View.{plan_tree, directions, key_trees};
+ghost use Rattle.aql_plan.specs.View.{node_tree, plan_tree, directions, key_trees};
 ghost use Rattle.aql_plan_laws.specs.laws.ShapeOnce.{is_one, reading_over, ordering_over, filter_over, gather_over};
 ghost use Rattle.aql_plan_check.specs.Standing.{IsRows, HasRows, MayRead, MayReadInOrder, MayGather, MayStand, next};
 ghost use Rattle.aql_plan_check.specs.Sameness.{LetsSame, AggregatesSame};
@@ -16,7 +16,7 @@ ghost use Rattle.aql_plan_check.specs.View.{all_states_of, collect_of, order_of,
 use crate::collections::attributes_of;
 use crate::equality::{orders_by, same_aggregates, same_lets};
 use crate::shapes::{Order, Shape, States};
-use aql_plan::{Facts, Plan, Stage};
+use aql_plan::{Facts, Node, Plan, Stage};
 use aql_tree::{Into, Key};
 use aql_value::CollNo;
 
@@ -199,21 +199,15 @@ fn over_collected<'a>(
     }
 }
 
-/// The shape of the node at the top of a plan over a part of this shape; `None` exactly where it
-/// may not stand there.
-pub(crate) fn shape_over<'a>(
-    plan: &'a Plan,
-    facts: &'a Facts,
-    below: Shape<'a>,
-) -> Option<Shape<'a>>
-    requires { Fits facts.now (top (plan_tree plan.now)) }
-    ensures { MatchOption result (MayStand (top (plan_tree plan.now)) (shape_of below.entry) → ⊥)
-        (λ s. MayStand (top (plan_tree plan.now)) (shape_of below.entry)
-        × (shape_of s ≡ next facts.now (top (plan_tree plan.now)) (shape_of below.entry))) }
+fn node_shape_over<'a>(node: &'a Node, facts: &'a Facts, below: Shape<'a>) -> Option<Shape<'a>>
+    requires { Fits facts.now (node_tree node.now) }
+    ensures { MatchOption result (MayStand (node_tree node.now) (shape_of below.entry) → ⊥)
+        (λ s. MayStand (node_tree node.now) (shape_of below.entry)
+        × (shape_of s ≡ next facts.now (node_tree node.now) (shape_of below.entry))) }
 {
-    match plan {
-        Plan::EnumerateCollection { coll, shard, .. } => over_read(*coll, *shard, below),
-        Plan::Index {
+    match node {
+        Node::EnumerateCollection { coll, shard, .. } => over_read(*coll, *shard, below),
+        Node::Index {
             var,
             coll,
             shard,
@@ -231,10 +225,10 @@ pub(crate) fn shape_over<'a>(
                 over_read_in_order(*coll, *shard, order, below)
             }
         },
-        Plan::Calculation { .. } => over_same(below),
-        Plan::Filter { .. } => over_filtered(below),
-        Plan::Sort { keys, .. } => over_sorted(Order::Keys(keys.as_slice()), below),
-        Plan::Collect {
+        Node::Calculation { .. } => over_same(below),
+        Node::Filter { .. } => over_filtered(below),
+        Node::Sort { keys, .. } => over_sorted(Order::Keys(keys.as_slice()), below),
+        Node::Collect {
             groups,
             aggregates,
             into,
@@ -247,16 +241,33 @@ pub(crate) fn shape_over<'a>(
             };
             over_collected(states, into, *stage, below)
         }
-        Plan::Subquery { .. } => over_rows(below, below),
-        Plan::Return { .. } => over_rows(below, Shape::Result),
-        Plan::Scatter { coll, .. } => over_foot(*coll, below),
-        Plan::Distribute { coll, .. } => over_foot(*coll, below),
-        Plan::Remote { .. } => over_link(below),
-        Plan::Gather { order, .. } => over_gathered(order.as_slice(), below),
+        Node::Return { .. } => over_rows(below, Shape::Result),
+        Node::Scatter { coll, .. } => over_foot(*coll, below),
+        Node::Distribute { coll, .. } => over_foot(*coll, below),
+        Node::Remote => over_link(below),
+        Node::Gather { order, .. } => over_gathered(order.as_slice(), below),
+        Node::EnumerateList { .. } => over_rows(below, Shape::Rows(false)),
+        Node::Traversal { .. } => over_rows(below, Shape::Rows(false)),
+        Node::Limit { .. } => over_rows(below, Shape::Rows(false)),
+        Node::NoResults => over_rows(below, Shape::Rows(false)),
+    }
+}
+
+/// The shape of the node at the top of a plan over a part of this shape; `None` exactly where it
+/// may not stand there.
+pub(crate) fn shape_over<'a>(
+    plan: &'a Plan,
+    facts: &'a Facts,
+    below: Shape<'a>,
+) -> Option<Shape<'a>>
+    requires { Fits facts.now (top (plan_tree plan.now)) }
+    ensures { MatchOption result (MayStand (top (plan_tree plan.now)) (shape_of below.entry) → ⊥)
+        (λ s. MayStand (top (plan_tree plan.now)) (shape_of below.entry)
+        × (shape_of s ≡ next facts.now (top (plan_tree plan.now)) (shape_of below.entry))) }
+{
+    match plan {
         Plan::Singleton => over_rows(below, Shape::Rows(false)),
-        Plan::EnumerateList { .. } => over_rows(below, Shape::Rows(false)),
-        Plan::Traversal { .. } => over_rows(below, Shape::Rows(false)),
-        Plan::Limit { .. } => over_rows(below, Shape::Rows(false)),
-        Plan::NoResults { .. } => over_rows(below, Shape::Rows(false)),
+        Plan::Over { node, .. } => node_shape_over(node, facts, below),
+        Plan::Subquery { .. } => over_rows(below, below),
     }
 }

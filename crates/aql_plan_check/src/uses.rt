@@ -7,15 +7,16 @@ ghost use Rattle.aql_meaning.specs.View.{end_tree, last_tree};
 ghost use Rattle.aql_meaning.specs.Visible.{aggregate_vars};
 ghost use Rattle.aql_plan.specs.Plan.{top};
 ghost use Rattle.aql_plan.specs.Variables.{FindsAll, FindsInside};
-ghost use Rattle.aql_plan.specs.View.{plan_tree, key_trees};
+ghost use Rattle.aql_plan.specs.View.{node_tree, plan_tree, key_trees};
 ghost use Rattle.aql_plan_check.specs.Findings.{AllFind, AggregatesFind, IntoFinds, EndFinds, LastFinds};
 ghost use Rattle.aql_plan_check.specs.Findings.{AreAmong, InputFinds, FilterFinds};
-ghost use Rattle.aql_plan_check.specs.Rows as spec;
+ghost use Rattle.aql_rewrite.specs.Nodes.{is_collect as spec_is_collect};
 ghost use Rattle.aql_plan_check.specs.Rows.{variables, RowsNumbered, ResultNumbered, BodyNumbered, Finds, Grows};
 
 use crate::found::{all_find, finds, is_there, maybe_finds};
 use crate::rows::{Variables, add_sets};
-use aql_plan::{Edge, Last, Plan, Stage};
+use aql_plan::{Edge, Last, Node, Plan, Stage};
+use aql_rewrite::is_collect;
 use aql_tree::{AggregateItem, Into, Key, Let};
 use aql_value::OutOfMemory;
 
@@ -121,20 +122,19 @@ fn last_finds(last: &Last, rows: &Variables) -> bool
     }
 }
 
-fn input_finds(plan: &Plan, rows: &Variables) -> bool
-    ensures { IsTrue result
-        ↔ InputFinds (variables rows.now.keys) (top (plan_tree plan.now)) }
+fn node_input_finds(node: &Node, rows: &Variables) -> bool
+    ensures { IsTrue result ↔ InputFinds (variables rows.now.keys) (node_tree node.now) }
 {
-    match plan {
-        Plan::Index { equal, last, .. } => {
+    match node {
+        Node::Index { equal, last, .. } => {
             all_find(equal.as_slice(), rows) && last_finds(last, rows)
         }
-        Plan::EnumerateList { list, .. } => finds(list, rows),
-        Plan::Traversal { start, .. } => finds(start, rows),
-        Plan::Calculation { expr, .. } => finds(expr, rows),
-        Plan::Filter { cond, .. } => finds(cond, rows),
-        Plan::Sort { keys, .. } => keys_find(keys.as_slice(), rows),
-        Plan::Collect {
+        Node::EnumerateList { list, .. } => finds(list, rows),
+        Node::Traversal { start, .. } => finds(start, rows),
+        Node::Calculation { expr, .. } => finds(expr, rows),
+        Node::Filter { cond, .. } => finds(cond, rows),
+        Node::Sort { keys, .. } => keys_find(keys.as_slice(), rows),
+        Node::Collect {
             groups,
             aggregates,
             into,
@@ -148,9 +148,32 @@ fn input_finds(plan: &Plan, rows: &Variables) -> bool
             Stage::Whole => collect_finds(groups.as_slice(), aggregates.as_slice(), into, rows),
             Stage::Partial => collect_finds(groups.as_slice(), aggregates.as_slice(), into, rows),
         },
-        Plan::Return { expr, .. } => finds(expr, rows),
-        Plan::Distribute { exprs, .. } => all_find(exprs.as_slice(), rows),
-        Plan::Gather { order, .. } => keys_find(order.as_slice(), rows),
+        Node::Return { expr, .. } => finds(expr, rows),
+        Node::Distribute { exprs, .. } => all_find(exprs.as_slice(), rows),
+        Node::Gather { order, .. } => keys_find(order.as_slice(), rows),
+        _ => true,
+    }
+}
+
+fn input_finds(plan: &Plan, rows: &Variables) -> bool
+    ensures { IsTrue result
+        ↔ InputFinds (variables rows.now.keys) (top (plan_tree plan.now)) }
+{
+    match plan {
+        Plan::Over { node, .. } => node_input_finds(node, rows),
+        _ => true,
+    }
+}
+
+fn node_filter_finds(node: &Node, rows: &Variables) -> bool
+    ensures { IsTrue result ↔ FilterFinds (variables rows.now.keys) (node_tree node.now) }
+{
+    match node {
+        Node::EnumerateCollection { filter, .. } => maybe_finds(filter, rows),
+        Node::Index { filter, .. } => maybe_finds(filter, rows),
+        Node::Traversal { prune, filter, .. } => {
+            maybe_finds(prune, rows) && maybe_finds(filter, rows)
+        }
         _ => true,
     }
 }
@@ -160,27 +183,14 @@ fn filter_finds(plan: &Plan, rows: &Variables) -> bool
         ↔ FilterFinds (variables rows.now.keys) (top (plan_tree plan.now)) }
 {
     match plan {
-        Plan::EnumerateCollection { filter, .. } => maybe_finds(filter, rows),
-        Plan::Index { filter, .. } => maybe_finds(filter, rows),
-        Plan::Traversal { prune, filter, .. } => {
-            maybe_finds(prune, rows) && maybe_finds(filter, rows)
-        }
+        Plan::Over { node, .. } => node_filter_finds(node, rows),
         _ => true,
-    }
-}
-
-fn is_collect(plan: &Plan) -> bool
-    ensures { result ≡ spec.is_collect (top (plan_tree plan.now)) }
-{
-    match plan {
-        Plan::Collect { .. } => true,
-        _ => false,
     }
 }
 
 // The rows of a Collect have the first variables alone, and its own.
 fn start_again(plan: &Plan, rows: &mut Variables, start: usize)
-    ensures { rows.new.keys ≡ cond (spec.is_collect (top (plan_tree plan.now)))
+    ensures { rows.new.keys ≡ cond (spec_is_collect (top (plan_tree plan.now)))
         (take start rows.old.keys) rows.old.keys }
 {
     if is_collect(plan) {
@@ -240,7 +250,10 @@ pub(crate) fn result_finds(plan: &Plan, rows: &mut Variables) -> Result<bool, Ou
     ensures rows { IfOk result (λ found. IsTrue found → Grows rows.old.keys rows.new.keys) }
 {
     match plan {
-        Plan::Return { below, .. } => Ok(rows_find(below, rows)? && input_finds(plan, rows)),
+        Plan::Over { below, node } => match &**node {
+            Node::Return { expr, .. } => Ok(rows_find(below, rows)? && finds(expr, rows)),
+            _ => Ok(false),
+        },
         _ => Ok(false),
     }
 }

@@ -8,7 +8,7 @@ use Rattle.aql_value.specs.declared.operators.BinOp.{BinOp}
 use Rattle.aql_value.specs.declared.operators.BinOp.TheVariants.{Eq, IsIn}
 use Rattle.aql_tree.specs.declared.syntax.Expr.{Expr, the_lemmas}
 use Rattle.aql_tree.specs.declared.syntax.Expr as code
-use Rattle.aql_tree.specs.Tree.{ExprTree, array_literal, chain, LinkTrees, no_links, link_then}
+use Rattle.aql_tree.specs.Tree.{ExprTree, array_literal, chain, expr_then, LinkTrees, no_links, link_then}
 use Rattle.aql_tree.specs.View.{tree, trees, links, LinkPart}
 use Rattle.aql_meaning.specs.Plain.{IsPlain}
 use Rattle.aql_rewrite.specs.Constant.{IsConstant}
@@ -23,10 +23,18 @@ use Rattle.aql_rules_calc.specs.ReplaceOrWithIn.{AllCompare, no_more, compares_t
 
 -- ---- forms
 
-pub array_of : (e : Expr) (es : _) → e ≡ code.List es → array_in (tree e) ≡ Some (map tree es)
-array_of e es h = ap array_in (ap tree h
-    ∙ (let k : tree (code.List es) ≡ array_literal (trees (map tree es)) = search (rules, the_lemmas) in k))
-    ∙ ap Some (listed (map tree es))
+module _ (e : Expr) (es : List Expr) (h : e ≡ code.List es) where
+  as_array : tree e ≡ array_literal (trees (map tree es))
+  as_array = ap tree h
+      ∙ (let k : tree (code.List es) ≡ array_literal (trees (map tree es)) = search (rules, the_lemmas) in k)
+
+  pub some_elements : (length es ≡ 0 → ⊥) → array_in (tree e) ≡ Some (map tree es)
+  some_elements n = ap array_in as_array ∙ by es n
+    where
+      by : (ds : List Expr) → (length ds ≡ 0 → ⊥)
+          → array_in (array_literal (trees (map tree ds))) ≡ Some (map tree ds)
+      by [] n = absurd (n refl)
+      by (d ∷ ds) n = ap Some (listed (map tree (d ∷ ds)))
 
 is_chain : (e d : ExprTree) (ls : LinkTrees) → chain_in e ≡ Some (d, ls) → e ≡ chain d ls
 is_chain (chain f ks) d ls h =
@@ -60,9 +68,10 @@ compares : (e k : ExprTree) (op : BinOp) (ks : List ExprTree) → IsPlain e → 
 compares e k Eq ks p c h =
     let same : k ∷ [] ≡ ks = cc in
     subst (λ (x : List ExprTree). Compares e (operation e Eq k) x) same (equal_to p c)
-compares e (array_literal js) IsIn ks p c h =
-    let same : list_parts js ≡ ks = cc in
-    subst (λ (x : List ExprTree). Compares e (operation e IsIn (array_literal js)) x) same (one_of p c)
+compares e (array_literal (expr_then j js)) IsIn ks p c h =
+    let same : list_parts (expr_then j js) ≡ ks = cc in
+    subst (λ (x : List ExprTree). Compares e (operation e IsIn (array_literal (expr_then j js))) x) same
+    (one_of p c)
 compares e k op ks p c h = cc
 
 -- of `e op k` that the program found

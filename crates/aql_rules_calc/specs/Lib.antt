@@ -2,6 +2,7 @@ pub mod RemoveUnnecessaryCalculations
 pub mod MoveCalculationsUp
 pub mod RemoveRedundantCalculations
 pub mod ReduceExtractionToProjection
+pub mod Measures
 pub mod Projections
 pub mod Readers
 pub mod laws

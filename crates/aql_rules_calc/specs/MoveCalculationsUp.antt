@@ -35,18 +35,3 @@ pub data Moves : Uses → Plan → Plan → Option Rename → Type 0 where
   swapped : {us : Uses} {b : Plan} {upper lower : Node} → may_pass upper lower ≡ true
       → none_used (sets lower) (uses_alone upper) ≡ true
       → Moves us (Over (Over b lower) upper) (Over (Over b upper) lower) None
-
--- ---- what falls: for each Calculation and Subquery, the nodes below it on its spine that are neither
-
-abbrev mutual
-  pub others_below : Plan → ℕ
-  others_below Singleton = 0
-  others_below (Over b (Calculation x e)) = others_below b
-  others_below (Over b (Subquery x s)) = others_below b
-  others_below (Over b n) = others_below b + 1
-
-  pub height : Plan → ℕ
-  height Singleton = 0
-  height (Over b (Calculation x e)) = height b + others_below b
-  height (Over b (Subquery x s)) = height b + (others_below b + height s)
-  height (Over b n) = height b

@@ -2,7 +2,7 @@
 use Rattle.std.specs.Prelude.{List, [], ◌∷◌, cond, Option, Some, None, option_map}
 use Rattle.aql_value.specs.declared.operators.BinOp.{BinOp}
 use Rattle.aql_value.specs.declared.operators.BinOp.TheVariants.{Eq, IsIn}
-use Rattle.aql_tree.specs.Tree.{ExprTree, array_literal, chain, LinkTrees, no_links, link_then}
+use Rattle.aql_tree.specs.Tree.{ExprTree, array_literal, chain, expr_then, LinkTrees, no_links, link_then}
 use Rattle.aql_rewrite.specs.Parts.{list_parts}
 use Rattle.aql_rules_calc.specs.ReplaceOrWithIn.{is_or_chain}
 
@@ -10,8 +10,9 @@ abbrev pub chain_in : ExprTree → Option (ExprTree × LinkTrees)
 chain_in (chain e ls) = Some (e, ls)
 chain_in e = None
 
+-- the elements of an array literal that has some
 abbrev pub array_in : ExprTree → Option (List ExprTree)
-array_in (array_literal es) = Some (list_parts es)
+array_in (array_literal (expr_then e es)) = Some (list_parts (expr_then e es))
 array_in e = None
 
 -- the sides of `e op k`

@@ -64,20 +64,3 @@ pub data Reduces (facts : Facts) : Uses → Plan → Plan → Option Rename → 
       → Reduces facts us (Over b (Index x index equal last ordered))
       (Over b (Index (keeping (names_used x.var (us ++ order_uses facts x index ordered)) x)
       index equal last ordered)) None
-
--- ---- what falls: how many nodes read documents whole, those of bodies too
-
-abbrev pub reads_whole : Option (List (List ℕ)) → ℕ
-reads_whole None = 1
-reads_whole (Some names) = 0
-
-abbrev mutual
-  pub whole_readers : Plan → ℕ
-  whole_readers Singleton = 0
-  whole_readers (Over b n) = whole_readers b + readers_in n
-
-  pub readers_in : Node → ℕ
-  readers_in (EnumerateCollection x) = reads_whole x.attrs
-  readers_in (Index x index equal last ordered) = reads_whole x.attrs
-  readers_in (Subquery x s) = whole_readers s
-  readers_in n = 0

@@ -5,7 +5,7 @@ use Rattle.aql_tree.specs.declared.syntax.Ident.{Ident}
 use Rattle.aql_tree.specs.declared.syntax.Ident.TheVariants.{Num}
 use Rattle.aql_tree.specs.Tree.{ExprTree}
 use Rattle.aql_meaning.specs.Uses.{Uses}
-use Rattle.aql_plan.specs.Plan.{Plan, Over, Node, Calculation, top}
+use Rattle.aql_plan.specs.Plan.{Plan, Over, Node, Calculation}
 use Rattle.aql_rewrite.specs.declared.swap.Rename.{Rename}
 use Rattle.aql_rewrite.specs.Nodes.{gives_new_rows}
 
@@ -25,11 +25,3 @@ renaming v w = record { from = v; to = w }
 pub data Redundant : Uses → Plan → Plan → Option Rename → Type 0 where
   calculated_twice : {us : Uses} {b : Plan} {v w : ℕ} {e : ExprTree} → Calculates e (Num w) b
       → Redundant us (Over b (Calculation (Num v) e)) b (Some (renaming v w))
-
--- ---- for the contracts of private functions alone, whatever is used above
-
-abbrev pub IsRedundant : Plan → Plan → Rename → Type 0
-IsRedundant p b r = (us : Uses) → (p ≡ Over b (top p)) × Redundant us p b (Some r)
-
-abbrev pub IsNotRedundant : Plan → Type 0
-IsNotRedundant p = (us : Uses) (q : Plan) (r : Option Rename) → Redundant us p q r → ⊥

@@ -1,9 +1,9 @@
 -- The rule replace-or-with-in: a `||` chain whose every part is `e == k` or `e IN [k, ..]`, with one e, which
--- is not constant, and constant k, becomes `e IN` the array of all k, in order.
+-- is not constant, and constant k, one or more, becomes `e IN` the array of all k, in order.
 use Rattle.std.specs.Prelude.{◌≡◌, List, [], ◌∷◌, ◌++◌, Bool, true, false, ◌&&◌}
 use Rattle.aql_value.specs.declared.operators.BinOp.{BinOp}
 use Rattle.aql_value.specs.declared.operators.BinOp.TheVariants.{Or, Eq, IsIn}
-use Rattle.aql_tree.specs.Tree.{ExprTree, array_literal, chain, ExprTrees, LinkTrees, no_links, link_then}
+use Rattle.aql_tree.specs.Tree.{ExprTree, array_literal, chain, ExprTrees, expr_then, LinkTrees, no_links, link_then}
 use Rattle.aql_tree.specs.View.{trees}
 use Rattle.aql_meaning.specs.Plain.{IsPlain}
 use Rattle.aql_rewrite.specs.Constant.{IsConstant}
@@ -29,8 +29,8 @@ operation e op k = chain e (link_then op k no_links)
 -- d compares e, which holds no subquery, with the constants ks
 pub data Compares (e : ExprTree) : ExprTree → List ExprTree → Type 0 where
   equal_to : {k : ExprTree} → IsPlain e → IsConstant k → Compares e (operation e Eq k) (k ∷ [])
-  one_of : {ks : ExprTrees} → IsPlain e → IsConstant (array_literal ks)
-      → Compares e (operation e IsIn (array_literal ks)) (list_parts ks)
+  one_of : {k : ExprTree} {ks : ExprTrees} → IsPlain e → IsConstant (array_literal (expr_then k ks))
+      → Compares e (operation e IsIn (array_literal (expr_then k ks))) (list_parts (expr_then k ks))
 
 -- each expression of a list does, and ks is what they compare it with, in order
 pub data AllCompare (e : ExprTree) : List ExprTree → List ExprTree → Type 0 where

@@ -4,24 +4,58 @@ ghost use Rattle.std.specs.Prelude.{◌≡◌, true, IfOk, option_map, option_to
 ghost use Rattle.aql_tree.specs.declared.syntax.Ident.TheVariants.{Num};
 ghost use Rattle.aql_plan.specs.Needs.{sets};
 ghost use Rattle.aql_plan.specs.Plan.{top};
-ghost use Rattle.aql_plan.specs.View.{plan_tree};
+ghost use Rattle.aql_plan.specs.View.{node_tree, plan_tree};
 ghost use Rattle.aql_rewrite.specs.Nodes.{uses_alone};
 ghost use Rattle.aql_rules_calc.specs.MoveCalculationsUp.{enumerates as spec_enumerates};
+ghost use Rattle.aql_rules_calc.specs.MoveCalculationsUp.{enumerates_or_sorts as spec_enumerates_or_sorts};
 ghost use Rattle.aql_rules_calc.specs.MoveCalculationsUp.{may_pass as spec_may_pass, none_used};
 
 use crate::needs::node_uses;
-use aql_plan::{Facts, Plan, Uses};
+use aql_plan::{Facts, Node, Plan, Uses};
 use aql_rewrite::{ExchangeRule, Rule, Swap};
 use aql_value::OutOfMemory;
 use std::alloc::Global;
 
-fn enumerates(node: &Plan) -> bool
-    ensures { result ≡ spec_enumerates (top (plan_tree node.now)) }
+fn node_enumerates(node: &Node) -> bool
+    ensures { result ≡ spec_enumerates (node_tree node.now) }
 {
     matches!(
         node,
-        Plan::EnumerateCollection { .. } | Plan::EnumerateList { .. } | Plan::Traversal { .. }
+        Node::EnumerateCollection { .. } | Node::EnumerateList { .. } | Node::Traversal { .. }
     )
+}
+
+fn enumerates(plan: &Plan) -> bool
+    ensures { result ≡ spec_enumerates (top (plan_tree plan.now)) }
+{
+    match plan {
+        Plan::Over { node, .. } => node_enumerates(node),
+        _ => false,
+    }
+}
+
+fn node_enumerates_or_sorts(node: &Node) -> bool
+    ensures { result ≡ spec_enumerates_or_sorts (node_tree node.now) }
+{
+    matches!(node, Node::Sort { .. }) || node_enumerates(node)
+}
+
+fn enumerates_or_sorts(plan: &Plan) -> bool
+    ensures { result ≡ spec_enumerates_or_sorts (top (plan_tree plan.now)) }
+{
+    match plan {
+        Plan::Over { node, .. } => node_enumerates_or_sorts(node),
+        _ => false,
+    }
+}
+
+fn node_may_pass(upper: &Node, lower: &Plan) -> bool
+    ensures { result ≡ spec_may_pass (node_tree upper.now) (top (plan_tree lower.now)) }
+{
+    match upper {
+        Node::Calculation { .. } => enumerates_or_sorts(lower),
+        _ => false,
+    }
 }
 
 // Whether the upper node may go below the lower one, whatever it uses.
@@ -29,9 +63,9 @@ fn may_pass(upper: &Plan, lower: &Plan) -> bool
     ensures { result ≡ spec_may_pass (top (plan_tree upper.now)) (top (plan_tree lower.now)) }
 {
     match upper {
-        Plan::Calculation { .. } => matches!(lower, Plan::Sort { .. }) || enumerates(lower),
+        Plan::Singleton => false,
+        Plan::Over { node, .. } => node_may_pass(node, lower),
         Plan::Subquery { .. } => enumerates(lower),
-        _ => false,
     }
 }
 
@@ -46,16 +80,16 @@ fn leaves_out(alloc: Global, node: &Plan, var: Option<u32>) -> Result<bool, OutO
     }
 }
 
-// Whether the upper node uses none of the variables of the lower one, below which it may go.
-fn uses_none(alloc: Global, upper: &Plan, lower: &Plan) -> Result<bool, OutOfMemory>
-    requires { spec_may_pass (top (plan_tree upper.now)) (top (plan_tree lower.now)) ≡ true }
+// Whether the upper node uses none of the variables of a node below which it may go.
+fn uses_none_of(alloc: Global, upper: &Plan, lower: &Node) -> Result<bool, OutOfMemory>
+    requires { spec_may_pass (top (plan_tree upper.now)) (node_tree lower.now) ≡ true }
     ensures { IfOk result (λ b. b
-        ≡ none_used (sets (top (plan_tree lower.now))) (uses_alone (top (plan_tree upper.now)))) }
+        ≡ none_used (sets (node_tree lower.now)) (uses_alone (top (plan_tree upper.now)))) }
 {
     match lower {
-        Plan::EnumerateCollection { var, .. } => Ok(!node_uses(alloc, upper, *var)?),
-        Plan::EnumerateList { var, .. } => Ok(!node_uses(alloc, upper, *var)?),
-        Plan::Traversal {
+        Node::EnumerateCollection { var, .. } => Ok(!node_uses(alloc, upper, *var)?),
+        Node::EnumerateList { var, .. } => Ok(!node_uses(alloc, upper, *var)?),
+        Node::Traversal {
             vertex,
             edge,
             path,
@@ -70,13 +104,26 @@ fn uses_none(alloc: Global, upper: &Plan, lower: &Plan) -> Result<bool, OutOfMem
     }
 }
 
+// The same of the top node of a plan.
+fn uses_none(alloc: Global, upper: &Plan, lower: &Plan) -> Result<bool, OutOfMemory>
+    requires { spec_may_pass (top (plan_tree upper.now)) (top (plan_tree lower.now)) ≡ true }
+    ensures { IfOk result (λ b. b
+        ≡ none_used (sets (top (plan_tree lower.now))) (uses_alone (top (plan_tree upper.now)))) }
+{
+    match lower {
+        Plan::Over { node, .. } => uses_none_of(alloc, upper, node),
+        _ => Ok(true),
+    }
+}
+
 /// The rule move-calculations-up.
 #[derive(Clone, Copy, Drop)]
 pub struct MoveCalculationsUp;
 
 impl Rule for MoveCalculationsUp {
     ghost use Rattle.std.specs.Prelude.{false};
-    ghost use Rattle.aql_rules_calc.specs.MoveCalculationsUp.{Moves, height};
+    ghost use Rattle.aql_rules_calc.specs.MoveCalculationsUp.{Moves};
+    ghost use Rattle.aql_rules_calc.specs.Measures.{height};
     ghost use Rattle.aql_rules_calc.specs.laws.Moved.{moves_refine, moves_keep, moves_fall};
 
     ghost rewrites = { λ _ _. Moves };

@@ -10,22 +10,9 @@ ghost use Rattle.aql_rewrite.specs.Nodes.{uses_alone, gives_new_rows as spec_giv
 ghost use Rattle.aql_rewrite.specs.Nodes.{is_collect as spec_is_collect};
 
 use aql_plan::{Plan, add_own_uses};
-use aql_rewrite::is_used;
+use aql_rewrite::{gives_new_rows, is_collect, is_used};
 use aql_value::{OutOfMemory, Seq};
 use std::alloc::Global;
-
-/// Whether a node makes new rows, in which nothing of its input's rows is left.
-pub(crate) fn gives_new_rows(node: &Plan) -> bool
-    ensures { result ≡ spec_gives_new_rows (top (plan_tree node.now)) }
-{
-    matches!(node, Plan::Collect { .. } | Plan::Return { .. })
-}
-
-fn is_collect(node: &Plan) -> bool
-    ensures { result ≡ spec_is_collect (top (plan_tree node.now)) }
-{
-    matches!(node, Plan::Collect { .. })
-}
 
 // Whether a node's input needs a variable, by whether the node uses it, and the nodes above.
 fn input_needs(node: &Plan, own: bool, above: bool) -> bool

@@ -8,16 +8,16 @@ ghost use Rattle.aql_meaning.specs.Row.{same_ident};
 ghost use Rattle.aql_meaning.specs.Uses.{Part};
 ghost use Rattle.aql_plan.specs.Facts.{indexes_in};
 ghost use Rattle.aql_plan.specs.Plan.{top};
-ghost use Rattle.aql_plan.specs.View.{plan_tree};
+ghost use Rattle.aql_plan.specs.View.{node_tree, plan_tree};
 ghost use Rattle.aql_plan.specs.Used.{use_tree, uses_tree};
 ghost use Rattle.aql_rewrite.specs.Places.{Stays};
 ghost use Rattle.aql_rewrite.specs.View.{above_uses};
-ghost use Rattle.aql_rules_calc.specs.Projections.{with_attrs, AreAdded};
+ghost use Rattle.aql_rules_calc.specs.Projections.{node_with_attrs, with_attrs, AreAdded};
 ghost use Rattle.aql_rules_calc.specs.Projections.{read_whole as spec_read_whole};
 ghost use Rattle.aql_rules_calc.specs.Projections.{AreKept, order_of as spec_order_of};
 ghost use Rattle.aql_rules_calc.specs.ReduceExtractionToProjection.{with_name, Reduces};
 
-use aql_plan::{Facts, IndexFact, Plan, Use, Uses};
+use aql_plan::{Facts, IndexFact, Node, Plan, Use, Uses};
 use aql_rewrite::{ChangingRule, Rule, Swap};
 use aql_tree::Ident;
 use aql_value::{CollNo, Names, OutOfMemory, Seq, Text};
@@ -186,30 +186,37 @@ fn order_of(facts: &Facts, coll: CollNo, index: u32, ordered: Option<bool>) -> &
     }
 }
 
-// Keeps these attributes alone at a node that reads; any other node stays as it is.
-fn set_attrs(node: &mut Plan, names: Names)
-    ensures { plan_tree node.new ≡ with_attrs names (plan_tree node.old) }
+fn set_node_attrs(node: &mut Node, names: Names)
+    ensures { node_tree node.new ≡ node_with_attrs names (node_tree node.old) }
 {
     match node {
-        Plan::EnumerateCollection { attrs, .. } => *attrs = Some(names),
-        Plan::Index { attrs, .. } => *attrs = Some(names),
+        Node::EnumerateCollection { attrs, .. } => *attrs = Some(names),
+        Node::Index { attrs, .. } => *attrs = Some(names),
         _ => {}
     }
 }
 
-// The variable of a node that reads documents whole, and the attributes of its order; `None`
-// exactly at every other node.
-fn read_whole<'a>(node: &Plan, facts: &'a Facts) -> Option<(u32, &'a [Text])>
-    ensures { MatchOption result (spec_read_whole facts.now (top (plan_tree node.now)) ≡ None)
-        (λ r. spec_read_whole facts.now (top (plan_tree node.now)) ≡ Some (Num r.0, r.1.now)) }
+// Keeps these attributes alone at a node that reads; any other node stays as it is.
+fn set_attrs(plan: &mut Plan, names: Names)
+    ensures { plan_tree plan.new ≡ with_attrs names (plan_tree plan.old) }
+{
+    match plan {
+        Plan::Over { node, .. } => set_node_attrs(node, names),
+        _ => {}
+    }
+}
+
+fn node_read_whole<'a>(node: &Node, facts: &'a Facts) -> Option<(u32, &'a [Text])>
+    ensures { MatchOption result (spec_read_whole facts.now (node_tree node.now) ≡ None)
+        (λ r. spec_read_whole facts.now (node_tree node.now) ≡ Some (Num r.0, r.1.now)) }
 {
     match node {
-        Plan::EnumerateCollection {
+        Node::EnumerateCollection {
             var,
             attrs: None,
             ..
         } => Some((*var, &[])),
-        Plan::Index {
+        Node::Index {
             var,
             coll,
             attrs: None,
@@ -217,6 +224,18 @@ fn read_whole<'a>(node: &Plan, facts: &'a Facts) -> Option<(u32, &'a [Text])>
             ordered,
             ..
         } => Some((*var, order_of(facts, *coll, *index, *ordered))),
+        _ => None,
+    }
+}
+
+// The variable of a node that reads documents whole, and the attributes of its order; `None`
+// exactly at every other node.
+fn read_whole<'a>(plan: &Plan, facts: &'a Facts) -> Option<(u32, &'a [Text])>
+    ensures { MatchOption result (spec_read_whole facts.now (top (plan_tree plan.now)) ≡ None)
+        (λ r. spec_read_whole facts.now (top (plan_tree plan.now)) ≡ Some (Num r.0, r.1.now)) }
+{
+    match plan {
+        Plan::Over { node, .. } => node_read_whole(node, facts),
         _ => None,
     }
 }
@@ -245,7 +264,7 @@ pub struct ReduceExtractionToProjection;
 
 impl Rule for ReduceExtractionToProjection {
     ghost use Rattle.std.specs.Prelude.{false};
-    ghost use Rattle.aql_rules_calc.specs.ReduceExtractionToProjection.{whole_readers};
+    ghost use Rattle.aql_rules_calc.specs.Measures.{whole_readers};
     ghost use Rattle.aql_rules_calc.specs.laws.Projected.{reduces_refine, reduces_keep};
     ghost use Rattle.aql_rules_calc.specs.laws.Projected.{reduces_fall};
 

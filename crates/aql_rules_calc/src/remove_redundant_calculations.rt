@@ -8,26 +8,27 @@ ghost use Rattle.aql_meaning.specs.Plain.{IsPlain};
 ghost use Rattle.aql_plan.specs.Plan as spec;
 ghost use Rattle.aql_plan.specs.Plan.{top};
 ghost use Rattle.aql_plan.specs.View.{plan_tree};
-ghost use Rattle.aql_rules_calc.specs.Readers.{calculation_in as spec_calculation_in};
+ghost use Rattle.aql_rules_calc.specs.Readers.{calculation_in as spec_calculation_in, IsRedundant, IsNotRedundant};
 ghost use Rattle.aql_rewrite.specs.Plain.{NodePlain};
 ghost use Rattle.aql_rules_calc.specs.RemoveRedundantCalculations.{IsNotOf, Calculates};
-ghost use Rattle.aql_rules_calc.specs.RemoveRedundantCalculations.{IsRedundant, IsNotRedundant};
 
-use crate::needs::gives_new_rows;
-use aql_plan::{Facts, Plan, Uses};
-use aql_rewrite::{RemovingRule, Rename, Rule, Swap, same_expr};
+use aql_plan::{Facts, Node, Plan, Uses};
+use aql_rewrite::{RemovingRule, Rename, Rule, Swap, gives_new_rows, same_expr};
 use aql_tree::Expr;
 use aql_value::OutOfMemory;
 use std::alloc::Global;
 
 // The input, the variable and the expression of a Calculation; `None` exactly at every other node.
-fn calculation_in(node: &Plan) -> Option<(&Plan, u32, &Expr)>
-    ensures { MatchOption result (spec_calculation_in (plan_tree node.now) ≡ None)
-        (λ c. plan_tree node.now
+fn calculation_in(plan: &Plan) -> Option<(&Plan, u32, &Expr)>
+    ensures { MatchOption result (spec_calculation_in (plan_tree plan.now) ≡ None)
+        (λ c. plan_tree plan.now
         ≡ spec.Over (plan_tree c.0.now) (spec.Calculation (Num c.1) (tree c.2.now))) }
 {
-    match node {
-        Plan::Calculation { below, var, expr } => Some((below, *var, expr)),
+    match plan {
+        Plan::Over { below, node } => match &**node {
+            Node::Calculation { var, expr } => Some((below, *var, expr)),
+            _ => None,
+        },
         _ => None,
     }
 }

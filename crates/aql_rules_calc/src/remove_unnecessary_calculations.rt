@@ -1,25 +1,33 @@
 //! A Calculation or Subquery whose variable isn't used goes.
 
-ghost use Rattle.std.specs.Prelude.{◌≡◌, MatchOption, Some, None};
-ghost use Rattle.aql_tree.specs.declared.syntax.Ident.TheVariants.{Num};
+ghost use Rattle.std.specs.Prelude.{◌≡◌};
 ghost use Rattle.aql_plan.specs.Plan.{top};
-ghost use Rattle.aql_plan.specs.View.{plan_tree};
-ghost use Rattle.aql_rules_calc.specs.Readers.{value_var as spec_value_var};
+ghost use Rattle.aql_plan.specs.View.{node_tree, plan_tree};
+ghost use Rattle.aql_rewrite.specs.View.{above_uses};
+ghost use Rattle.aql_rules_calc.specs.Readers.{is_unneeded as spec_is_unneeded};
 
-use aql_plan::{Facts, Plan, Uses};
-use aql_rewrite::{PartRule, Rule, Swap, is_used};
+use aql_plan::{Facts, Node, Plan, Uses};
+use aql_rewrite::{PartRule, Rule, Swap, is_used, replace_below};
 use aql_value::OutOfMemory;
 use std::alloc::Global;
 
-// The variable of a Calculation or a Subquery; `None` exactly at every other node.
-fn value_var(node: &Plan) -> Option<u32>
-    ensures { MatchOption result (spec_value_var (top (plan_tree node.now)) ≡ None)
-        (λ x. spec_value_var (top (plan_tree node.now)) ≡ Some (Num x)) }
+fn node_is_unneeded(node: &Node, above: &[Uses]) -> bool
+    ensures { result ≡ spec_is_unneeded (above_uses above.now) (node_tree node.now) }
 {
     match node {
-        Plan::Calculation { var, .. } => Some(*var),
-        Plan::Subquery { var, .. } => Some(*var),
-        _ => None,
+        Node::Calculation { var, .. } => !is_used(*var, above),
+        _ => false,
+    }
+}
+
+// Whether the top node of a part is a Calculation or a Subquery whose variable isn't used.
+fn is_unneeded(part: &Plan, above: &[Uses]) -> bool
+    ensures { result ≡ spec_is_unneeded (above_uses above.now) (top (plan_tree part.now)) }
+{
+    match part {
+        Plan::Singleton => false,
+        Plan::Over { node, .. } => node_is_unneeded(node, above),
+        Plan::Subquery { var, .. } => !is_used(*var, above),
     }
 }
 
@@ -47,18 +55,15 @@ impl Rule for RemoveUnnecessaryCalculations {
         above: &[Uses],
         _facts: &Facts,
     ) -> Result<Option<Swap>, OutOfMemory> {
+        if !is_unneeded(part, above) {
+            return Ok(None);
+        }
         match part.below() {
             None => Ok(None),
-            Some(below) => match value_var(part) {
-                None => Ok(None),
-                Some(var) => {
-                    if is_used(var, above) {
-                        return Ok(None);
-                    }
-                    let part = below.copy(alloc)?;
-                    Ok(Some(Swap { part, rename: None }))
-                }
-            },
+            Some(below) => {
+                let part = below.copy(alloc)?;
+                Ok(Some(Swap { part, rename: None }))
+            }
         }
     }
 
@@ -77,6 +82,21 @@ impl PartRule for RemoveUnnecessaryCalculations {
     ghost use Rattle.aql_rules_calc.specs.laws.UnnecessaryCalculations.{removes_nameless, removes_shrink};
 
     ghost looks = { λ _. true };
+
+    fn rewrite(
+        &self,
+        _alloc: Global,
+        part: &mut Plan,
+        above: &[Uses],
+        _facts: &Facts,
+    ) -> Result<bool, OutOfMemory> {
+        if !is_unneeded(part, above) {
+            return Ok(false);
+        }
+        let below = replace_below(part, Plan::Singleton);
+        *part = below;
+        Ok(true)
+    }
 
     fn looks_above(&self) -> bool {
         true

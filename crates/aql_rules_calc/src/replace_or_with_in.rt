@@ -100,12 +100,18 @@ fn operation_in(expr: &Expr) -> Option<Operation<'_>>
     }
 }
 
+// The elements of an array literal, if it has any.
 fn array_in(expr: &Expr) -> Option<&[Expr]>
     ensures { MatchOption result (spec_array_in (tree expr.now) ≡ None)
         (λ es. spec_array_in (tree expr.now) ≡ Some (map tree es.now)) }
 {
     match expr {
-        Expr::List(items) => Some(items.as_slice()),
+        Expr::List(items) => {
+            if items.len() == 0 {
+                return None;
+            }
+            Some(items.as_slice())
+        }
         _ => None,
     }
 }
@@ -219,8 +225,8 @@ fn as_in(alloc: Global, left: &Expr, expr: &Expr) -> Result<Option<Expr>, OutOfM
 }
 
 /// The rule replace-or-with-in, on expressions: a `||` chain whose every part is `e == k` or
-/// `e IN [k, ..]`, with one `e` that is not constant and constant `k`, becomes `e IN` the array of
-/// all `k`, in order.
+/// `e IN [k, ..]`, with one `e` that is not constant and constant `k`, one or more, becomes `e IN`
+/// the array of all `k`, in order.
 #[derive(Clone, Copy, Drop)]
 pub struct ReplaceOrWithIn;
 

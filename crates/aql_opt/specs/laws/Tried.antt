@@ -1,8 +1,7 @@
 -- The candidates that are tried, and that what comes of one may stand for the plan.
-use Rattle.std.proofs.Common.{◌≡◌, ◌∙◌, ℕ, zero, suc, ◌+◌, ◌<◌, ◌≤◌, List, [], ◌∷◌, ◌++◌, map, length, take, get_or, false, ap, ap₂, sym, subst, arith}
+use Rattle.std.proofs.Common.{◌≡◌, ◌∙◌, ℕ, zero, suc, ◌+◌, ◌<◌, ◌≤◌, List, [], ◌∷◌, ◌++◌, map, length, take, get_or, set, ◌≢◌, false, ap, sym, subst, arith}
 use Rattle.std.specs.List.{AllByRecursion}
-use Rattle.std.proofs.Math.Seq.{take-length}
-use Rattle.std.proofs.lemmas.List.{take_more, map-append}
+use Rattle.std.proofs.lemmas.List.{take_more, map-append, length-set, get_or-set_other}
 use Rattle.aql_plan.specs.declared.facts.Facts.{Facts}
 use Rattle.aql_plan.specs.declared.plan.Plan.{Plan as PlanCode}
 use Rattle.aql_plan.specs.declared.rules.RuleName.TheVariants as rule
@@ -31,13 +30,6 @@ stands_through facts p q s h k = record {
   sets = sets_through p q s h.sets k.sets;
 }
 
--- what comes of an equal plan
-pub stands_from : (facts : Facts) (p q s : Plan) → q ≡ p → Refines facts s q → IsWhole false facts s
-    → SetsNoMore q s → StandsFor facts p s
-stands_from facts p q s e refines whole sets =
-    subst (λ (r : Plan). StandsFor facts r s) e
-    (record { refines = refines; whole = whole; sets = sets })
-
 -- ---- the candidates
 
 pub alone_by : (rules : Rules) (p : Plan) (cs : List Plan)
@@ -57,14 +49,16 @@ pub front_stand : (facts : Facts) (p : Plan) (all : List PlanCode) (first : Plan
 front_stand facts p all first others e h =
     subst (λ (cs : List PlanCode). AllByRecursion (StandsFor facts p) (map plan_tree cs)) e h
 
-pub stands_at : (facts : Facts) (p : Plan) (others : List PlanCode) (at : ℕ) (x : PlanCode)
-    → at < length others → x ≡ get_or others at x → AllByRecursion (StandsFor facts p) (map plan_tree others)
-    → StandsFor facts p (plan_tree x)
-stands_at facts p [] at x h e k = absurd (omega (arith, h))
-stands_at facts p (y ∷ others) zero x h e k =
-    subst (λ (z : PlanCode). StandsFor facts p (plan_tree z)) (sym e) k.0
-stands_at facts p (y ∷ others) (suc at) x h e k =
-    stands_at facts p others at x (omega (arith, h)) e k.1
+pub all_whole : (facts : Facts) (p : Plan) (qs : List Plan) → AllByRecursion (StandsFor facts p) qs
+    → AllByRecursion (IsWhole false facts) qs
+all_whole facts p [] h = tt
+all_whole facts p (q ∷ qs) h = (h.0.whole, all_whole facts p qs h.1)
+
+pub holds_at : (P : Plan → Type 0) (others : List PlanCode) (at : ℕ) (x : PlanCode) → at < length others
+    → x ≡ get_or others at x → AllByRecursion P (map plan_tree others) → P (plan_tree x)
+holds_at P [] at x h e k = absurd (omega (arith, h))
+holds_at P (y ∷ others) zero x h e k = subst (λ (z : PlanCode). P (plan_tree z)) (sym e) k.0
+holds_at P (y ∷ others) (suc at) x h e k = holds_at P others at x (omega (arith, h)) e k.1
 
 pub tried_more : (p : Plan) (others : List PlanCode) (at : ℕ) (x : PlanCode) → at < length others
     → x ≡ get_or others at x
@@ -75,20 +69,23 @@ tried_more p others at x h e =
     (take_more others at x h ∙ ap (λ (y : PlanCode). take at others ++ y ∷ []) (sym e))
     ∙ map-append plan_tree (take at others) (x ∷ [])))
 
--- the first one is the plan itself
-pub first_is : (p : Plan) (all : List PlanCode) (first : PlanCode) (others : List PlanCode) (rest : List Plan)
-    → all ≡ first ∷ others → map plan_tree all ≡ p ∷ rest → plan_tree first ≡ p
-first_is p all first others rest e h =
-    let k : plan_tree first ∷ map plan_tree others ≡ p ∷ rest = sym (ap (map plan_tree) e) ∙ h in cc
+-- from a place on the candidates are still in their list
+abbrev pub Untaken : List PlanCode → ℕ → List PlanCode → Type 0
+Untaken all at left = (length left ≡ length all)
+    × ((k : ℕ) (d : PlanCode) → at ≤ k → get_or left k d ≡ get_or all k d)
 
-pub all_tried : (p : Plan) (all : List PlanCode) (first : PlanCode) (others : List PlanCode) (at : ℕ)
-    → all ≡ first ∷ others → plan_tree first ≡ p → length others ≤ at → at ≤ length others
-    → p ∷ map plan_tree (take at others) ≡ map plan_tree all
-all_tried p all first others at e f h k =
-    let end : at ≡ length others = omega (arith, h, k) in
-    ap₂ (λ (q : Plan) (cs : List PlanCode). q ∷ map plan_tree cs) (sym f)
-    (ap (λ (n : ℕ). take n others) end ∙ take-length others)
-    ∙ ap (map plan_tree) (sym e)
+module _ (all : List PlanCode) (at : ℕ) (left : List PlanCode) (untaken : Untaken all at left) where
+  -- the one at hand
+  pub taken_is : (d x : PlanCode) → d ≡ get_or left at d → x ≡ get_or left at d → x ≡ get_or all at x
+  taken_is d x e f = subst (λ (z : PlanCode). z ≡ get_or all at z) (sym (f ∙ sym e))
+      (e ∙ untaken.1 at d (omega arith))
+
+  pub taken_out : (y : PlanCode) → Untaken all (at + 1) (set left at y)
+  taken_out y = (
+    length-set left at y ∙ untaken.0,
+    λ k d h. let other : k ≢ at = omega arith in
+        get_or-set_other left at k y d other ∙ untaken.1 k d (omega arith),
+  )
 
 -- ---- costs as numbers
 

@@ -35,8 +35,8 @@ use Rattle.aql_rewrite.specs.laws.PlacedBelow.{placed_below, whole_placed}
 use Rattle.aql_rewrite.specs.laws.Standing.{outside}
 use Rattle.aql_rewrite.specs.laws.Weights.{weight_lifts}
 use Rattle.aql_rewrite.specs.Removed.{TakesAway}
-use Rattle.aql_rules_calc.specs.RemoveRedundantCalculations.{IsNotOf, Calculates, here, further, renaming, Redundant, calculated_twice, IsRedundant, IsNotRedundant}
-use Rattle.aql_rules_calc.specs.Readers.{calculation_in}
+use Rattle.aql_rules_calc.specs.RemoveRedundantCalculations.{IsNotOf, Calculates, here, further, renaming, Redundant, calculated_twice}
+use Rattle.aql_rules_calc.specs.Readers.{IsRedundant, IsNotRedundant, calculation_in}
 use Rattle.aql_rewrite.specs.laws.Apart.{vars_counted, counts_itself, no_result, set_nowhere, not_there}
 use Rattle.aql_rewrite.specs.laws.RowsHold.{Leaves, over_holds}
 use Rattle.aql_rules_calc.specs.laws.UnnecessaryCalculations.{calculation_off, more}

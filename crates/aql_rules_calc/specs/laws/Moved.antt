@@ -35,7 +35,8 @@ use Rattle.aql_rewrite.specs.laws.Among.{has}
 use Rattle.aql_rewrite.specs.laws.Carried.{Lowers, Lifts, renamed_lowers, first_lowers}
 use Rattle.aql_rewrite.specs.laws.Levels.{used_either}
 use Rattle.aql_rewrite.specs.laws.PlacedBelow.{whole_placed}
-use Rattle.aql_rules_calc.specs.MoveCalculationsUp.{enumerates, enumerates_or_sorts, may_pass, none_used, Moves, swapped, others_below, height}
+use Rattle.aql_rules_calc.specs.MoveCalculationsUp.{enumerates, enumerates_or_sorts, may_pass, none_used, Moves, swapped}
+use Rattle.aql_rules_calc.specs.Measures.{others_below, height}
 use Rattle.aql_rewrite.specs.laws.Apart.{counts_itself, not_there}
 use Rattle.aql_rules_calc.specs.laws.BoundRows.{Bound, IsFree, gives_bound}
 use Rattle.aql_rewrite.specs.laws.Unused.{neither, agree_unused, used_other, unused_from}

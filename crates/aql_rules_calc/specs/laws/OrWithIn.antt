@@ -72,7 +72,7 @@ module _ (cur : Datum) (row : Row) where
     part_value : (d : ExprTree) (ks : List ExprTree) → Compares e d ks
         → value d cur row ≡ boolean (is_in (at ks) (value e cur row))
     part_value _ _ (equal_to {k = k} p c) = ap boolean (or_false (same (value e cur row) (value k cur row)))
-    part_value _ _ (one_of {ks = ks} p c) = ap boolean (in_list ks (value e cur row))
+    part_value _ _ (one_of {k = k} {ks = ks} p c) = ap boolean (in_list (expr_then k ks) (value e cur row))
 
     links_in : (ls : LinkTrees) (ks : List ExprTree) → each_or ls ≡ true → AllCompare e (link_parts ls) ks
         → (a : Bool) → links_value ls cur row (boolean a) ≡ boolean (a || is_in (at ks) (value e cur row))
@@ -113,8 +113,10 @@ module _ (e : ExprTree) (T : ExprTree → Bool)
   part_there : (d : ExprTree) (ks : List ExprTree) → Compares e d ks → (T e || list_any T ks) ≡ true
       → T d ≡ true
   part_there _ _ (equal_to {k = k} p c) h = chains e (link_then Eq k no_links) ∙ h
-  part_there _ _ (one_of {ks = ks} p c) h = chains e (link_then IsIn (array_literal ks) no_links)
-      ∙ ap (λ (b : Bool). T e || b) (sym (or_false (T (array_literal ks))) ∙ lists ks) ∙ h
+  part_there _ _ (one_of {k = k} {ks = ks} p c) h =
+      let es = expr_then k ks in
+      chains e (link_then IsIn (array_literal es) no_links)
+      ∙ ap (λ (b : Bool). T e || b) (sym (or_false (T (array_literal es))) ∙ lists es) ∙ h
 
   each_there : (ds ks : List ExprTree) → AllCompare e ds ks → list_any T ks ≡ true → list_any T ds ≡ true
   each_there _ _ no_more h = h
@@ -146,8 +148,8 @@ plain_join (d ∷ ks) js h k = (h.0, plain_join ks js h.1 k)
 
 part_plain : {e d : ExprTree} {ks : List ExprTree} → Compares e d ks → IsPlain e × AllPlain (trees ks)
 part_plain (equal_to p c) = (p, (constant_plain c, tt))
-part_plain (one_of {ks = ks} p c) =
-    (p, subst (λ (es : ExprTrees). AllPlain es) (sym (trees_back ks)) (constant_plain c))
+part_plain (one_of {k = k} {ks = ks} p c) =
+    (p, subst (λ (es : ExprTrees). AllPlain es) (sym (trees_back (expr_then k ks))) (constant_plain c))
 
 all_plain : {e : ExprTree} {ds ks : List ExprTree} → AllCompare e ds ks → AllPlain (trees ks)
 all_plain no_more = tt
@@ -175,7 +177,8 @@ sizes_join (k ∷ ks) js = let h = sizes_join ks js in omega (arith, h)
 
 part_size : (e d : ExprTree) (ks : List ExprTree) → Compares e d ks → size e + (sizes ks + 2) ≤ size d
 part_size e _ _ (equal_to p c) = omega arith
-part_size e _ _ (one_of {ks = ks} p c) = let h = ap list_size (trees_back ks) in omega (arith, h)
+part_size e _ _ (one_of {k = k} {ks = ks} p c) =
+    let h = ap list_size (trees_back (expr_then k ks)) in omega (arith, h)
 
 parts_size : (e : ExprTree) (ds ks : List ExprTree) → AllCompare e ds ks → sizes ks ≤ size_all ds
 parts_size e _ _ no_more = omega arith

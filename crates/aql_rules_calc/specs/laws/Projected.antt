@@ -42,7 +42,8 @@ use Rattle.aql_rewrite.specs.Swaps.{Replaced, KeepsPlaced}
 use Rattle.aql_rewrite.specs.laws.Carried.{Lowers, Lifts, first_lowers}
 use Rattle.aql_rewrite.specs.laws.PlacedBelow.{whole_placed}
 use Rattle.aql_rules_calc.specs.Projections.{AreAdded, AreKept, order_of, where_whole, read_whole, node_with_attrs, with_attrs}
-use Rattle.aql_rules_calc.specs.ReduceExtractionToProjection.{is_whole, used_whole, with_name, with_use, names_used, order_uses, keeping, Reduces, enumeration, by_index, reads_whole, whole_readers, readers_in}
+use Rattle.aql_rules_calc.specs.ReduceExtractionToProjection.{is_whole, used_whole, with_name, with_use, names_used, order_uses, keeping, Reduces, enumeration, by_index}
+use Rattle.aql_rules_calc.specs.Measures.{reads_whole, whole_readers, readers_in}
 use Rattle.aql_rewrite.specs.laws.Unused.{neither}
 use Rattle.aql_rules_calc.specs.laws.Attributes.{named_first}
 use Rattle.aql_rewrite.specs.Changed.{Changes}

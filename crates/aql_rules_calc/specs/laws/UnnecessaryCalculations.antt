@@ -1,6 +1,6 @@
 -- A Calculation or a Subquery whose variable is not used goes.
 use Rattle.std.proofs.Common.{◌≡◌, ◌∙◌, ℕ, suc, ◌<◌, ◌≤◌, List, [], ◌∷◌, ◌++◌, map, Bool, true, false, true≢false, cond, refl, ap, sym, subst₂, arith, ◌+◌}
-use Rattle.std.specs.Prelude.{Option, Some, None}
+use Rattle.std.specs.Prelude.{not, Option, None}
 use Rattle.std.specs.List.{AllZip}
 use Rattle.aql_value.specs.Parts.{list}
 use Rattle.aql_tree.specs.declared.syntax.Ident.{Ident}
@@ -10,9 +10,9 @@ use Rattle.aql_meaning.specs.Clauses.{with_values}
 use Rattle.aql_meaning.specs.Row.{Row, bind, same_ident}
 use Rattle.aql_meaning.specs.Uses.{Uses, Agree, is_used}
 use Rattle.aql_plan.specs.declared.facts.Facts.{Facts}
-use Rattle.aql_plan.specs.Plan.{Plan, Over, Node, Calculation, Subquery, top}
+use Rattle.aql_plan.specs.Plan.{Plan, Singleton, Over, Node, Calculation, Subquery, top}
 use Rattle.aql_plan.specs.Needs.{result_uses}
-use Rattle.aql_plan.specs.Nodes.{weight}
+use Rattle.aql_plan.specs.Nodes.{over, weight}
 use Rattle.aql_plan.specs.Refines.{world}
 use Rattle.aql_plan.specs.Runs.{Outside, Runs, result_of}
 use Rattle.aql_plan.specs.Shapes.{calculated, with_subquery as subquery_shaped, plain_rows, lowest, other_reading, passing, KeepsShape}
@@ -26,7 +26,7 @@ use Rattle.aql_rewrite.specs.Swaps.{Replaced, KeepsPlaced}
 use Rattle.aql_rewrite.specs.laws.Carried.{Lowers, first_lowers}
 use Rattle.aql_rewrite.specs.laws.PlacedBelow.{whole_placed}
 use Rattle.aql_rewrite.specs.laws.Weights.{weight_lifts}
-use Rattle.aql_rules_calc.specs.Readers.{value_var}
+use Rattle.aql_rules_calc.specs.Readers.{is_unneeded}
 use Rattle.aql_rules_calc.specs.RemoveUnnecessaryCalculations.{Removes, calculation, with_subquery}
 use Rattle.aql_rewrite.specs.laws.Unused.{agree_unused, one_gone}
 use Rattle.aql_rewrite.specs.Sums.{total}
@@ -130,24 +130,26 @@ removes_shrink _ _ _ _ (with_subquery h) = omega arith
 
 -- ---- what the rule finds
 
-pub sets_no_value : (us : Uses) (p : Plan) → value_var (top p) ≡ None → Stays Removes us p
-sets_no_value us _ h _ _ (calculation k) = cc
-sets_no_value us _ h _ _ (with_subquery k) = cc
+pub needed_stays : (us : Uses) (p : Plan) → is_unneeded us (top p) ≡ false → Stays Removes us p
+needed_stays us _ h _ _ (calculation {x = x} k) = true≢false (sym (ap not k) ∙ h)
+needed_stays us _ h _ _ (with_subquery {x = x} k) = true≢false (sym (ap not k) ∙ h)
 
-pub used_stays : (us : Uses) (p : Plan) (x : Ident) → value_var (top p) ≡ Some x → is_used x us ≡ true
-    → Stays Removes us p
-used_stays us _ x h u _ _ (calculation {x = y} k) =
-    let e : y ≡ x = cc in true≢false (sym u ∙ ap (λ (z : Ident). is_used z us) (sym e) ∙ k)
-used_stays us _ x h u _ _ (with_subquery {x = y} k) =
-    let e : y ≡ x = cc in true≢false (sym u ∙ ap (λ (z : Ident). is_used z us) (sym e) ∙ k)
+unused : (b : Bool) → not b ≡ true → b ≡ false
+unused true h = absurd (true≢false (sym h))
+unused false h = refl
 
-pub removes_at : (us : Uses) (p b q : Plan) (x : Ident) → p ≡ Over b (top p) → value_var (top p) ≡ Some x
-    → is_used x us ≡ false → q ≡ b → Removes us p q None
-removes_at us p b q x i h u k = subst₂ (λ (m s : Plan). Removes us m s None) (sym i) (sym k) (by (top p) h)
-  where
-    by : (n : Node) → value_var n ≡ Some x → Removes us (Over b n) b None
-    by (Calculation y e) h =
-        let j : y ≡ x = cc in calculation (ap (λ (z : Ident). is_used z us) j ∙ u)
-    by (Subquery y s) h =
-        let j : y ≡ x = cc in with_subquery (ap (λ (z : Ident). is_used z us) j ∙ u)
-    by n h = cc
+removes_top : (us : Uses) (b : Plan) (n : Node) → is_unneeded us n ≡ true → Removes us (Over b n) b None
+removes_top us b (Calculation x e) h = calculation (unused (is_used x us) h)
+removes_top us b (Subquery x s) h = with_subquery (unused (is_used x us) h)
+removes_top us b n h = absurd (true≢false (sym h))
+
+pub removes_at : (us : Uses) (p b q : Plan) → p ≡ Over b (top p) → is_unneeded us (top p) ≡ true → q ≡ b
+    → Removes us p q None
+removes_at us p b q i h k =
+    subst₂ (λ (m s : Plan). Removes us m s None) (sym i) (sym k) (removes_top us b (top p) h)
+
+-- the input that a part gives back
+pub removes_back : (us : Uses) (p b q : Plan) → p ≡ over p b → is_unneeded us (top p) ≡ true → q ≡ b
+    → Removes us p q None
+removes_back us Singleton b q i h k = absurd (true≢false (sym h))
+removes_back us (Over c n) b q i h k = removes_at us (Over c n) b q i h k

@@ -55,14 +55,13 @@ static NOT_SIMPLIFIED: [(&str, &str); 10] = [
     ("y.a", NONE),
 ];
 
-static TO_IN: [(&str, &str); 7] = [
+static TO_IN: [(&str, &str); 6] = [
     ("x == 1 || x == 2", "(x IsIn [ 1 2 ])"),
     (
         "x.a == 1 || x.a IN [2, 3] || x.a == 4",
         "(<x.a> IsIn [ 1 2 3 4 ])",
     ),
     ("x IN [1] || x IN [1]", "(x IsIn [ 1 1 ])"),
-    ("x == 1 || x IN []", "(x IsIn [ 1 ])"),
     ("x == [1] || x == 1 + 1", "(x IsIn [ [ 1 ] (1 Add 1) ])"),
     (
         "(x == 1 || x == 2) && (y == 1 || y == 2)",
@@ -74,7 +73,7 @@ static TO_IN: [(&str, &str); 7] = [
     ),
 ];
 
-static NO_IN: [(&str, &str); 11] = [
+static NO_IN: [(&str, &str); 12] = [
     ("x == 1", NONE),
     ("x == 1 && x == 2", NONE),
     ("x == 1 || x", NONE),
@@ -83,6 +82,7 @@ static NO_IN: [(&str, &str); 11] = [
     ("x == 1 || x != 2", NONE),
     ("x == 1 || x == y", NONE),
     ("x == 1 || x IN y", NONE),
+    ("x == 1 || x IN []", NONE),
     ("x == 1 || x IN [2, y]", NONE),
     ("1 == x || 2 == x", NONE),
     ("1 == 2 || 1 == 3", NONE),

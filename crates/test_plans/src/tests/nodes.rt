@@ -83,11 +83,21 @@ fn by_index(alloc: Global, fields: &[u8; 9]) -> Made {
     })
 }
 
+// The collections of a traversal: the one of this number, or collection 1 twice at `t`.
+fn edge_collections(alloc: Global, of: u8) -> Result<CollNos, OutOfMemory> {
+    let mut collections = CollNos::new(alloc);
+    if of == b't' {
+        collections.push(CollNo(1))?;
+        collections.push(CollNo(1))?;
+        return Ok(collections);
+    }
+    collections.push(CollNo(number(of)))?;
+    Ok(collections)
+}
+
 // T: vertex, edge, path, least and greatest depth, start, collection, PRUNE, filter.
 fn traversal(alloc: Global, fields: &[u8; 9]) -> Made {
     let [vertex, edge, path, min, max, start, coll, prune, filter] = *fields;
-    let mut collections = CollNos::new(alloc);
-    collections.push(CollNo(number(coll)))?;
     Ok(Node::Traversal {
         vertex: number(vertex),
         edge: maybe_number(edge),
@@ -96,7 +106,7 @@ fn traversal(alloc: Global, fields: &[u8; 9]) -> Made {
         max: number(max),
         direction: Direction::Any,
         start: expr(alloc, start)?,
-        collections,
+        collections: edge_collections(alloc, coll)?,
         prune: maybe_expr(alloc, prune)?,
         options: TraversalOptions {
             edges: UniqueEdges::Path,

@@ -146,7 +146,7 @@ static MERGES: [(&str, &str); 19] = [
 ];
 
 // What each node needs by itself.
-static NODES: [(&str, &str); 13] = [
+static NODES: [(&str, &str); 14] = [
     ("E12-- R1-", "E11-- R1-"),
     ("A0- > E10-- E202- > Ga R1-", "A0- > E10-- E201- > Ga R1-"),
     ("A02 > E10-- > Ga R1-", "A01 > E10-- > Ga R1-"),
@@ -156,6 +156,7 @@ static NODES: [(&str, &str); 13] = [
     ("D0__ > E10-- > Ga R1-", "D0_ > E10-- > Ga R1-"),
     ("T1--11_0-- R1-", "T1--11_1-- R1-"),
     ("T1--11_2-- R1-", "T1--11_1-- R1-"),
+    ("T1--11_t-- R1-", "T1--11_1-- R1-"),
     ("T1--21_1-- R1-", "T1--12_1-- R1-"),
     ("M1h R_-", "M0h R_-"),
     ("Kw--2x_-- R2-", "Kw--2s_-- R2-"),

@@ -1,5 +1,5 @@
 -- The candidates of the rule, or the plan alone.
-use Rattle.std.proofs.Common.{◌∙◌, [], ◌∷◌, ◌++◌, map, ap}
+use Rattle.std.proofs.Common.{◌∙◌, ◌∷◌, ◌++◌, map, ap}
 use Rattle.std.proofs.lemmas.Result.{IfOk-weaker}
 use Rattle.aql_plan.specs.View.{plan_tree}
 use Rattle.aql_opt.specs.Chosen.{interchanged}
@@ -13,16 +13,6 @@ returns-then-has-clause-candidates c =
 
 pub returns-clause-candidates : goal.returns-clause-candidates
 returns-clause-candidates c =
-    let alone = c.in_ok-copy.field-0 in
-    alone_by c.args.rules.now (plan_tree c.args.plan.now) (map plan_tree c.push.new.self)
+    alone_by c.args.rules.now (plan_tree c.args.plan) (map plan_tree c.push.new.self)
     (λ has. (let found = c.has.ensures.1 has in let lacking = c.if-has.false in absurd (cc)))
-    (ap (map plan_tree) (c.in_ok-push.ensures.ok ∙ ap (λ xs. xs ++ alone ∷ []) c.new-all.ensures)
-    ∙ ap (λ q. q ∷ []) c.in_ok-copy.ensures)
-
-pub returns-clause-first : goal.returns-clause-first
-returns-clause-first c =
-    let alone = c.in_ok-copy.field-0 in (
-      [],
-      ap (map plan_tree) (c.in_ok-push.ensures.ok ∙ ap (λ xs. xs ++ alone ∷ []) c.new-all.ensures)
-          ∙ ap (λ q. q ∷ []) c.in_ok-copy.ensures,
-    )
+    (ap (map plan_tree) (c.in_ok-push.ensures.ok ∙ ap (λ xs. xs ++ c.args.plan ∷ []) c.new-all.ensures))

@@ -4,13 +4,12 @@ use Rattle.std.specs.Prelude.{MatchOption, option_map}
 use Rattle.aql_tree.specs.declared.syntax.Let.{Let}
 use Rattle.aql_tree.specs.declared.syntax.AggregateItem.{AggregateItem}
 use Rattle.aql_tree.specs.View.{into_part, into_tree}
-use Rattle.aql_plan.specs.declared.plan.Plan.{Plan}
-use Rattle.aql_plan.specs.Plan.{Node, top}
-use Rattle.aql_plan.specs.View.{plan_tree}
+use Rattle.aql_plan.specs.declared.plan.Node.{Node}
+use Rattle.aql_plan.specs.View.{node_tree}
 use Rattle.aql_plan_check.specs.Standing.{MayStand, next}
 use Rattle.aql_plan_check.specs.View.{collect_of, shape_of}
 use Rattle.aql_plan_check.proofs.Collected.{Stood, collected}
-use Rattle.aql_plan_check.proofs.standing.shape_over.Goals as goal
+use Rattle.aql_plan_check.proofs.standing.node_shape_over.Goals as goal
 
 pub returns-in-Collect : goal.returns-in-Collect
 returns-in-Collect c =
@@ -18,7 +17,7 @@ returns-in-Collect c =
     let r = c.over_collected.result in
     let t = shape_of c.args.below in
     let i = into_tree (option_map into_part c.in-Collect.into) in
-    subst (λ (p : Plan). Stood f r (top (plan_tree p)) t) (sym c.in-Collect.is)
+    subst (λ (n : Node). Stood f r (node_tree n) t) (sym c.in-Collect.is)
     (subst (λ (l : List Let). Stood f r (collect_of l c.in-Collect.aggregates i c.in-Collect.stage) t)
     c.as_slice-in-Collect.ensures
     (subst (λ (l : List AggregateItem).
