@@ -14,7 +14,8 @@ pub struct MoveFiltersUp;
 
 impl Rule for MoveFiltersUp {
     ghost use Rattle.std.specs.Prelude.{false};
-    ghost use Rattle.aql_rules_filter.specs.MoveFiltersUp.{MovesUp, height};
+    ghost use Rattle.aql_rules_filter.specs.MoveFiltersUp.{MovesUp};
+    ghost use Rattle.aql_rules_filter.specs.Measures.{height};
     ghost use Rattle.aql_rules_filter.specs.laws.FiltersUp.{moves_up_refine, moves_up_keep, moves_up_fall};
 
     ghost rewrites = { λ _ _. MovesUp };

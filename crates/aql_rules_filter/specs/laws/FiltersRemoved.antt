@@ -18,7 +18,7 @@ use Rattle.aql_rewrite.specs.declared.swap.Rename.{Rename}
 use Rattle.aql_rewrite.specs.Places.{First}
 use Rattle.aql_rewrite.specs.Placed.{Placed, IsWhole}
 use Rattle.aql_rewrite.specs.Swaps.{Replaced, KeepsPlaced}
-use Rattle.aql_rules_filter.specs.Conditions.{literal_in}
+use Rattle.aql_rules_filter.specs.Readers.{literal_in}
 use Rattle.aql_rules_filter.specs.Measures.{filters, is_filter}
 use Rattle.aql_rules_filter.specs.RemoveUnnecessaryFilters.{Removes, passing, failing}
 use Rattle.aql_rewrite.specs.laws.Falling.{total_falls}

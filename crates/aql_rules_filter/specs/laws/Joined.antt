@@ -20,7 +20,8 @@ use Rattle.aql_meaning.specs.Value.{links_value}
 use Rattle.aql_plan.specs.FirstPlan.{is_and, all_and, right_sides, parts}
 use Rattle.aql_plan.specs.Variables.{are_among}
 use Rattle.aql_rewrite.specs.laws.Among.{among_join, among_split}
-use Rattle.aql_rules_filter.specs.Conditions.{filter_items, and_link, and_links, with_more, all_of, joined}
+use Rattle.aql_rules_filter.specs.Conditions.{filter_items, and_links, with_more, all_of, joined}
+use Rattle.aql_rules_filter.specs.Readers.{and_link}
 use Rattle.aql_rules_filter.specs.laws.Filtered.{holds}
 
 -- ---- what holds

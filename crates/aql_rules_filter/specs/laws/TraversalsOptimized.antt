@@ -28,8 +28,9 @@ use Rattle.aql_rewrite.specs.Swaps.{Replaced, Kept, KeepsPlaced}
 use Rattle.aql_rewrite.specs.laws.Among.{has, both, and_true, among_join, among_split}
 use Rattle.aql_rewrite.specs.Sums.{total}
 use Rattle.aql_rules_filter.specs.MoveFiltersUp.{none_used}
-use Rattle.aql_rules_filter.specs.OptimizeTraversals.{with_vars, tests_use, is_gone, traversal_in, Optimizes, edge_goes, path_goes, filter_goes_in, parts_to_go}
-use Rattle.aql_rules_filter.specs.Readers.{open_path, node_filtered, plan_filtered, plan_without_edge, plan_without_path}
+use Rattle.aql_rules_filter.specs.OptimizeTraversals.{with_vars, tests_use, is_gone, Optimizes, edge_goes, path_goes, filter_goes_in}
+use Rattle.aql_rules_filter.specs.Readers.{traversal_in, open_path, node_filtered, plan_filtered, plan_without_edge, plan_without_path}
+use Rattle.aql_rules_filter.specs.Measures.{parts_to_go}
 use Rattle.aql_rewrite.specs.laws.Falling.{total_falls}
 use Rattle.aql_rules_filter.specs.laws.FewerVariables.{traverses_alike, without_edge_agrees, without_path_agrees}
 use Rattle.aql_rules_filter.specs.laws.Filtered.{holds, filtered, all_pass}
