@@ -75,7 +75,10 @@ pub(crate) fn append_items(
         (tree cond.new ≡ joined (one_expr (tree cond.old)) (tree more.old)) }
 {
     match cond {
-        Expr::Chain { first: _, rest } if is_all_and(rest.as_slice()) => move_items(more, rest),
+        Expr::Chain { first: _, rest } if is_all_and(rest.as_slice()) => {
+            move_items(more, rest)?;
+            Ok(())
+        }
         _ => {
             let mut rest = Seq::new(alloc);
             move_items(more, &mut rest)?;

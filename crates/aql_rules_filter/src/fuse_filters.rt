@@ -69,6 +69,16 @@ impl PartRule for FuseFilters {
 
     ghost looks = { λ _. false };
 
+    fn rewrite(
+        &self,
+        alloc: Global,
+        part: &mut Plan,
+        _above: &[Uses],
+        _facts: &Facts,
+    ) -> Result<bool, OutOfMemory> {
+        fuse(alloc, part)
+    }
+
     fn looks_above(&self) -> bool {
         false
     }

@@ -65,11 +65,11 @@ fn optimize(alloc: Global, part: &mut Plan, above: &[Uses]) -> Result<bool, OutO
     match filter_of(part) {
         None => remove_variable(alloc, part, above),
         Some((node, cond)) => {
-            let fits = fits_inside(alloc, node, cond)?;
-            if fits {
-                push_filter(alloc, part)?;
+            if !fits_inside(alloc, node, cond)? {
+                return Ok(false);
             }
-            Ok(fits)
+            push_filter(alloc, part)?;
+            Ok(true)
         }
     }
 }
@@ -117,6 +117,16 @@ impl PartRule for OptimizeTraversals {
     ghost use Rattle.aql_rules_filter.specs.laws.TraversalsOptimized.{optimizes_nameless, optimizes_shrink};
 
     ghost looks = { λ _. true };
+
+    fn rewrite(
+        &self,
+        alloc: Global,
+        part: &mut Plan,
+        above: &[Uses],
+        _facts: &Facts,
+    ) -> Result<bool, OutOfMemory> {
+        optimize(alloc, part, above)
+    }
 
     fn looks_above(&self) -> bool {
         true

@@ -1,6 +1,6 @@
 //! Filters, and nodes with a filter of their own.
 
-ghost use Rattle.std.specs.Prelude.{◌≡◌, Some, None, IfOk, OnOk, MatchOption, is_some, option_map};
+ghost use Rattle.std.specs.Prelude.{◌≡◌, Some, None, OnOk, MatchOption, is_some, option_map};
 ghost use Rattle.aql_tree.specs.declared.syntax.Ident.TheVariants.{Num};
 ghost use Rattle.aql_tree.specs.View.{tree, maybe};
 ghost use Rattle.aql_plan.specs.Plan as spec;
@@ -50,16 +50,6 @@ pub(crate) fn is_filter(plan: &Plan) -> bool
         Some(_) => true,
         None => false,
     }
-}
-
-/// A Filter over a plan.
-pub(crate) fn filter_over(alloc: Global, below: Plan, cond: Expr) -> Result<Plan, OutOfMemory>
-    ensures { IfOk result
-        (λ p. plan_tree p ≡ spec.Over (plan_tree below) (spec.Filter (tree cond))) }
-{
-    let below = Box::new(alloc, below)?;
-    let node = Box::new(alloc, Node::Filter { cond })?;
-    Ok(Plan::Over { below, node })
 }
 
 // Takes the condition out of a Filter; `None` exactly at every other node, which stays as it is.

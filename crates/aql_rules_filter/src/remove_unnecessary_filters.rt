@@ -74,6 +74,16 @@ impl PartRule for RemoveUnnecessaryFilters {
 
     ghost looks = { λ _. false };
 
+    fn rewrite(
+        &self,
+        _alloc: Global,
+        part: &mut Plan,
+        _above: &[Uses],
+        _facts: &Facts,
+    ) -> Result<bool, OutOfMemory> {
+        Ok(remove(part))
+    }
+
     fn looks_above(&self) -> bool {
         false
     }
