@@ -1,15 +1,9 @@
 -- Conditions of filters, and their items: the parts of an `&&` chain, or the condition itself.
-use Rattle.std.specs.Prelude.{List, [], ◌∷◌, ◌++◌, true, Option, Some, None}
-use Rattle.aql_value.specs.Datum.{Datum, boolean}
-use Rattle.aql_value.specs.declared.operators.BinOp.{BinOp}
+use Rattle.std.specs.Prelude.{List, [], ◌∷◌, ◌++◌, true}
+use Rattle.aql_value.specs.Datum.{boolean}
 use Rattle.aql_value.specs.declared.operators.BinOp.TheVariants.{And}
 use Rattle.aql_tree.specs.Tree.{ExprTree, literal, chain, MaybeExpr, no_expr, one_expr, LinkTrees, no_links, link_then}
 use Rattle.aql_plan.specs.FirstPlan.{parts}
-
--- the value of a literal
-abbrev pub literal_in : ExprTree → Option Datum
-literal_in (literal v) = Some v
-literal_in e = None
 
 -- the items of a condition that may be missing
 abbrev pub filter_items : MaybeExpr → List ExprTree
@@ -17,9 +11,6 @@ filter_items no_expr = []
 filter_items (one_expr e) = parts e
 
 -- items as one condition: none is true, one is itself, more are an `&&` chain
-abbrev pub and_link : ExprTree → BinOp × ExprTree
-and_link e = (And, e)
-
 abbrev pub and_links : List ExprTree → LinkTrees
 and_links [] = no_links
 and_links (e ∷ es) = link_then And e (and_links es)

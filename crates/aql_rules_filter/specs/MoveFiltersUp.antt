@@ -1,12 +1,12 @@
 -- The rule move-filters-up: a Filter over an EnumerateCollection, EnumerateList, Traversal, Calculation,
 -- Subquery or a Sort without limit swaps places with it where the condition uses no variable that the node
 -- sets.
-use Rattle.std.specs.Prelude.{ℕ, ◌≡◌, ◌+◌, List, Bool, true, false, not, Option, None}
+use Rattle.std.specs.Prelude.{◌≡◌, List, Bool, true, false, not, Option, None}
 use Rattle.std.specs.List.{list_all}
 use Rattle.aql_tree.specs.declared.syntax.Ident.{Ident}
 use Rattle.aql_tree.specs.Tree.{ExprTree}
 use Rattle.aql_meaning.specs.Uses.{Uses, uses, is_used}
-use Rattle.aql_plan.specs.Plan.{Plan, Singleton, Over, Node, EnumerateCollection, EnumerateList, Traversal, Calculation, Subquery, Filter, Sort}
+use Rattle.aql_plan.specs.Plan.{Plan, Over, Node, EnumerateCollection, EnumerateList, Traversal, Calculation, Subquery, Filter, Sort}
 use Rattle.aql_plan.specs.Needs.{sets}
 use Rattle.aql_rewrite.specs.declared.swap.Rename.{Rename}
 
@@ -28,17 +28,3 @@ pub data MovesUp : Uses → Plan → Plan → Option Rename → Type 0 where
   swapped : {us : Uses} {b : Plan} {n : Node} {c : ExprTree} → may_swap n ≡ true
       → none_used (sets n) (uses c) ≡ true
       → MovesUp us (Over (Over b n) (Filter c)) (Over (Over b (Filter c)) n) None
-
--- ---- what falls: for each Filter, the nodes below it on its spine that are none
-
-abbrev mutual
-  pub others_below : Plan → ℕ
-  others_below Singleton = 0
-  others_below (Over b (Filter c)) = others_below b
-  others_below (Over b n) = others_below b + 1
-
-  pub height : Plan → ℕ
-  height Singleton = 0
-  height (Over b (Filter c)) = height b + others_below b
-  height (Over b (Subquery x s)) = height b + height s
-  height (Over b n) = height b

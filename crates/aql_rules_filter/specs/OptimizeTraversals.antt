@@ -1,13 +1,12 @@
 -- The rule optimize-traversals: the variable of the edges or of the paths of a Traversal goes where it is not
 -- used, neither above nor in the PRUNE and the filter of the Traversal; the edges come first; a Filter over a
 -- Traversal without a filter goes into it where the condition does not use the path.
-use Rattle.std.specs.Prelude.{ℕ, ◌≡◌, ◌+◌, ◌++◌, length, List, Bool, true, false, not, ◌&&◌, Option, Some, None, option_to_list}
+use Rattle.std.specs.Prelude.{ℕ, ◌≡◌, ◌++◌, List, Bool, true, false, not, ◌&&◌, Option, Some, None, option_to_list}
 use Rattle.aql_tree.specs.declared.syntax.Ident.{Ident}
 use Rattle.aql_tree.specs.Tree.{ExprTree, MaybeExpr, no_expr, one_expr, TraversalShape}
 use Rattle.aql_meaning.specs.Uses.{Uses, uses, maybe_uses, is_used}
-use Rattle.aql_plan.specs.Plan.{Plan, Over, Node, Traversal, Filter}
+use Rattle.aql_plan.specs.Plan.{Plan, Over, Traversal, Filter}
 use Rattle.aql_rewrite.specs.declared.swap.Rename.{Rename}
-use Rattle.aql_rules_filter.specs.Measures.{is_filter}
 use Rattle.aql_rules_filter.specs.MoveFiltersUp.{none_used}
 
 -- the shape with these variables for the edges and the paths
@@ -46,14 +45,3 @@ pub data Optimizes : Uses → Plan → Plan → Option Rename → Type 0 where
       {prune : MaybeExpr} {c : ExprTree} → none_used (option_to_list w.path) (uses c) ≡ true
       → Optimizes us (Over (Over b (Traversal w e colls prune no_expr)) (Filter c))
       (Over b (Traversal w e colls prune (one_expr c))) None
-
--- what falls: the filters, and the variables of edges and paths
-abbrev pub parts_to_go : Node → ℕ
-parts_to_go (Traversal w e colls prune keep) =
-    length (option_to_list w.edge) + length (option_to_list w.path)
-parts_to_go n = is_filter n
-
--- the variables of edges and paths of a Traversal, its PRUNE and its filter
-abbrev pub traversal_in : Node → Option (Option Ident × Option Ident × MaybeExpr × MaybeExpr)
-traversal_in (Traversal w e colls prune keep) = Some (w.edge, w.path, prune, keep)
-traversal_in n = None

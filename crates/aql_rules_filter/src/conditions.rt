@@ -1,19 +1,18 @@
-//! Conditions of filters and their items, by reference.
+//! Conditions of filters, and their items.
 
-ghost use Rattle.std.specs.Prelude.{◌≡◌, ◌++◌, Some, None, OnOk, IfOk, MatchOption, map, option_map};
+ghost use Rattle.std.specs.Prelude.{◌≡◌, ◌++◌, Some, None, OnOk, MatchOption, map, option_map};
 ghost use Rattle.aql_value.specs.View.{datum_of};
-ghost use Rattle.aql_tree.specs.Tree.{one_expr};
+ghost use Rattle.aql_tree.specs.Tree.{no_expr, one_expr};
 ghost use Rattle.aql_tree.specs.View.{tree, maybe, links, link_part};
 ghost use Rattle.aql_plan.specs.FirstPlan.{all_and, right_sides, parts};
-ghost use Rattle.aql_rewrite.specs.ExprView.{lent};
-ghost use Rattle.aql_rules_filter.specs.Conditions.{literal_in as spec_literal_in, filter_items, and_link};
-ghost use Rattle.aql_rules_filter.specs.Conditions.{all_of as spec_all_of, with_more as spec_with_more};
-ghost use Rattle.aql_rules_filter.specs.Conditions.{joined as spec_joined};
+ghost use Rattle.aql_rules_filter.specs.Conditions.{joined};
+ghost use Rattle.aql_rules_filter.specs.Readers.{literal_in as spec_literal_in, and_link};
 
 use aql_func::BinOp;
-use aql_tree::{Expr, Link, Links, copy_expr};
+use aql_tree::{Expr, Link, Links};
 use aql_value::{OutOfMemory, Seq, Value};
 use std::alloc::Global;
+use std::mem;
 
 /// The value of a literal; `None` exactly at every other expression.
 pub(crate) fn literal_in(expr: &Expr) -> Option<&Value>
@@ -38,98 +37,84 @@ fn is_all_and(rest: &[Link]) -> bool
     true
 }
 
-fn add_sides<'a>(to: &mut Vec<&'a Expr>, rest: &'a [Link]) -> Result<(), OutOfMemory>
-    ensures { OnOk result (map lent to.new.items
-        ≡ map lent to.old.items ++ right_sides (links (map link_part rest.now))) }
+// Moves the right sides of links to the end of an `&&` chain.
+fn move_sides(from: &mut Links, to: &mut Links) -> Result<(), OutOfMemory>
+    ensures { OnOk result (map link_part to.new ≡ map link_part to.old
+        ++ map and_link (right_sides (links (map link_part from.old)))) }
 {
-    for link in rest {
-        to.push(&link.right)?;
+    let items = from.as_mut_slice();
+    for link in items.iter_mut() {
+        let side = mem::replace(&mut link.right, Expr::Current);
+        to.push(Link::new(BinOp::And, side))?;
     }
     Ok(())
 }
 
-fn add_parts<'a>(to: &mut Vec<&'a Expr>, cond: &'a Expr) -> Result<(), OutOfMemory>
+// Moves the items of a condition to the end of an `&&` chain.
+fn move_items(from: &mut Expr, to: &mut Links) -> Result<(), OutOfMemory>
     ensures { OnOk result
-        (map lent to.new.items ≡ map lent to.old.items ++ parts (tree cond.now)) }
+        (map link_part to.new ≡ map link_part to.old ++ map and_link (parts (tree from.old))) }
+{
+    match from {
+        Expr::Chain { first, rest } if is_all_and(rest.as_slice()) => {
+            let first = mem::replace(&mut **first, Expr::Current);
+            to.push(Link::new(BinOp::And, first))?;
+            move_sides(rest, to)
+        }
+        _ => to.push(Link::new(BinOp::And, mem::replace(from, Expr::Current))),
+    }
+}
+
+/// Appends the items of another condition to those of one.
+pub(crate) fn append_items(
+    alloc: Global,
+    cond: &mut Expr,
+    more: &mut Expr,
+) -> Result<(), OutOfMemory>
+    ensures { OnOk result
+        (tree cond.new ≡ joined (one_expr (tree cond.old)) (tree more.old)) }
 {
     match cond {
-        Expr::Chain { first, rest } if is_all_and(rest.as_slice()) => {
-            to.push(first)?;
-            add_sides(to, rest.as_slice())
+        Expr::Chain { first: _, rest } if is_all_and(rest.as_slice()) => {
+            move_items(more, rest)?;
+            Ok(())
         }
         _ => {
-            to.push(cond)?;
+            let mut rest = Seq::new(alloc);
+            move_items(more, &mut rest)?;
+            let first = mem::replace(cond, Expr::Current);
+            *cond = Expr::chain(alloc, first, rest)?;
             Ok(())
         }
     }
 }
 
-fn add_items<'a>(to: &mut Vec<&'a Expr>, cond: &'a Option<Expr>) -> Result<(), OutOfMemory>
-    ensures { OnOk result (map lent to.new.items
-        ≡ map lent to.old.items ++ filter_items (maybe (option_map tree cond.now))) }
+// The items of a condition as one: a chain without links is its first part.
+fn own_items(cond: &mut Expr) -> Expr
+    ensures { tree result ≡ joined no_expr (tree cond.old) }
 {
     match cond {
-        Some(cond) => add_parts(to, cond),
-        None => Ok(()),
+        Expr::Chain { first, rest } if rest.len() == 0 => {
+            mem::replace(&mut **first, Expr::Current)
+        }
+        _ => mem::replace(cond, Expr::Current),
     }
 }
 
-fn and_links(alloc: Global, items: &[&Expr]) -> Result<Links, OutOfMemory>
-    ensures { IfOk result
-        (λ ls. map link_part ls ≡ map and_link (map lent items.now)) }
+/// The same where the first condition may be missing.
+pub(crate) fn append_to_filter(
+    alloc: Global,
+    filter: &mut Option<Expr>,
+    more: &mut Expr,
+) -> Result<(), OutOfMemory>
+    ensures { OnOk result (maybe (option_map tree filter.new)
+        ≡ one_expr (joined (maybe (option_map tree filter.old)) (tree more.old))) }
 {
-    let mut all = Seq::new(alloc);
-    for item in items {
-        all.push(Link::new(BinOp::And, copy_expr(alloc, item)?))?;
-    }
-    Ok(all)
-}
-
-// An expression, and more of them.
-fn with_more(alloc: Global, first: Expr, rest: &[&Expr]) -> Result<Expr, OutOfMemory>
-    ensures { IfOk result (λ e. tree e ≡ spec_with_more (tree first) (map lent rest.now)) }
-{
-    if rest.is_empty() {
-        return Ok(first);
-    }
-    let links = and_links(alloc, rest)?;
-    Expr::chain(alloc, first, links)
-}
-
-fn all_of(alloc: Global, items: &[&Expr]) -> Result<Expr, OutOfMemory>
-    ensures { IfOk result (λ e. tree e ≡ spec_all_of (map lent items.now)) }
-{
-    match items.split_first() {
-        None => Ok(Expr::Lit(Value::Bool(true))),
-        Some((first, rest)) => {
-            let first = copy_expr(alloc, first)?;
-            with_more(alloc, first, rest)
+    match filter {
+        Some(cond) => append_items(alloc, cond, more),
+        None => {
+            *filter = Some(own_items(more));
+            Ok(())
         }
     }
-}
-
-/// The items of one condition, then those of another, as one condition.
-pub(crate) fn joined(alloc: Global, first: &Expr, second: &Expr) -> Result<Expr, OutOfMemory>
-    ensures { IfOk result
-        (λ e. tree e ≡ spec_joined (one_expr (tree first.now)) (tree second.now)) }
-{
-    let mut items = Vec::new(alloc);
-    add_parts(&mut items, first)?;
-    add_parts(&mut items, second)?;
-    all_of(alloc, &items)
-}
-
-/// The same where the first may be missing.
-pub(crate) fn joined_to(
-    alloc: Global,
-    first: &Option<Expr>,
-    second: &Expr,
-) -> Result<Expr, OutOfMemory>
-    ensures { IfOk result (λ e. tree e
-        ≡ spec_joined (maybe (option_map tree first.now)) (tree second.now)) }
-{
-    let mut items = Vec::new(alloc);
-    add_items(&mut items, first)?;
-    add_parts(&mut items, second)?;
-    all_of(alloc, &items)
 }

@@ -1,11 +1,30 @@
 //! A Filter over a Filter becomes one with the items of the lower, then of the upper.
 
-use crate::conditions::joined;
-use crate::readers::{filter_of, filter_over};
+ghost use Rattle.std.specs.Prelude.{IfOk};
+ghost use Rattle.aql_meaning.specs.Uses.{Uses as spec_Uses};
+ghost use Rattle.aql_plan.specs.View.{plan_tree};
+ghost use Rattle.aql_rewrite.specs.Changed.{IsChanged};
+ghost use Rattle.aql_rules_filter.specs.FuseFilters.{Fuses};
+
+use crate::readers::{filter_of, is_filter, push_filter};
+use crate::swaps::swap_if;
 use aql_plan::{Facts, Plan, Uses};
 use aql_rewrite::{PartRule, Rule, Swap};
 use aql_value::OutOfMemory;
 use std::alloc::Global;
+
+fn fuse(alloc: Global, part: &mut Plan) -> Result<bool, OutOfMemory>
+    ensures { (us : spec_Uses) → IfOk result
+        (IsChanged Fuses us (plan_tree part.old) (plan_tree part.new)) }
+{
+    match filter_of(part) {
+        Some((below, _)) if is_filter(below) => {
+            push_filter(alloc, part)?;
+            Ok(true)
+        }
+        _ => Ok(false),
+    }
+}
 
 /// The rule fuse-filters.
 #[derive(Clone, Copy, Drop)]
@@ -30,18 +49,9 @@ impl Rule for FuseFilters {
         _above: &[Uses],
         _facts: &Facts,
     ) -> Result<Option<Swap>, OutOfMemory> {
-        match filter_of(part) {
-            None => Ok(None),
-            Some((node, upper)) => match filter_of(node) {
-                None => Ok(None),
-                Some((below, lower)) => {
-                    let cond = joined(alloc, lower, upper)?;
-                    let below = below.copy(alloc)?;
-                    let part = filter_over(alloc, below, cond)?;
-                    Ok(Some(Swap { part, rename: None }))
-                }
-            },
-        }
+        let mut part = part.copy(alloc)?;
+        let changed = fuse(alloc, &mut part)?;
+        Ok(swap_if(changed, part))
     }
 
     ghost refines = { λ _ facts _ _ us p q r _ h. fuses_refine facts us p q r h };
@@ -58,6 +68,16 @@ impl PartRule for FuseFilters {
     ghost use Rattle.aql_rules_filter.specs.laws.FiltersFused.{fuses_blind, fuses_nameless, fuses_shrink};
 
     ghost looks = { λ _. false };
+
+    fn rewrite(
+        &self,
+        alloc: Global,
+        part: &mut Plan,
+        _above: &[Uses],
+        _facts: &Facts,
+    ) -> Result<bool, OutOfMemory> {
+        fuse(alloc, part)
+    }
 
     fn looks_above(&self) -> bool {
         false

@@ -1,11 +1,30 @@
 //! A Filter over an EnumerateCollection or an Index that keeps all attributes goes into it.
 
-use crate::conditions::joined_to;
-use crate::readers::{filter_of, own_filter, with_filter};
+ghost use Rattle.std.specs.Prelude.{IfOk};
+ghost use Rattle.aql_meaning.specs.Uses.{Uses as spec_Uses};
+ghost use Rattle.aql_plan.specs.View.{plan_tree};
+ghost use Rattle.aql_rewrite.specs.Changed.{IsChanged};
+ghost use Rattle.aql_rules_filter.specs.MoveFiltersIntoEnumerate.{MovesIn};
+
+use crate::readers::{filter_of, keeps_all, push_filter};
+use crate::swaps::swap_if;
 use aql_plan::{Facts, Plan, Uses};
 use aql_rewrite::{PartRule, Rule, Swap};
 use aql_value::OutOfMemory;
 use std::alloc::Global;
+
+fn move_in(alloc: Global, part: &mut Plan) -> Result<bool, OutOfMemory>
+    ensures { (us : spec_Uses) → IfOk result
+        (IsChanged MovesIn us (plan_tree part.old) (plan_tree part.new)) }
+{
+    match filter_of(part) {
+        Some((node, _)) if keeps_all(node) => {
+            push_filter(alloc, part)?;
+            Ok(true)
+        }
+        _ => Ok(false),
+    }
+}
 
 /// The rule move-filters-into-enumerate.
 #[derive(Clone, Copy, Drop)]
@@ -30,20 +49,9 @@ impl Rule for MoveFiltersIntoEnumerate {
         _above: &[Uses],
         _facts: &Facts,
     ) -> Result<Option<Swap>, OutOfMemory> {
-        match filter_of(part) {
-            None => Ok(None),
-            Some((node, cond)) => match own_filter(node) {
-                None => Ok(None),
-                Some(filter) => {
-                    let cond = joined_to(alloc, filter, cond)?;
-                    let node = node.copy(alloc)?;
-                    Ok(Some(Swap {
-                        part: with_filter(node, cond),
-                        rename: None,
-                    }))
-                }
-            },
-        }
+        let mut part = part.copy(alloc)?;
+        let changed = move_in(alloc, &mut part)?;
+        Ok(swap_if(changed, part))
     }
 
     ghost refines = { λ _ facts _ _ us p q r _ h. moves_in_refine facts us p q r h };
@@ -60,6 +68,16 @@ impl PartRule for MoveFiltersIntoEnumerate {
     ghost use Rattle.aql_rules_filter.specs.laws.FiltersInside.{moves_in_blind, moves_in_nameless, moves_in_shrink};
 
     ghost looks = { λ _. false };
+
+    fn rewrite(
+        &self,
+        alloc: Global,
+        part: &mut Plan,
+        _above: &[Uses],
+        _facts: &Facts,
+    ) -> Result<bool, OutOfMemory> {
+        move_in(alloc, part)
+    }
 
     fn looks_above(&self) -> bool {
         false

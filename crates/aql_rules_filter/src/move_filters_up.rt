@@ -1,8 +1,8 @@
 //! A Filter swaps places with the node below it, whose variables it does not use.
 
-use crate::readers::{filter_of, filter_over};
+use crate::readers::filter_of;
 use crate::swapping::{may_swap, uses_of};
-use aql_plan::{Facts, Plan, Uses};
+use aql_plan::{Facts, Node, Plan, Uses};
 use aql_rewrite::{ExchangeRule, Rule, Swap};
 use aql_tree::copy_expr;
 use aql_value::OutOfMemory;
@@ -14,7 +14,8 @@ pub struct MoveFiltersUp;
 
 impl Rule for MoveFiltersUp {
     ghost use Rattle.std.specs.Prelude.{false};
-    ghost use Rattle.aql_rules_filter.specs.MoveFiltersUp.{MovesUp, height};
+    ghost use Rattle.aql_rules_filter.specs.MoveFiltersUp.{MovesUp};
+    ghost use Rattle.aql_rules_filter.specs.Measures.{height};
     ghost use Rattle.aql_rules_filter.specs.laws.FiltersUp.{moves_up_refine, moves_up_keep, moves_up_fall};
 
     ghost rewrites = { λ _ _. MovesUp };
@@ -41,7 +42,7 @@ impl Rule for MoveFiltersUp {
                     }
                     let below = below.copy(alloc)?;
                     let cond = copy_expr(alloc, cond)?;
-                    let lower = filter_over(alloc, below, cond)?;
+                    let lower = Node::Filter { cond }.over(alloc, below)?;
                     let part = node.over(alloc, lower)?;
                     Ok(Some(Swap { part, rename: None }))
                 }

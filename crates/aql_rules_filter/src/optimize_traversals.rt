@@ -1,71 +1,77 @@
 //! The variable of a Traversal's edges or paths goes where it is not used, and a Filter over a
 //! Traversal goes into it.
 
-ghost use Rattle.std.specs.Prelude.{◌≡◌, IfOk, MatchOption, None, Some};
+ghost use Rattle.std.specs.Prelude.{◌≡◌, IfOk, None};
 ghost use Rattle.aql_tree.specs.View.{tree};
-ghost use Rattle.aql_plan.specs.Plan as spec;
+ghost use Rattle.aql_plan.specs.Plan.{top};
 ghost use Rattle.aql_plan.specs.View.{plan_tree};
-ghost use Rattle.aql_rewrite.specs.Places.{Stays};
+ghost use Rattle.aql_rewrite.specs.Changed.{IsChanged};
 ghost use Rattle.aql_rewrite.specs.View.{above_uses};
 ghost use Rattle.aql_rules_filter.specs.OptimizeTraversals.{Optimizes};
-ghost use Rattle.aql_rules_filter.specs.Readers.{filter_in};
+ghost use Rattle.aql_rules_filter.specs.Readers.{filter_in, may_go_in};
 
-use crate::readers::{filter_of, open_path, traversal_of, with_filter, without_edge, without_path};
+use crate::readers::{filter_of, open_path, push_filter, remove_edge, remove_path, traversal_of};
 use crate::swapping::{is_gone, is_unused, test_uses, uses_of};
+use crate::swaps::swap_if;
 use aql_plan::{Facts, Plan, Uses};
 use aql_rewrite::{PartRule, Rule, Swap};
-use aql_tree::{Expr, copy_expr};
+use aql_tree::Expr;
 use aql_value::OutOfMemory;
 use std::alloc::Global;
 
-// A Filter over this node goes into it.
-fn filter_inside(
-    alloc: Global,
-    part: &Plan,
-    node: &Plan,
-    cond: &Expr,
-    above: &[Uses],
-) -> Result<Option<Swap>, OutOfMemory>
-    requires { plan_tree part.now ≡ spec.Over (plan_tree node.now) (spec.Filter (tree cond.now)) }
-    ensures { IfOk result (λ o. MatchOption o
-        (Stays Optimizes (above_uses above.now) (plan_tree part.now))
-        (λ s. Optimizes (above_uses above.now) (plan_tree part.now) (plan_tree s.part) s.rename)) }
+// Whether a Filter with this condition goes into this node.
+fn fits_inside(alloc: Global, node: &Plan, cond: &Expr) -> Result<bool, OutOfMemory>
+    ensures { IfOk result
+        (λ fits. fits ≡ may_go_in (top (plan_tree node.now)) (tree cond.now)) }
 {
-    let Some(path) = open_path(node) else {
-        return Ok(None);
-    };
-    let used = uses_of(alloc, cond)?;
-    if !is_unused(path, &used) {
-        return Ok(None);
+    match open_path(node) {
+        None => Ok(false),
+        Some(path) => {
+            let used = uses_of(alloc, cond)?;
+            Ok(is_unused(path, &used))
+        }
     }
-    let cond = copy_expr(alloc, cond)?;
-    let node = node.copy(alloc)?;
-    let part = with_filter(node, cond);
-    Ok(Some(Swap { part, rename: None }))
 }
 
-// A variable goes from a node that is no Filter.
-fn variable_gone(alloc: Global, part: &Plan, above: &[Uses]) -> Result<Option<Swap>, OutOfMemory>
-    requires { filter_in (plan_tree part.now) ≡ None }
-    ensures { IfOk result (λ o. MatchOption o
-        (Stays Optimizes (above_uses above.now) (plan_tree part.now))
-        (λ s. Optimizes (above_uses above.now) (plan_tree part.now) (plan_tree s.part) s.rename)) }
+// A variable goes from a Traversal; `false` exactly where none does.
+fn remove_variable(
+    alloc: Global,
+    part: &mut Plan,
+    above: &[Uses],
+) -> Result<bool, OutOfMemory>
+    requires { filter_in (plan_tree part.old) ≡ None }
+    ensures { IfOk result (IsChanged Optimizes (above_uses above.now) (plan_tree part.old)
+        (plan_tree part.new)) }
 {
     let Some((edge, path, prune, filter)) = traversal_of(part) else {
-        return Ok(None);
+        return Ok(false);
     };
     let own = test_uses(alloc, prune, filter)?;
     if is_gone(edge, above, &own) {
-        let node = part.copy(alloc)?;
-        let part = without_edge(node);
-        return Ok(Some(Swap { part, rename: None }));
+        remove_edge(part);
+        return Ok(true);
     }
     if is_gone(path, above, &own) {
-        let node = part.copy(alloc)?;
-        let part = without_path(node);
-        return Ok(Some(Swap { part, rename: None }));
+        remove_path(part);
+        return Ok(true);
     }
-    Ok(None)
+    Ok(false)
+}
+
+fn optimize(alloc: Global, part: &mut Plan, above: &[Uses]) -> Result<bool, OutOfMemory>
+    ensures { IfOk result (IsChanged Optimizes (above_uses above.now) (plan_tree part.old)
+        (plan_tree part.new)) }
+{
+    match filter_of(part) {
+        None => remove_variable(alloc, part, above),
+        Some((node, cond)) => {
+            if !fits_inside(alloc, node, cond)? {
+                return Ok(false);
+            }
+            push_filter(alloc, part)?;
+            Ok(true)
+        }
+    }
 }
 
 /// The rule optimize-traversals.
@@ -75,7 +81,7 @@ pub struct OptimizeTraversals;
 impl Rule for OptimizeTraversals {
     ghost use Rattle.std.specs.Prelude.{false};
     ghost use Rattle.aql_rewrite.specs.Sums.{total};
-    ghost use Rattle.aql_rules_filter.specs.OptimizeTraversals.{parts_to_go};
+    ghost use Rattle.aql_rules_filter.specs.Measures.{parts_to_go};
     ghost use Rattle.aql_rules_filter.specs.laws.TraversalsOptimized.{optimizes_refine, optimizes_keep, optimizes_fall};
 
     ghost rewrites = { λ _ _. Optimizes };
@@ -91,10 +97,9 @@ impl Rule for OptimizeTraversals {
         above: &[Uses],
         _facts: &Facts,
     ) -> Result<Option<Swap>, OutOfMemory> {
-        match filter_of(part) {
-            Some((node, cond)) => filter_inside(alloc, part, node, cond, above),
-            None => variable_gone(alloc, part, above),
-        }
+        let mut part = part.copy(alloc)?;
+        let changed = optimize(alloc, &mut part, above)?;
+        Ok(swap_if(changed, part))
     }
 
     ghost refines = { λ _ facts _ _ us p q r _ h. optimizes_refine facts us p q r h };
@@ -108,10 +113,20 @@ impl Rule for OptimizeTraversals {
 impl PartRule for OptimizeTraversals {
     ghost use Rattle.std.specs.Prelude.{refl, true};
     ghost use Rattle.std.proofs.Common.{true≢false};
-    ghost use Rattle.aql_rules_filter.specs.OptimizeTraversals.{parts_to_go};
+    ghost use Rattle.aql_rules_filter.specs.Measures.{parts_to_go};
     ghost use Rattle.aql_rules_filter.specs.laws.TraversalsOptimized.{optimizes_nameless, optimizes_shrink};
 
     ghost looks = { λ _. true };
+
+    fn rewrite(
+        &self,
+        alloc: Global,
+        part: &mut Plan,
+        above: &[Uses],
+        _facts: &Facts,
+    ) -> Result<bool, OutOfMemory> {
+        optimize(alloc, part, above)
+    }
 
     fn looks_above(&self) -> bool {
         true

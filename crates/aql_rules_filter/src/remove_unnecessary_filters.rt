@@ -1,10 +1,35 @@
 //! A Filter with a literal goes where this is true-like, and becomes NoResults where it is not.
 
+ghost use Rattle.aql_meaning.specs.Uses.{Uses as spec_Uses};
+ghost use Rattle.aql_plan.specs.View.{plan_tree};
+ghost use Rattle.aql_rewrite.specs.Changed.{IsChanged};
+ghost use Rattle.aql_rules_filter.specs.RemoveUnnecessaryFilters.{Removes};
+
 use crate::conditions::literal_in;
+use crate::readers::{empty_filter, filter_of, take_filter};
+use crate::swaps::swap_if;
 use aql_plan::{Facts, Plan, Uses};
 use aql_rewrite::{PartRule, Rule, Swap};
 use aql_value::{OutOfMemory, truthy};
 use std::alloc::Global;
+
+fn remove(part: &mut Plan) -> bool
+    ensures { (us : spec_Uses) → IsChanged Removes us (plan_tree part.old) (plan_tree part.new)
+        result }
+{
+    let Some((_, cond)) = filter_of(part) else {
+        return false;
+    };
+    let Some(value) = literal_in(cond) else {
+        return false;
+    };
+    if truthy(value) {
+        take_filter(part);
+    } else {
+        empty_filter(part);
+    }
+    true
+}
 
 /// The rule remove-unnecessary-filters.
 #[derive(Clone, Copy, Drop)]
@@ -29,26 +54,9 @@ impl Rule for RemoveUnnecessaryFilters {
         _above: &[Uses],
         _facts: &Facts,
     ) -> Result<Option<Swap>, OutOfMemory> {
-        match part {
-            Plan::Filter { below, cond } => match literal_in(cond) {
-                None => Ok(None),
-                Some(value) => {
-                    let below = below.copy(alloc)?;
-                    if truthy(value) {
-                        return Ok(Some(Swap {
-                            part: below,
-                            rename: None,
-                        }));
-                    }
-                    let below = Box::new(alloc, below)?;
-                    Ok(Some(Swap {
-                        part: Plan::NoResults { below },
-                        rename: None,
-                    }))
-                }
-            },
-            _ => Ok(None),
-        }
+        let mut part = part.copy(alloc)?;
+        let changed = remove(&mut part);
+        Ok(swap_if(changed, part))
     }
 
     ghost refines = { λ _ facts _ _ us p q r _ h. removes_refine facts us p q r h };
@@ -65,6 +73,16 @@ impl PartRule for RemoveUnnecessaryFilters {
     ghost use Rattle.aql_rules_filter.specs.laws.FiltersRemoved.{removes_blind, removes_nameless, removes_shrink};
 
     ghost looks = { λ _. false };
+
+    fn rewrite(
+        &self,
+        _alloc: Global,
+        part: &mut Plan,
+        _above: &[Uses],
+        _facts: &Facts,
+    ) -> Result<bool, OutOfMemory> {
+        Ok(remove(part))
+    }
 
     fn looks_above(&self) -> bool {
         false

@@ -6,13 +6,13 @@ ghost use Rattle.aql_tree.specs.View.{tree, maybe};
 ghost use Rattle.aql_meaning.specs.Uses.{uses, maybe_uses};
 ghost use Rattle.aql_plan.specs.Needs.{sets};
 ghost use Rattle.aql_plan.specs.Plan.{top};
-ghost use Rattle.aql_plan.specs.View.{plan_tree};
+ghost use Rattle.aql_plan.specs.View.{node_tree, plan_tree};
 ghost use Rattle.aql_plan.specs.Used.{uses_tree};
 ghost use Rattle.aql_rewrite.specs.View.{above_uses};
 ghost use Rattle.aql_rules_filter.specs.MoveFiltersUp.{may_swap as spec_may_swap, none_used};
 ghost use Rattle.aql_rules_filter.specs.OptimizeTraversals.{tests_use, is_gone as spec_is_gone};
 
-use aql_plan::{Plan, Uses, add_uses};
+use aql_plan::{Node, Plan, Uses, add_uses};
 use aql_rewrite::is_used;
 use aql_tree::Expr;
 use aql_value::{OutOfMemory, Seq};
@@ -40,24 +40,34 @@ pub(crate) fn is_unused(var: Option<u32>, used: &[Uses]) -> bool
     }
 }
 
+fn node_may_swap(node: &Node, used: &[Uses]) -> bool
+    ensures { result ≡ (spec_may_swap (node_tree node.now)
+        && none_used (sets (node_tree node.now)) (above_uses used.now)) }
+{
+    match node {
+        Node::EnumerateCollection { var, .. } => !is_used(*var, used),
+        Node::EnumerateList { var, .. } => !is_used(*var, used),
+        Node::Traversal {
+            vertex,
+            edge,
+            path,
+            ..
+        } => !is_used(*vertex, used) && is_unused(*edge, used) && is_unused(*path, used),
+        Node::Calculation { var, .. } => !is_used(*var, used),
+        Node::Sort { limit: None, .. } => true,
+        _ => false,
+    }
+}
+
 /// Whether a Filter may swap places with a node that stands below it, by what its condition uses.
 pub(crate) fn may_swap(node: &Plan, used: &[Uses]) -> bool
     ensures { result ≡ (spec_may_swap (top (plan_tree node.now))
         && none_used (sets (top (plan_tree node.now))) (above_uses used.now)) }
 {
     match node {
-        Plan::EnumerateCollection { var, .. } => !is_used(*var, used),
-        Plan::EnumerateList { var, .. } => !is_used(*var, used),
-        Plan::Traversal {
-            vertex,
-            edge,
-            path,
-            ..
-        } => !is_used(*vertex, used) && is_unused(*edge, used) && is_unused(*path, used),
-        Plan::Calculation { var, .. } => !is_used(*var, used),
+        Plan::Singleton => false,
+        Plan::Over { node, .. } => node_may_swap(node, used),
         Plan::Subquery { var, .. } => !is_used(*var, used),
-        Plan::Sort { limit: None, .. } => true,
-        _ => false,
     }
 }
 

@@ -1,13 +1,13 @@
 -- One Filter for two gives the same rows.
-use Rattle.std.proofs.Common.{◌≡◌, ◌∙◌, ◌<◌, List, false, refl, ap, sym, subst, subst₂, arith, ◌+◌}
-use Rattle.std.specs.Prelude.{Option, None, filter, ◌&&◌}
+use Rattle.std.proofs.Common.{◌≡◌, ◌∙◌, ◌<◌, List, true, false, true≢false, refl, ap, sym, subst, subst₂, arith, ◌+◌}
+use Rattle.std.specs.Prelude.{Option, None, is_some, filter, ◌&&◌}
 use Rattle.aql_tree.specs.declared.syntax.Ident.{Ident}
 use Rattle.aql_tree.specs.Tree.{ExprTree, one_expr}
 use Rattle.aql_meaning.specs.AtRows.{values_of}
 use Rattle.aql_meaning.specs.Clauses.{filter_true}
 use Rattle.aql_meaning.specs.Uses.{Uses}
 use Rattle.aql_plan.specs.declared.facts.Facts.{Facts}
-use Rattle.aql_plan.specs.Plan.{Plan, Over, Filter}
+use Rattle.aql_plan.specs.Plan.{Plan, Singleton, Over, Node, Filter}
 use Rattle.aql_plan.specs.Needs.{result_uses}
 use Rattle.aql_plan.specs.Shapes.{Shape, Rows, Shaped, plain_rows}
 use Rattle.aql_plan.specs.Variables.{vars_of}
@@ -19,7 +19,7 @@ use Rattle.aql_rewrite.specs.Swaps.{Replaced, KeepsPlaced}
 use Rattle.aql_rules_filter.specs.Conditions.{joined}
 use Rattle.aql_rules_filter.specs.Measures.{filters, is_filter}
 use Rattle.aql_rules_filter.specs.FuseFilters.{Fuses, fused}
-use Rattle.aql_rules_filter.specs.Readers.{filter_in}
+use Rattle.aql_rules_filter.specs.Readers.{filter_in, narrowed, pushed}
 use Rattle.aql_rewrite.specs.laws.Falling.{total_falls}
 use Rattle.aql_rules_filter.specs.laws.Filtered.{holds, filtered, filter_twice, filter_same}
 use Rattle.aql_rules_filter.specs.laws.Filters.{filter_shaped, same_filters}
@@ -86,21 +86,17 @@ fuses_shrink _ _ _ _ fused = omega arith
 
 -- ---- what the rule finds
 
-pub not_a_filter : (us : Uses) (m : Plan) → filter_in m ≡ None
-    → (q : Plan) (r : Option Rename) → Fuses us m q r → ⊥
-not_a_filter us _ h _ _ fused = cc
+over_one : (us : Uses) (p : Plan) (c : ExprTree) → is_some (filter_in p) ≡ true
+    → Fuses us (Over p (Filter c)) (pushed (Over p (Filter c))) None
+over_one us Singleton c h = absurd (true≢false (sym h))
+over_one us (Over b n) c h = by n h
+  where
+    by : (n : Node) → is_some (filter_in (Over b n)) ≡ true
+        → Fuses us (Over (Over b n) (Filter c)) (Over b (narrowed n c)) None
+    by (Filter e) h = fused
+    by n h = absurd (true≢false (sym h))
 
-not_over_one : (us : Uses) (p : Plan) (c : ExprTree) → filter_in p ≡ None
-    → (q : Plan) (r : Option Rename) → Fuses us (Over p (Filter c)) q r → ⊥
-not_over_one us _ _ h _ _ fused = cc
-
-pub not_over_a_filter : (us : Uses) (m p : Plan) (c : ExprTree) → m ≡ Over p (Filter c) → filter_in p ≡ None
-    → (q : Plan) (r : Option Rename) → Fuses us m q r → ⊥
-not_over_a_filter us m p c d h =
-    subst (λ (n : Plan). (q : Plan) (r : Option Rename) → Fuses us n q r → ⊥) (sym d) (not_over_one us p c h)
-
-pub fused_at : (us : Uses) (m p b q : Plan) (lower upper : ExprTree) → m ≡ Over p (Filter upper)
-    → p ≡ Over b (Filter lower) → q ≡ Over b (Filter (joined (one_expr lower) upper)) → Fuses us m q None
-fused_at us m p b q lower upper d e f =
-    subst₂ (λ (n s : Plan). Fuses us n s None)
-    (sym (d ∙ ap (λ (n : Plan). Over n (Filter upper)) e)) (sym f) fused
+pub fused_at : (us : Uses) (m p q : Plan) (c : ExprTree) → m ≡ Over p (Filter c)
+    → is_some (filter_in p) ≡ true → q ≡ pushed m → Fuses us m q None
+fused_at us m p q c d h e = subst₂ (λ (n s : Plan). Fuses us n s None) (sym d) (sym (e ∙ ap pushed d))
+    (over_one us p c h)

@@ -1,6 +1,6 @@
 -- A condition in the filter of a node that reads documents gives the same rows as a Filter over the node.
-use Rattle.std.proofs.Common.{◌≡◌, ◌∙◌, ◌<◌, ℕ, List, [], ◌∷◌, ◌++◌, map, Bool, false, refl, ap, ap₂, sym, subst, subst₂, arith, ◌+◌}
-use Rattle.std.specs.Prelude.{Option, Some, None, filter, IsPermutation, ◌&&◌}
+use Rattle.std.proofs.Common.{◌≡◌, ◌∙◌, ◌<◌, ℕ, List, [], ◌∷◌, ◌++◌, map, Bool, true, false, true≢false, refl, ap, ap₂, sym, subst, subst₂, arith, ◌+◌}
+use Rattle.std.specs.Prelude.{Option, Some, None, is_none, filter, IsPermutation, ◌&&◌}
 use Rattle.std.specs.List.{AllZip}
 use Rattle.std.proofs.lemmas.List.{map-id}
 use Rattle.std.proofs.lemmas.List.Elements.{filter-append}
@@ -29,7 +29,7 @@ use Rattle.aql_rewrite.specs.Swaps.{Replaced, KeepsPlaced}
 use Rattle.aql_rules_filter.specs.Conditions.{joined}
 use Rattle.aql_rules_filter.specs.Measures.{filters, is_filter}
 use Rattle.aql_rules_filter.specs.MoveFiltersIntoEnumerate.{filtered_by, with_condition, MovesIn, into_enumerate, into_index}
-use Rattle.aql_rules_filter.specs.Readers.{filter_in, where_all_kept, own_filter, node_filtered, plan_filtered}
+use Rattle.aql_rules_filter.specs.Readers.{filter_in, keeps_all, narrowed, pushed}
 use Rattle.aql_rewrite.specs.laws.Falling.{total_falls}
 use Rattle.aql_rules_filter.specs.laws.Filtered.{holds, filtered, filter_same, filter_twice}
 use Rattle.aql_rules_filter.specs.laws.Filters.{filter_shaped, same_filters}
@@ -241,46 +241,21 @@ moves_in_shrink _ _ _ _ (into_index e) = omega arith
 
 -- ---- what the rule finds
 
-all_kept : (attrs : Option (List (List ℕ))) (f g : MaybeExpr) → where_all_kept attrs f ≡ Some g
-    → (attrs ≡ None) × (f ≡ g)
-all_kept None f g h = (refl, cc)
-all_kept (Some names) f g h = cc
+none_is : {A : Type 0} (o : Option A) → is_none o ≡ true → o ≡ None
+none_is None h = refl
+none_is (Some a) h = absurd (true≢false (sym h))
 
-none_found : (us : Uses) (p : Plan) (c : ExprTree) → own_filter (top p) ≡ None
-    → (q : Plan) (r : Option Rename) → MovesIn us (Over p (Filter c)) q r → ⊥
-none_found us _ _ h _ _ (into_enumerate {x = x} e) =
-    let k = sym (ap (λ attrs. where_all_kept attrs x.filter) e) ∙ h in cc
-none_found us _ _ h _ _ (into_index {x = x} e) =
-    let k = sym (ap (λ attrs. where_all_kept attrs x.filter) e) ∙ h in cc
+found_at : (us : Uses) (p : Plan) (c : ExprTree) → keeps_all (top p) ≡ true
+    → MovesIn us (Over p (Filter c)) (pushed (Over p (Filter c))) None
+found_at us Singleton c h = absurd (true≢false (sym h))
+found_at us (Over b n) c h = by n h
+  where
+    by : (n : Node) → keeps_all n ≡ true → MovesIn us (Over (Over b n) (Filter c)) (Over b (narrowed n c)) None
+    by (EnumerateCollection x) h = into_enumerate (none_is x.attrs h)
+    by (Index x index equal last ordered) h = into_index (none_is x.attrs h)
+    by n h = absurd (true≢false (sym h))
 
-node_moves_in : (us : Uses) (b : Plan) (n : Node) (c : ExprTree) (f : MaybeExpr) → own_filter n ≡ Some f
-    → MovesIn us (Over (Over b n) (Filter c)) (Over b (node_filtered n (joined f c))) None
-node_moves_in us b (EnumerateCollection x) c f h =
-    let k = all_kept x.attrs x.filter f h in
-    subst (λ (g : MaybeExpr). MovesIn us (Over (Over b (EnumerateCollection x)) (Filter c))
-    (Over b (EnumerateCollection (filtered_by x (joined g c)))) None) k.1 (into_enumerate k.0)
-node_moves_in us b (Index x index equal last ordered) c f h =
-    let k = all_kept x.attrs x.filter f h in
-    subst (λ (g : MaybeExpr). MovesIn us (Over (Over b (Index x index equal last ordered)) (Filter c))
-    (Over b (Index (filtered_by x (joined g c)) index equal last ordered)) None) k.1 (into_index k.0)
-node_moves_in us b n c f h = cc
-
-found_at : (us : Uses) (p : Plan) (c : ExprTree) (f : MaybeExpr) → own_filter (top p) ≡ Some f
-    → MovesIn us (Over p (Filter c)) (plan_filtered p (joined f c)) None
-found_at us Singleton c f h = cc
-found_at us (Over b n) c f h = node_moves_in us b n c f h
-
-pub moves_in_stays : (us : Uses) (m p : Plan) (c : ExprTree) → m ≡ Over p (Filter c)
-    → own_filter (top p) ≡ None → (q : Plan) (r : Option Rename) → MovesIn us m q r → ⊥
-moves_in_stays us m p c d h =
-    subst (λ (n : Plan). (q : Plan) (r : Option Rename) → MovesIn us n q r → ⊥) (sym d) (none_found us p c h)
-
-pub moves_in_at : (us : Uses) (m p q : Plan) (c : ExprTree) (f : MaybeExpr) → m ≡ Over p (Filter c)
-    → own_filter (top p) ≡ Some f → q ≡ plan_filtered p (joined f c) → MovesIn us m q None
-moves_in_at us m p q c f d h e =
-    subst₂ (λ (n s : Plan). MovesIn us n s None) (sym d) (sym e) (found_at us p c f h)
-
-pub moves_in_no_filter : (us : Uses) (m : Plan) → filter_in m ≡ None
-    → (q : Plan) (r : Option Rename) → MovesIn us m q r → ⊥
-moves_in_no_filter us _ h _ _ (into_enumerate e) = cc
-moves_in_no_filter us _ h _ _ (into_index e) = cc
+pub moves_in_at : (us : Uses) (m p q : Plan) (c : ExprTree) → m ≡ Over p (Filter c)
+    → keeps_all (top p) ≡ true → q ≡ pushed m → MovesIn us m q None
+moves_in_at us m p q c d h e =
+    subst₂ (λ (n s : Plan). MovesIn us n s None) (sym d) (sym (e ∙ ap pushed d)) (found_at us p c h)

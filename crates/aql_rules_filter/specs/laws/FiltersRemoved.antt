@@ -1,10 +1,12 @@
 -- What a plan gives without an unnecessary filter, it gave with it.
 use Rattle.std.proofs.Common.{◌≡◌, ◌∙◌, ◌<◌, List, true, false, refl, ap, sym, subst, subst₂, arith, ◌+◌}
-use Rattle.std.specs.Prelude.{Option, Some, None}
+use Rattle.std.specs.Prelude.{Option, Some, None, MatchOption}
 use Rattle.aql_value.specs.Datum.{Datum}
 use Rattle.aql_value.specs.Truth.{truth}
 use Rattle.aql_tree.specs.declared.syntax.Ident.{Ident}
+use Rattle.aql_tree.specs.declared.syntax.Expr.{Expr}
 use Rattle.aql_tree.specs.Tree.{ExprTree, literal}
+use Rattle.aql_tree.specs.View.{tree}
 use Rattle.aql_meaning.specs.Uses.{Uses}
 use Rattle.aql_plan.specs.declared.facts.Facts.{Facts}
 use Rattle.aql_plan.specs.Plan.{Plan, Over, Filter, NoResults}
@@ -18,7 +20,7 @@ use Rattle.aql_rewrite.specs.declared.swap.Rename.{Rename}
 use Rattle.aql_rewrite.specs.Places.{First}
 use Rattle.aql_rewrite.specs.Placed.{Placed, IsWhole}
 use Rattle.aql_rewrite.specs.Swaps.{Replaced, KeepsPlaced}
-use Rattle.aql_rules_filter.specs.Conditions.{literal_in}
+use Rattle.aql_rules_filter.specs.Readers.{literal_in, filter_in, plan_emptied}
 use Rattle.aql_rules_filter.specs.Measures.{filters, is_filter}
 use Rattle.aql_rules_filter.specs.RemoveUnnecessaryFilters.{Removes, passing, failing}
 use Rattle.aql_rewrite.specs.laws.Falling.{total_falls}
@@ -94,22 +96,20 @@ literal_is : (e : ExprTree) (v : Datum) → literal_in e ≡ Some v → e ≡ li
 literal_is (literal u) v h = let k : u ≡ v = cc in ap literal k
 literal_is e v h = cc
 
-none_found : (us : Uses) (b : Plan) (e : ExprTree) → literal_in e ≡ None
-    → (q : Plan) (r : Option Rename) → Removes us (Over b (Filter e)) q r → ⊥
-none_found us _ _ h _ _ (passing t) = cc
-none_found us _ _ h _ _ (failing t) = cc
+-- what is left without the filter, and with NoResults in its place
+input_left : (p b q : Plan) (e : ExprTree) (taken : Option Expr) → p ≡ Over b (Filter e)
+    → MatchOption taken ((filter_in p ≡ None) × (q ≡ p)) (λ c. p ≡ Over q (Filter (tree c))) → q ≡ b
+input_left p b q e None d h =
+    let k : ◌≡◌ {A = Option (Plan × ExprTree)} None (Some (b, e)) = sym h.0 ∙ ap filter_in d in cc
+input_left p b q e (Some c) d h = let k : Over q (Filter (tree c)) ≡ Over b (Filter e) = sym h ∙ d in cc
 
-pub removes_stays : (us : Uses) (p b : Plan) (e : ExprTree) → p ≡ Over b (Filter e) → literal_in e ≡ None
-    → (q : Plan) (r : Option Rename) → Removes us p q r → ⊥
-removes_stays us p b e d h =
-    subst (λ (m : Plan). (q : Plan) (r : Option Rename) → Removes us m q r → ⊥) (sym d) (none_found us b e h)
-
-pub passing_at : (us : Uses) (p b q : Plan) (e : ExprTree) (v : Datum) → p ≡ Over b (Filter e)
-    → literal_in e ≡ Some v → truth v ≡ true → q ≡ b → Removes us p q None
-passing_at us p b q e v d h t k = subst₂ (λ (m s : Plan). Removes us m s None)
-    (sym (d ∙ ap (λ c. Over b (Filter c)) (literal_is e v h))) (sym k) (passing t)
+pub passing_at : (us : Uses) (p b q : Plan) (e : ExprTree) (v : Datum) (taken : Option Expr)
+    → p ≡ Over b (Filter e) → literal_in e ≡ Some v → truth v ≡ true
+    → MatchOption taken ((filter_in p ≡ None) × (q ≡ p)) (λ c. p ≡ Over q (Filter (tree c))) → Removes us p q None
+passing_at us p b q e v taken d h t k = subst₂ (λ (m s : Plan). Removes us m s None)
+    (sym (d ∙ ap (λ c. Over b (Filter c)) (literal_is e v h))) (sym (input_left p b q e taken d k)) (passing t)
 
 pub failing_at : (us : Uses) (p b q : Plan) (e : ExprTree) (v : Datum) → p ≡ Over b (Filter e)
-    → literal_in e ≡ Some v → truth v ≡ false → q ≡ Over b NoResults → Removes us p q None
+    → literal_in e ≡ Some v → truth v ≡ false → q ≡ plan_emptied p → Removes us p q None
 failing_at us p b q e v d h t k = subst₂ (λ (m s : Plan). Removes us m s None)
-    (sym (d ∙ ap (λ c. Over b (Filter c)) (literal_is e v h))) (sym k) (failing t)
+    (sym (d ∙ ap (λ c. Over b (Filter c)) (literal_is e v h))) (sym (k ∙ ap plan_emptied d)) (failing t)

@@ -28,7 +28,8 @@ use Rattle.aql_rewrite.specs.Placed.{Placed, IsWhole}
 use Rattle.aql_rewrite.specs.Swaps.{Replaced, KeepsPlaced, Kept, SetsNoMore}
 use Rattle.aql_rewrite.specs.laws.Carried.{Lowers, Lifts, first_lowers, renamed_lowers}
 use Rattle.aql_rewrite.specs.laws.PlacedBelow.{whole_placed}
-use Rattle.aql_rules_filter.specs.MoveFiltersUp.{may_swap, none_used, MovesUp, swapped, others_below, height}
+use Rattle.aql_rules_filter.specs.MoveFiltersUp.{may_swap, none_used, MovesUp, swapped}
+use Rattle.aql_rules_filter.specs.Measures.{others_below, height}
 use Rattle.aql_rules_filter.specs.Readers.{filter_in}
 use Rattle.aql_rules_filter.specs.laws.Filtered.{filtered}
 use Rattle.aql_rules_filter.specs.laws.FiltersPass.{filter_after}

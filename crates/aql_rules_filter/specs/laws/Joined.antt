@@ -20,7 +20,8 @@ use Rattle.aql_meaning.specs.Value.{links_value}
 use Rattle.aql_plan.specs.FirstPlan.{is_and, all_and, right_sides, parts}
 use Rattle.aql_plan.specs.Variables.{are_among}
 use Rattle.aql_rewrite.specs.laws.Among.{among_join, among_split}
-use Rattle.aql_rules_filter.specs.Conditions.{filter_items, and_link, and_links, with_more, all_of, joined}
+use Rattle.aql_rules_filter.specs.Conditions.{filter_items, and_links, with_more, all_of, joined}
+use Rattle.aql_rules_filter.specs.Readers.{and_link}
 use Rattle.aql_rules_filter.specs.laws.Filtered.{holds}
 
 -- ---- what holds
@@ -40,7 +41,7 @@ truth_and a b = by (truth a) refl
     by true e = refl
     by false e = e
 
-is_it : (op : BinOp) → is_and op ≡ true → op ≡ And
+pub is_it : (op : BinOp) → is_and op ≡ true → op ≡ And
 is_it And h = refl
 is_it op h = absurd (true≢false (sym h))
 
@@ -68,19 +69,6 @@ parts_hold row e = and_one (holds e row)
 items_hold : (row : Row) (e : MaybeExpr) → list_all (λ d. holds d row) (filter_items e) ≡ passes e row
 items_hold row no_expr = refl
 items_hold row (one_expr e) = parts_hold row e
-
-pub links_back : (es : List ExprTree) → links (map and_link es) ≡ and_links es
-links_back [] = refl
-links_back (e ∷ es) = ap (link_then And e) (links_back es)
-
-pub more_than_one : (e : ExprTree) (es : List ExprTree) → 0 < length es
-    → chain e (links (map and_link es)) ≡ with_more e es
-more_than_one e [] h = absurd (omega (arith, h))
-more_than_one e (f ∷ fs) h = ap (chain e) (links_back (f ∷ fs))
-
-pub none_more : (e : ExprTree) (es : List ExprTree) → length es ≡ 0 → e ≡ with_more e es
-none_more e [] h = refl
-none_more e (f ∷ fs) h = absurd (omega (arith, h))
 
 all_links : (es : List ExprTree) → all_and (and_links es) ≡ true
 all_links [] = refl

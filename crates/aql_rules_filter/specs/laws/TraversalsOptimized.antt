@@ -28,8 +28,10 @@ use Rattle.aql_rewrite.specs.Swaps.{Replaced, Kept, KeepsPlaced}
 use Rattle.aql_rewrite.specs.laws.Among.{has, both, and_true, among_join, among_split}
 use Rattle.aql_rewrite.specs.Sums.{total}
 use Rattle.aql_rules_filter.specs.MoveFiltersUp.{none_used}
-use Rattle.aql_rules_filter.specs.OptimizeTraversals.{with_vars, tests_use, is_gone, traversal_in, Optimizes, edge_goes, path_goes, filter_goes_in, parts_to_go}
-use Rattle.aql_rules_filter.specs.Readers.{open_path, node_filtered, plan_filtered, plan_without_edge, plan_without_path}
+use Rattle.aql_rules_filter.specs.OptimizeTraversals.{with_vars, tests_use, is_gone, Optimizes, edge_goes, path_goes, filter_goes_in}
+use Rattle.aql_rules_filter.specs.Readers.{filter_in, narrowed, pushed, may_go_in, traversal_in, open_path}
+use Rattle.aql_rules_filter.specs.Readers.{plan_without_edge, plan_without_path}
+use Rattle.aql_rules_filter.specs.Measures.{parts_to_go}
 use Rattle.aql_rewrite.specs.laws.Falling.{total_falls}
 use Rattle.aql_rules_filter.specs.laws.FewerVariables.{traverses_alike, without_edge_agrees, without_path_agrees}
 use Rattle.aql_rules_filter.specs.laws.Filtered.{holds, filtered, all_pass}
@@ -191,7 +193,7 @@ optimizes_keep facts outer away _ _ _ _ placed
           let k = filter_shaped facts (Over b (Traversal w e colls prune no_expr)) c s out g in
           subst (λ (t : Shape). Shaped facts (Over b (Traversal w e colls prune (one_expr c))) t) (sym k.0)
           (traversal_shaped facts b w w e colls prune no_expr (one_expr c) (Rows false) refl
-          (λ f. (f.0, f.1, k.1, f.3, f.4)) k.2);
+          (λ f. (f.0, f.1, k.1, f.3, f.4, f.5)) k.2);
       found = (
         placed.found.0.0,
         placed.found.0.1,
@@ -333,21 +335,19 @@ module _ (us : Uses) (edge path : Option Ident) (prune keep : MaybeExpr) where
           (same_gone us w.path path c d prune keep l.1 l.2 l.3 ∙ k)
       by n f = cc
 
-filter_found : (us : Uses) (p : Plan) (c : ExprTree) (path : Option Ident) → open_path (top p) ≡ Some path
-    → none_used (option_to_list path) (uses c) ≡ true
-    → Optimizes us (Over p (Filter c)) (plan_filtered p c) None
-filter_found us Singleton c path h u = cc
-filter_found us (Over b n) c path h u = by n h
-  where
-    by : (n : Node) → open_path n ≡ Some path
-        → Optimizes us (Over (Over b n) (Filter c)) (Over b (node_filtered n c)) None
-    by (Traversal w e colls prune no_expr) h =
-        let k : w.path ≡ path = cc in
-        filter_goes_in (ap (λ o. none_used (option_to_list o) (uses c)) k ∙ u)
-    by n h = cc
+-- ---- a Filter over a Traversal
 
-pub filter_at : (us vs : Uses) (m p q : Plan) (c : ExprTree) (path : Option Ident) → m ≡ Over p (Filter c)
-    → open_path (top p) ≡ Some path → vs ≡ uses c → none_used (option_to_list path) vs ≡ true
-    → q ≡ plan_filtered p c → Optimizes us m q None
-filter_at us vs m p q c path d h f u g = subst₂ (λ (n s : Plan). Optimizes us n s None) (sym d) (sym g)
-    (filter_found us p c path h (sym (ap (none_used (option_to_list path)) f) ∙ u))
+filter_found : (us : Uses) (p : Plan) (c : ExprTree) → may_go_in (top p) c ≡ true
+    → Optimizes us (Over p (Filter c)) (pushed (Over p (Filter c))) None
+filter_found us Singleton c h = absurd (true≢false (sym h))
+filter_found us (Over b n) c h = by n h
+  where
+    by : (n : Node) → may_go_in n c ≡ true → Optimizes us (Over (Over b n) (Filter c)) (Over b (narrowed n c)) None
+    by (Traversal w e colls prune no_expr) h = filter_goes_in h
+    by (Traversal w e colls prune (one_expr d)) h = absurd (true≢false (sym h))
+    by n h = absurd (true≢false (sym h))
+
+pub filter_at : (us : Uses) (m p q : Plan) (c : ExprTree) → m ≡ Over p (Filter c)
+    → may_go_in (top p) c ≡ true → q ≡ pushed m → Optimizes us m q None
+filter_at us m p q c d h e = subst₂ (λ (n s : Plan). Optimizes us n s None) (sym d) (sym (e ∙ ap pushed d))
+    (filter_found us p c h)

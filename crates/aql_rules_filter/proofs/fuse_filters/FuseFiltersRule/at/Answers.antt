@@ -1,22 +1,17 @@
-use Rattle.std.proofs.Common.{◌∙◌, ap₂}
-use Rattle.aql_tree.specs.View.{tree}
-use Rattle.aql_plan.specs.Plan.{Over, Filter}
+use Rattle.std.proofs.Common.{subst}
+use Rattle.std.specs.Prelude.{IfOk}
 use Rattle.aql_plan.specs.View.{plan_tree}
-use Rattle.aql_rules_filter.specs.laws.FiltersFused.{not_a_filter, not_over_a_filter, fused_at}
+use Rattle.aql_rewrite.specs.Changed.{IsChanged}
+use Rattle.aql_rewrite.specs.View.{above_uses}
+use Rattle.aql_rules_filter.specs.FuseFilters.{Fuses}
+use Rattle.aql_rules_filter.proofs.Copies.{given_for}
 use Rattle.aql_rules_filter.proofs.fuse_filters.FuseFiltersRule.at.Goals as goal
 
-pub returns-in-None : goal.returns-in-None
-returns-in-None c = not_a_filter _ (plan_tree c.args.part.now) c.in-None.ensures
-
-pub returns-in-None-filter_of : goal.returns-in-None-filter_of
-returns-in-None-filter_of c = not_over_a_filter _ (plan_tree c.args.part.now) (plan_tree c.in-Some.node.now)
-    (tree c.in-Some.upper.now) c.in-Some.ensures c.in-None-filter_of.ensures
-
-pub returns-in_ok-part-in-Some-filter_of : goal.returns-in_ok-part-in-Some-filter_of
-returns-in_ok-part-in-Some-filter_of c = fused_at _ (plan_tree c.args.part.now)
-    (plan_tree c.in-Some.node.now) (plan_tree c.in-Some-filter_of.below.now) _
-    (tree c.in-Some-filter_of.lower.now) (tree c.in-Some.upper.now) c.in-Some.ensures
-    c.in-Some-filter_of.ensures
-    (c.in_ok-part-in-Some-filter_of.ensures
-    ∙ ap₂ (λ b e. Over b (Filter e)) c.in_ok-below-in-Some-filter_of.ensures
-    c.in_ok-cond-in-Some-filter_of.ensures)
+pub returns : goal.returns
+returns c =
+    let us = above_uses c.args._above.now in
+    let copy = plan_tree c.in_ok-part.part in
+    let new = c.fuse.new.part in
+    given_for Fuses us (plan_tree c.args.part.now) copy new c.in_ok-changed.changed c.swap_if.result
+    c.in_ok-part.ensures (subst (λ r. IfOk r (IsChanged Fuses us copy (plan_tree new))) c.in_ok-changed.was
+    (c.fuse.ensures us)) c.swap_if.ensures

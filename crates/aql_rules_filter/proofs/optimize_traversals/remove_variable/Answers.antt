@@ -1,17 +1,16 @@
-use Rattle.std.proofs.Common.{◌∙◌, ap}
+use Rattle.std.proofs.Common.{◌∙◌, ap, refl}
 use Rattle.std.specs.Prelude.{option_map}
 use Rattle.aql_tree.specs.declared.syntax.Ident.TheVariants.{Num}
 use Rattle.aql_plan.specs.View.{plan_tree}
 use Rattle.aql_rewrite.specs.View.{above_uses}
-use Rattle.aql_rules_filter.specs.Readers.{plan_without_edge, plan_without_path}
 use Rattle.aql_rules_filter.specs.laws.TraversalsOptimized.{gone_by, edge_at, path_at, traversal_stays}
-use Rattle.aql_rules_filter.proofs.optimize_traversals.variable_gone.Goals as goal
+use Rattle.aql_rules_filter.proofs.optimize_traversals.remove_variable.Goals as goal
 
 pub returns-then-is_gone : goal.returns-then-is_gone
 returns-then-is_gone c = edge_at _ _ _ _ _ (plan_tree c.args.part.now) _ c.in-Some.ensures
     (gone_by (option_map (λ x. Num x) c.in-Some.edge) (above_uses c.args.above.now) (above_uses c.deref.result.now) _ _ _
     (ap above_uses c.deref.ensures.value ∙ c.in_ok-own.ensures) c.is_gone.ensures c.if-is_gone.true)
-    (c.without_edge-part.ensures ∙ ap plan_without_edge c.in_ok-node.ensures)
+    c.remove_edge.ensures
 
 pub returns-then-is_gone-2 : goal.returns-then-is_gone-2
 returns-then-is_gone-2 c = path_at _ _ _ _ _ (plan_tree c.args.part.now) _ c.in-Some.ensures
@@ -19,11 +18,11 @@ returns-then-is_gone-2 c = path_at _ _ _ _ _ (plan_tree c.args.part.now) _ c.in-
     (ap above_uses c.deref.ensures.value ∙ c.in_ok-own.ensures) c.is_gone.ensures c.if-is_gone.false)
     (gone_by (option_map (λ x. Num x) c.in-Some.path) (above_uses c.args.above.now) (above_uses c.deref-2.result.now) _ _ _
     (ap above_uses c.deref-2.ensures.value ∙ c.in_ok-own.ensures) c.is_gone-2.ensures c.if-is_gone-2.true)
-    (c.without_path-part.ensures ∙ ap plan_without_path c.in_ok-node-2.ensures)
+    c.remove_path.ensures
 
 pub returns : goal.returns
-returns c = traversal_stays _ _ _ _ _ (plan_tree c.args.part.now) c.in-Some.ensures
+returns c = (traversal_stays _ _ _ _ _ (plan_tree c.args.part.now) c.in-Some.ensures
     (gone_by (option_map (λ x. Num x) c.in-Some.edge) (above_uses c.args.above.now) (above_uses c.deref.result.now) _ _ _
     (ap above_uses c.deref.ensures.value ∙ c.in_ok-own.ensures) c.is_gone.ensures c.if-is_gone.false)
     (gone_by (option_map (λ x. Num x) c.in-Some.path) (above_uses c.args.above.now) (above_uses c.deref-2.result.now) _ _ _
-    (ap above_uses c.deref-2.ensures.value ∙ c.in_ok-own.ensures) c.is_gone-2.ensures c.if-is_gone-2.false)
+    (ap above_uses c.deref-2.ensures.value ∙ c.in_ok-own.ensures) c.is_gone-2.ensures c.if-is_gone-2.false), refl)
