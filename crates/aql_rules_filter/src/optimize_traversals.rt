@@ -34,11 +34,7 @@ fn fits_inside(alloc: Global, node: &Plan, cond: &Expr) -> Result<bool, OutOfMem
 }
 
 // A variable goes from a Traversal; `false` exactly where none does.
-fn remove_variable(
-    alloc: Global,
-    part: &mut Plan,
-    above: &[Uses],
-) -> Result<bool, OutOfMemory>
+fn remove_variable(alloc: Global, part: &mut Plan, above: &[Uses]) -> Result<bool, OutOfMemory>
     requires { filter_in (plan_tree part.old) ≡ None }
     ensures { IfOk result (IsChanged Optimizes (above_uses above.now) (plan_tree part.old)
         (plan_tree part.new)) }

@@ -185,9 +185,7 @@ pub(crate) fn open_path(plan: &Plan) -> Option<Option<u32>>
     }
 }
 
-fn node_traversal(
-    node: &Node,
-) -> Option<(Option<u32>, Option<u32>, &Option<Expr>, &Option<Expr>)>
+fn node_traversal(node: &Node) -> Option<(Option<u32>, Option<u32>, &Option<Expr>, &Option<Expr>)>
     ensures { MatchOption result (traversal_in (node_tree node.now) ≡ None)
         (λ t. traversal_in (node_tree node.now) ≡ Some (
           option_map (λ x. Num x) t.0,

@@ -15,8 +15,13 @@ returns-in_ok-move_items-in-Chain c =
     let first = c.in-Chain.first in
     let rest = c.in-Chain.rest in
     let more = tree c.args.more.now in
-    let ands : all_and (links (map link_part rest)) ≡ true = search (rules, c.in-Chain.rest-is, c.as_slice.ensures,
-    c.is_all_and.ensures, c.if-is_all_and.true) in
+    let ands : all_and (links (map link_part rest)) ≡ true = search (
+      rules,
+      c.in-Chain.rest-is,
+      c.as_slice.ensures,
+      c.is_all_and.ensures,
+      c.if-is_all_and.true,
+    ) in
     let longer : map link_part c.move_items.new.to ≡ map link_part rest ++ map and_link (parts more) =
     search (rules, c.in-Chain.rest-is, c.in_ok-move_items-in-Chain.ensures) in
     chain_joined _ (tree c.args.cond.now) (tree first.value) more (map link_part rest)
@@ -33,13 +38,24 @@ returns-in_ok-cond-in_default c =
     let made : tree c.in_ok-cond-in_default.field-0 ≡ chain (tree c.in_default.cond) (links moved) =
     c.in_ok-cond-in_default.ensures ∙ ap (λ e. chain (tree e) (links moved)) c.replace-first.ensures.value in
     elim c.in_default.branch [
-      in_default-via-in-Chain+else-is_all_and w ↦
+      | in_default-via-in-Chain+else-is_all_and w ↦
           let first = w.in-Chain.first in
           let rest = w.in-Chain.rest in
-          let not_all : all_and (links (map link_part rest)) ≡ false = search (rules, w.in-Chain.rest-is,
-          w.as_slice.ensures, w.is_all_and.ensures, w.if-is_all_and.false) in
-          let had : c.in_default.cond ≡ cond = grind (arith, common_steps, the_lemmas, w.cond-is, w.in-Chain.is,
-          w.in-Chain.rest-is) in
+          let not_all : all_and (links (map link_part rest)) ≡ false = search (
+            rules,
+            w.in-Chain.rest-is,
+            w.as_slice.ensures,
+            w.is_all_and.ensures,
+            w.if-is_all_and.false,
+          ) in
+          let had : c.in_default.cond ≡ cond = grind (
+            arith,
+            common_steps,
+            the_lemmas,
+            w.cond-is,
+            w.in-Chain.is,
+            w.in-Chain.rest-is,
+          ) in
           one_joined _ (tree cond) more moved
           (subst (λ e. parts e ≡ e ∷ []) (sym (chain_form cond first rest w.in-Chain.is))
           (other_chain (tree first.value) (links (map link_part rest)) not_all))

@@ -10,7 +10,7 @@ use Rattle.aql_rules_filter.proofs.conditions.own_items.Goals.{in_default-via-in
 
 pub returns-in_default : goal.returns-in_default
 returns-in_default c = elim c.in_default.branch [
-  in_default-via-in-Chain+else-len-eq0 w ↦
+  | in_default-via-in-Chain+else-len-eq0 w ↦
       let form = chain_form c.args.cond.now w.in-Chain.first w.in-Chain.rest w.in-Chain.is in
       let had = c.replace-in_default.ensures.value ∙ w.cond-is ∙ ap₂ code.Chain w.in-Chain.first-is w.in-Chain.rest-is
       ∙ sym w.in-Chain.is in

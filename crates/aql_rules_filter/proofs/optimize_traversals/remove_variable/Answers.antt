@@ -21,8 +21,11 @@ returns-then-is_gone-2 c = path_at _ _ _ _ _ (plan_tree c.args.part.now) _ c.in-
     c.remove_path.ensures
 
 pub returns : goal.returns
-returns c = (traversal_stays _ _ _ _ _ (plan_tree c.args.part.now) c.in-Some.ensures
-    (gone_by (option_map (λ x. Num x) c.in-Some.edge) (above_uses c.args.above.now) (above_uses c.deref.result.now) _ _ _
-    (ap above_uses c.deref.ensures.value ∙ c.in_ok-own.ensures) c.is_gone.ensures c.if-is_gone.false)
-    (gone_by (option_map (λ x. Num x) c.in-Some.path) (above_uses c.args.above.now) (above_uses c.deref-2.result.now) _ _ _
-    (ap above_uses c.deref-2.ensures.value ∙ c.in_ok-own.ensures) c.is_gone-2.ensures c.if-is_gone-2.false), refl)
+returns c = (
+  traversal_stays _ _ _ _ _ (plan_tree c.args.part.now) c.in-Some.ensures
+      (gone_by (option_map (λ x. Num x) c.in-Some.edge) (above_uses c.args.above.now) (above_uses c.deref.result.now) _ _ _
+      (ap above_uses c.deref.ensures.value ∙ c.in_ok-own.ensures) c.is_gone.ensures c.if-is_gone.false)
+      (gone_by (option_map (λ x. Num x) c.in-Some.path) (above_uses c.args.above.now) (above_uses c.deref-2.result.now) _ _ _
+      (ap above_uses c.deref-2.ensures.value ∙ c.in_ok-own.ensures) c.is_gone-2.ensures c.if-is_gone-2.false),
+  refl,
+)
