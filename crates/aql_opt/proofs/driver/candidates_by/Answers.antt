@@ -1,5 +1,5 @@
 -- The candidates of the rule, or the plan alone.
-use Rattle.std.proofs.Common.{◌∙◌, ◌∷◌, ◌++◌, map, ap}
+use Rattle.std.proofs.Common.{◌∙◌, [], ◌∷◌, ◌++◌, map, ap}
 use Rattle.std.proofs.lemmas.Result.{IfOk-weaker}
 use Rattle.aql_plan.specs.View.{plan_tree}
 use Rattle.aql_opt.specs.Chosen.{interchanged}

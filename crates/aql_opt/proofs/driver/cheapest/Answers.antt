@@ -1,5 +1,5 @@
 -- The list has the first candidate and the others.
-use Rattle.std.proofs.Common.{◌∙◌, ◌∷◌, List, map, ap, sym, subst}
+use Rattle.std.proofs.Common.{◌∙◌, ◌∷◌, List, map, false, ap, sym, subst}
 use Rattle.std.specs.List.{AllByRecursion}
 use Rattle.std.proofs.lemmas.Result.{IfOk-weaker}
 use Rattle.aql_plan.specs.declared.plan.Plan.{Plan as PlanCode}
@@ -25,8 +25,8 @@ cheapest_of-requires-clause-others c =
     c.in-Some.others.now (sym c.as_mut_slice.ensures.value ∙ c.in-Some.ensures.cases.0)
     c.in_ok-candidates.ensures.stand).1
 
-pub returns-in-Some-clause-best : goal.returns-in-Some-clause-best
-returns-in-Some-clause-best c =
+pub returns-clause-best : goal.returns-clause-best
+returns-clause-best c =
     let all = c.in_ok-candidates.candidates in
     let parts = sym c.as_mut_slice.ensures.value ∙ c.in-Some.ensures.cases.0 in
     IfOk-weaker c.cheapest_of.result _ _ (λ x h. (
@@ -37,8 +37,8 @@ returns-in-Some-clause-best c =
           (ap (λ (q : PlanCode). q ∷ c.in-Some.others.now) c.replace-first.ensures.value ∙ sym parts) h,
     )) c.cheapest_of.ensures.best
 
-pub returns-in-Some-clause-stands : goal.returns-in-Some-clause-stands
-returns-in-Some-clause-stands c =
+pub returns-clause-stands : goal.returns-clause-stands
+returns-clause-stands c =
     let facts = c.args.facts.now in
     let p = plan_tree c.args.plan in
     let both = front_stand facts p c.in_ok-candidates.candidates c.in-Some.first.now c.in-Some.others.now

@@ -1,5 +1,5 @@
 -- The first candidate is the cheapest one at first; each further one is or is not.
-use Rattle.std.proofs.Common.{◌+◌, ◌∷◌, List, map, take, ap, refl, sym, subst}
+use Rattle.std.proofs.Common.{◌+◌, ◌∷◌, List, map, take, false, ap, refl, sym, subst}
 use Rattle.std.proofs.lemmas.List.{take_all}
 use Rattle.aql_plan.specs.declared.plan.Plan.{Plan as PlanCode}
 use Rattle.aql_plan.specs.Plan.{Plan}
