@@ -4,10 +4,10 @@ use Rattle.std.specs.Prelude.{◌&&◌, ◌↔◌, IsTrue}
 use Rattle.aql_tree.specs.declared.syntax.Ident.{Ident}
 use Rattle.aql_tree.specs.Tree.{ExprTree}
 use Rattle.aql_meaning.specs.Uses.{Uses, used_variable, uses}
-use Rattle.aql_plan.specs.Plan.{Plan, Singleton, Over, Node, EnumerateCollection, Index, EnumerateList, Traversal, Calculation, Subquery, Collect, Return}
+use Rattle.aql_plan.specs.Plan.{Plan, Singleton, Over, Node, EnumerateCollection, Index, EnumerateList, Traversal, Calculation, Subquery, Collect, Return, top}
 use Rattle.aql_plan.specs.Needs.{sets}
 use Rattle.aql_plan.specs.Variables.{input_uses, filter_uses, vars_of, are_among, FindsAll, FindsInside}
-use Rattle.aql_plan_check.specs.Rows.{variables, Same, Adds, Grows, Finds, GivesRows, RowsNumbered}
+use Rattle.aql_plan_check.specs.Rows.{variables, Same, Adds, Grows, Finds, GivesRows, RowsNumbered, ResultNumbered}
 use Rattle.aql_rewrite.specs.Nodes.{is_collect}
 use Rattle.aql_plan_check.proofs.SameVariables.{any_of, same_itself, same_along, same_back, same_after}
 
@@ -173,6 +173,16 @@ at_plan before after p q r e h = subst (λ (w : Plan). Finds before w after r) (
 
 pub gives_rows : (p b : Plan) (n : Node) → p ≡ Over b n → RowsNumbered p → GivesRows n
 gives_rows p b n e h = let k = subst (λ (w : Plan). RowsNumbered w) e h in k.1
+
+-- a plan with a result is a Return over rows
+pub as_result : (p b : Plan) → p ≡ Over b (top p) → ResultNumbered p
+    → (distinct : Bool) × (e : ExprTree) × (top p ≡ Return distinct e) × RowsNumbered b
+as_result p b i h = by (top p) (subst (λ (q : Plan). ResultNumbered q) i h)
+  where
+    by : (n : Node) → ResultNumbered (Over b n)
+        → (distinct : Bool) × (e : ExprTree) × (n ≡ Return distinct e) × RowsNumbered b
+    by (Return distinct e) k = (distinct, e, refl, k)
+    by n k = absurd k
 
 -- a Collect starts again from the first variables
 front : (xs ys : List ℕ) → take (length xs) (xs ++ ys) ≡ xs

@@ -1,10 +1,9 @@
--- Collections that are named once each, from one place on.
-use Rattle.std.proofs.Common.{◌≡◌, ◌∙◌, ℕ, ◌+◌, ◌<◌, ◌≤◌, List, [], ◌∷◌, map, length, get_or, drop, Bool, true, false, true≢false, eqb, refl, ap, sym, subst}
+-- Collections that are named once each.
+use Rattle.std.proofs.Common.{◌≡◌, ◌∙◌, ℕ, List, [], ◌∷◌, map, length, Bool, true, false, true≢false, eqb, refl, ap, sym, subst}
 use Rattle.std.specs.Prelude.{◌||◌, ◌↔◌}
 use Rattle.std.specs.List.{list_any, AllByRecursion, IsDistinct}
-use Rattle.std.proofs.lemmas.List.{drop_all}
+use Rattle.std.proofs.lemmas.List.{nil_from_length}
 use Rattle.aql_value.specs.declared.lists.CollNo.{CollNo}
-use Rattle.aql_plan_check.proofs.Tests.{left}
 
 neither : (a b : Bool) → a || b ≡ false → (a ≡ false) × (b ≡ false)
 neither true b h = absurd (true≢false h)
@@ -19,35 +18,24 @@ not_among : (n : ℕ) (ns : List ℕ) → AllByRecursion (λ m. eqb n m ≡ fals
 not_among n [] h = refl
 not_among n (m ∷ ms) h = ap (λ b. b || list_any (eqb n) ms) h.0 ∙ not_among n ms h.1
 
-Once : List CollNo → Type 0
-Once cs = IsDistinct eqb (map (λ (c : CollNo). c.0) cs)
+abbrev numbers : List CollNo → List ℕ
+numbers cs = map (λ (c : CollNo). c.0) cs
 
-none_once : Once []
+abbrev pub Once : List CollNo → Type 0
+Once cs = IsDistinct eqb (numbers cs)
+
+no_collection : Once []
 unfolding IsDistinct
-none_once = tt
+no_collection = tt
 
-once_over : (n : ℕ) (ns : List ℕ) → list_any (eqb n) ns ≡ false → IsDistinct eqb ns ↔ IsDistinct eqb (n ∷ ns)
+pub none_once : (cs : List CollNo) → length cs ≡ 0 → Once cs
+none_once cs h = subst (λ (ds : List CollNo). Once ds) (sym (nil_from_length cs h)) no_collection
+
+pub once_over : (c : CollNo) (cs : List CollNo) → list_any (eqb c.0) (numbers cs) ≡ false
+    → Once cs ↔ Once (c ∷ cs)
 unfolding IsDistinct
-once_over n ns h = ((λ d. (all_others n ns h, d)), (λ d. d.1))
+once_over c cs h = ((λ d. (all_others c.0 (numbers cs) h, d)), (λ d. d.1))
 
-twice_over : (n : ℕ) (ns : List ℕ) → list_any (eqb n) ns ≡ true → IsDistinct eqb (n ∷ ns) → ⊥
+pub twice_over : (c : CollNo) (cs : List CollNo) → list_any (eqb c.0) (numbers cs) ≡ true → Once (c ∷ cs) → ⊥
 unfolding IsDistinct
-twice_over n ns h d = true≢false (sym h ∙ not_among n ns d.0)
-
-module _ (all : List CollNo) (i : ℕ) (c : CollNo) (within : i < length all) (here : c ≡ get_or all i c) where
-  pub once_more : list_any (eqb c.0) (map (λ (d : CollNo). d.0) (drop (i + 1) all)) ≡ false
-      → Once (drop i all) ↔ Once all → Once (drop (i + 1) all) ↔ Once all
-  once_more h k =
-      let one = once_over c.0 (map (λ (d : CollNo). d.0) (drop (i + 1) all)) h in (
-        (λ d. k.0 (subst Once (sym (left all i c within here)) (one.0 d))),
-        (λ d. one.1 (subst Once (left all i c within here) (k.1 d))),
-      )
-
-  pub twice : list_any (eqb c.0) (map (λ (d : CollNo). d.0) (drop (i + 1) all)) ≡ true
-      → Once (drop i all) ↔ Once all → Once all → ⊥
-  twice h k d =
-      twice_over c.0 (map (λ (e : CollNo). e.0) (drop (i + 1) all)) h
-      (subst Once (left all i c within here) (k.1 d))
-
-pub all_once : (all : List CollNo) (i : ℕ) → length all ≤ i → Once (drop i all) ↔ Once all → Once all
-all_once all i h k = k.0 (subst Once (sym (drop_all i all h)) none_once)
+twice_over c cs h d = true≢false (sym h ∙ not_among c.0 (numbers cs) d.0)

@@ -93,12 +93,10 @@ fn is_among(coll: CollNo, others: &[CollNo]) -> bool
 pub(crate) fn are_distinct(all: &[CollNo]) -> bool
     ensures { IsTrue result ↔ IsDistinct eqb (map (λ (c : CollNo). c.0) all.now) }
 {
-    for (at, coll) in all.iter().enumerate() {
-        if is_among(*coll, &all[at + 1..]) {
-            return false;
-        }
+    match all.split_first() {
+        None => true,
+        Some((first, others)) => !is_among(*first, others) && are_distinct(others),
     }
-    true
 }
 
 /// How many shard keys a collection has.

@@ -249,11 +249,8 @@ pub(crate) fn result_finds(plan: &Plan, rows: &mut Variables) -> Result<bool, Ou
         ↔ FindsAll (variables rows.old.keys) (plan_tree plan.now)) }
     ensures rows { IfOk result (λ found. IsTrue found → Grows rows.old.keys rows.new.keys) }
 {
-    match plan {
-        Plan::Over { below, node } => match &**node {
-            Node::Return { expr, .. } => Ok(rows_find(below, rows)? && finds(expr, rows)),
-            _ => Ok(false),
-        },
-        _ => Ok(false),
+    match plan.below() {
+        None => Ok(false),
+        Some(below) => Ok(rows_find(below, rows)? && input_finds(plan, rows)),
     }
 }

@@ -1,33 +1,43 @@
 -- A step of the walk.
-use Rattle.std.proofs.Common.{◌∙◌, sym, subst, refl, Bool, true≢false}
+use Rattle.std.proofs.Common.{◌≡◌, ◌∙◌, ◌<◌, ◌+◌, ◌*◌, ap, sym, subst, Bool, true≢false, arith, rules}
 use Rattle.std.specs.Prelude.{◌↔◌, IsTrue}
-use Rattle.aql_tree.specs.View.{tree}
-use Rattle.aql_plan.specs.declared.plan.Plan.{Plan as Code}
-use Rattle.aql_plan.specs.Plan.{Over, Return, top}
+use Rattle.aql_plan.specs.Nodes.{weight}
+use Rattle.aql_plan.specs.Plan.{Plan, Over, Node, top}
 use Rattle.aql_plan.specs.Variables.{FindsAll, input_uses, filter_uses, are_among}
 use Rattle.aql_plan.specs.View.{plan_tree}
-use Rattle.aql_plan_check.specs.Findings.{InputFinds}
-use Rattle.aql_plan_check.specs.Rows.{variables, Finds}
-use Rattle.aql_plan_check.proofs.Finding.{at_plan, lost_below, lost_input, lost_body, found_over, result_found, kept_is, gives_rows}
+use Rattle.aql_rewrite.specs.laws.Walk.{weight_below}
+use Rattle.aql_plan_check.specs.Rows.{variables, ResultNumbered, Finds}
+use Rattle.aql_plan_check.proofs.Finding.{at_plan, lost_below, lost_input, lost_body, found_over, as_result, result_found, kept_is, gives_rows}
 use Rattle.aql_plan_check.proofs.Tests.{same_test}
 use Rattle.aql_plan_check.proofs.UsesFound.{input_found, filter_found}
 use Rattle.aql_plan_check.proofs.uses.+finding.Goals as goal
+
+pub result_finds-returns-in-None : goal.result_finds-returns-in-None
+result_finds-returns-in-None t c =
+    absurd (subst (λ (p : Plan). ResultNumbered p) c.in-None.ensures c.requires)
+
+pub result_finds-rows_find-requires : goal.result_finds-rows_find-requires
+result_finds-rows_find-requires t c =
+    let p = plan_tree c.args.plan.now in
+    let b = plan_tree c.in-Some.below.now in
+    let k : 3 * weight b + 1 < 3 * weight p + 2 = omega (arith, weight_below p b c.in-Some.ensures) in
+    (search (rules, k), (as_result p b c.in-Some.ensures c.requires).3)
 
 pub result_finds-returns-then-branch-clause-found : goal.result_finds-returns-then-branch-clause-found
 result_finds-returns-then-branch-clause-found t c =
     let before = c.args.rows.now.keys in
     let middle = c.rows_find.new.rows.keys in
-    let below = plan_tree c.in-Return.below.value in
-    let e = tree c.in-Return.expr in
+    let p = plan_tree c.args.plan.now in
+    let below = plan_tree c.in-Some.below.now in
     let r = c.input_finds.result in
-    let h = subst (λ (b : Bool). Finds before below middle b) c.if-branch.true
-    (subst (λ (p : Code). Finds before (plan_tree p) middle c.in_ok-rows_find-in-Return.field-0) c.deref.ensures
-    c.in_ok-rows_find-in-Return.ensures) in
-    subst (λ (p : Code). (IsTrue r ↔ InputFinds (variables middle) (top (plan_tree p)))
-    → IsTrue r ↔ FindsAll (variables before) (plan_tree p)) (sym c.in-Return.is)
-    (λ k. result_found before below (Return c.in-Return.distinct e) middle h c.in-Return.distinct e r refl
-    (same_test r (are_among (input_uses (Return c.in-Return.distinct e)) (variables middle)) k
-    (input_found (variables middle) (Return c.in-Return.distinct e)))) c.input_finds.ensures
+    let h = subst (λ (b : Bool). Finds before below middle b) c.if-branch.true c.in_ok-rows_find-in-Some.ensures in
+    let one = as_result p below c.in-Some.ensures c.requires in
+    subst (λ (q : Plan). IsTrue r ↔ FindsAll (variables before) q)
+    (sym (c.in-Some.ensures ∙ ap (Over below) one.2))
+    (result_found before below (top p) middle h one.0 one.1 r one.2
+    (subst (λ (n : Node). r ≡ are_among (input_uses n) (variables middle)) one.2
+    (same_test r (are_among (input_uses (top p)) (variables middle)) c.input_finds.ensures
+    (input_found (variables middle) (top p)))))
 
 pub rows_find-returns-then-not-branch : goal.rows_find-returns-then-not-branch
 rows_find-returns-then-not-branch t c =
