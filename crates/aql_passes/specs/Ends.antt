@@ -4,10 +4,9 @@
 use Rattle.std.specs.Prelude.{◌≡◌, Bool, false, List}
 use Rattle.aql_tree.specs.Tree.{ExprTree}
 use Rattle.aql_meaning.specs.Uses.{Uses}
-use Rattle.aql_plan.specs.Plan.{Plan, top}
+use Rattle.aql_plan.specs.Plan.{Plan, Node}
 use Rattle.aql_rewrite.specs.FirstPart.{NoneIn, NoneInAll, FirstIn, FirstOf}
-use Rattle.aql_rewrite.specs.NodeExprs.{node_exprs}
-use Rattle.aql_rewrite.specs.NodeViews.{plan_over}
+use Rattle.aql_rewrite.specs.NodeExprs.{node_exprs, over_exprs}
 use Rattle.aql_rewrite.specs.Places.{NoPlace}
 use Rattle.aql_rewrite.specs.Steps.{Steps, PlanStep}
 use Rattle.aql_passes.specs.AtExprs.{AtExprs}
@@ -22,10 +21,9 @@ module _ (R : ExprTree → ExprTree → Type 0) where
     pub reached : Steps (List ExprTree) (FirstOf R) es ds x y
     pub ended : NoneInAll R ds
 
-  -- the same of the expressions of the top node of p; q is the node over c and over what they come to
-  abbrev pub ExprsEnd : Plan → Plan → Plan → Bool → Bool → Type 0
-  ExprsEnd p c q x y =
-      (ds : List ExprTree) × AllEnd (node_exprs (top p)) ds x y × (q ≡ plan_over p c ds)
+  -- the same of the expressions of a node; m is the node over what they come to
+  abbrev pub ExprsEnd : Node → Node → Bool → Bool → Type 0
+  ExprsEnd n m x y = (ds : List ExprTree) × AllEnd (node_exprs n) ds x y × (m ≡ over_exprs n ds)
 
   -- the same of a plan, whatever is used above it
   pub record PlanEnds (p q : Plan) (x y : Bool) : Type 0 where

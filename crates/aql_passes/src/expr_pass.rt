@@ -1,85 +1,77 @@
 //! The pass of a rule on expressions: the plan from its lowest node up, each node's expressions one
-//! after another, and a body with its node.
+//! after another, and a body with its node. No node is copied.
 
-ghost use Rattle.std.specs.Prelude.{◌≡◌, false, IfOk};
-ghost use Rattle.aql_plan.specs.Nodes.{over, with_body};
+ghost use Rattle.std.specs.Prelude.{false, IfOk, OnOk, map};
+ghost use Rattle.aql_tree.specs.View.{tree};
 ghost use Rattle.aql_plan.specs.Refines.{Refines};
 ghost use Rattle.aql_plan.specs.Shapes.{HasNoFragment};
-ghost use Rattle.aql_plan.specs.View.{plan_tree};
+ghost use Rattle.aql_plan.specs.View.{plan_tree, node_tree};
+ghost use Rattle.aql_rewrite.specs.NodeExprs.{node_exprs};
 ghost use Rattle.aql_rewrite.specs.Places.{IsPass};
 ghost use Rattle.aql_rewrite.specs.Placed.{IsWhole};
 ghost use Rattle.aql_rewrite.specs.Swaps.{SetsNoMore};
 ghost use Rattle.aql_passes.specs.AtExprs.{AtExprs};
-ghost use Rattle.aql_passes.specs.Ends.{ExprsEnd, PlanEnds};
+ghost use Rattle.aql_passes.specs.Ends.{AllEnd, ExprsEnd, PlanEnds};
 
 use crate::exprs::all_to_end;
-use aql_plan::{Facts, Passed, Plan};
-use aql_rewrite::{ExprRule, node_exprs, over_exprs};
+use aql_plan::{Facts, Node, Passed, Plan};
+use aql_rewrite::{ExprRule, exprs_of, set_exprs};
+use aql_tree::Expr;
 use aql_value::OutOfMemory;
 use std::alloc::Global;
+use std::collections::VecDeque;
 
-fn boxed(alloc: Global, plan: Plan) -> Result<Box<Plan>, OutOfMemory>
-    ensures { IfOk result (λ b. plan_tree b.value ≡ plan_tree plan) }
+// A node's expressions with the rule applied until they have no place.
+fn ended_exprs<R: ExprRule>(
+    alloc: Global,
+    rule: &R,
+    node: &Node,
+    changed: &mut bool,
+) -> Result<VecDeque<Expr>, OutOfMemory>
+    ensures { IfOk result (λ out. AllEnd (R.rewrites rule.now) (node_exprs (node_tree node.now))
+        (map tree out.items) changed.old changed.new) }
 {
-    Ok(Box::new(alloc, plan)?)
+    let all = exprs_of(alloc, node)?;
+    all_to_end(alloc, rule, &all, changed)
 }
 
-// The node over another input and with another body; one without a body over the input alone.
-#[inline(never)]
-fn over_body(alloc: Global, node: &Plan, below: Plan, body: Plan) -> Result<Plan, OutOfMemory>
-    ensures { IfOk result (λ p. plan_tree p
-        ≡ with_body (over (plan_tree node.now) (plan_tree below)) (plan_tree body)) }
-{
-    match node {
-        Plan::Subquery { var, .. } => Ok(Plan::Subquery {
-            below: boxed(alloc, below)?,
-            var: *var,
-            body: boxed(alloc, body)?,
-        }),
-        _ => node.over(alloc, below),
-    }
-}
-
-// The node over another input, with the rule applied to its expressions until they have no place.
-// It is not inlined, so that a recursion through a long plan has small frames.
+// The same where they stand. It is not inlined, so that a recursion through a long plan has small
+// frames.
 #[inline(never)]
 fn exprs_to_end<R: ExprRule>(
     alloc: Global,
     rule: &R,
-    node: &Plan,
-    below: Plan,
+    node: &mut Node,
     changed: &mut bool,
-) -> Result<Plan, OutOfMemory>
-    ensures { IfOk result (λ p. ExprsEnd (R.rewrites rule.now) (plan_tree node.now)
-        (plan_tree below) (plan_tree p) changed.old changed.new) }
+) -> Result<(), OutOfMemory>
+    ensures { OnOk result (ExprsEnd (R.rewrites rule.now) (node_tree node.old)
+        (node_tree node.new) changed.old changed.new) }
 {
-    let all = node_exprs(alloc, node)?;
-    let mut queue = all_to_end(alloc, rule, &all, changed)?;
-    over_exprs(alloc, node, below, &mut queue)
+    let mut queue = ended_exprs(alloc, rule, node, changed)?;
+    set_exprs(node, &mut queue);
+    Ok(())
 }
 
-// The plan with the rule applied until it has no place.
+// Applies the rule until the plan has no place.
 fn to_end<R: ExprRule>(
     alloc: Global,
     rule: &R,
-    plan: &Plan,
+    plan: &mut Plan,
     changed: &mut bool,
-) -> Result<Plan, OutOfMemory>
-    requires { HasNoFragment (plan_tree plan.now) }
-    ensures { IfOk result (λ p. PlanEnds (R.rewrites rule.now) (plan_tree plan.now) (plan_tree p)
-        changed.old changed.new) }
+) -> Result<(), OutOfMemory>
+    requires { HasNoFragment (plan_tree plan.old) }
+    ensures { OnOk result (PlanEnds (R.rewrites rule.now) (plan_tree plan.old)
+        (plan_tree plan.new) changed.old changed.new) }
 {
-    match plan.below() {
-        None => Ok(Plan::Singleton),
-        Some(below) => {
-            let below = to_end(alloc, rule, below, changed)?;
-            match plan.body() {
-                Some(body) => {
-                    let body = to_end(alloc, rule, body, changed)?;
-                    over_body(alloc, plan, below, body)
-                }
-                None => exprs_to_end(alloc, rule, plan, below, changed),
-            }
+    match plan {
+        Plan::Singleton => Ok(()),
+        Plan::Over { below, node } => {
+            to_end(alloc, rule, &mut **below, changed)?;
+            exprs_to_end(alloc, rule, &mut **node, changed)
+        }
+        Plan::Subquery { below, body, .. } => {
+            to_end(alloc, rule, &mut **below, changed)?;
+            to_end(alloc, rule, &mut **body, changed)
         }
     }
 }
@@ -101,7 +93,8 @@ pub fn run_expr_pass<R: ExprRule>(
     ensures whole { IfOk result (λ x. IsWhole false facts.now (plan_tree x.plan)) }
     ensures sets { IfOk result (λ x. SetsNoMore (plan_tree plan) (plan_tree x.plan)) }
 {
+    let mut plan = plan;
     let mut changed = false;
-    let plan = to_end(alloc, rule, &plan, &mut changed)?;
+    to_end(alloc, rule, &mut plan, &mut changed)?;
     Ok(Passed { plan, changed })
 }

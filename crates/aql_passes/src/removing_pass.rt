@@ -1,5 +1,5 @@
-//! The pass of a rule that takes nodes away and renames above: the plan from its lowest node up.
-//! Each node is rebuilt once, with all that is renamed below it, before the rule is tried at it.
+//! The pass of a rule that takes nodes away and renames above: the plan from its lowest node up. All
+//! that is renamed below a node is renamed in it, where it stands, before the rule is tried at it.
 
 ghost use Rattle.std.specs.Prelude.{◌≡◌, false, [], Some, None, IfOk};
 ghost use Rattle.aql_plan.specs.Plan.{top};
@@ -14,8 +14,8 @@ ghost use Rattle.aql_passes.specs.Removed.{Removes, NoPlaceUnder};
 
 use aql_plan::{Facts, Passed, Plan};
 use aql_rewrite::{
-    RemovingRule, Rename, has_body, is_start, over_renamed_by_each, replace_below, replace_body,
-    with_below, with_body,
+    RemovingRule, Rename, has_body, is_start, rename_top, replace_below, replace_body, with_below,
+    with_body,
 };
 use aql_value::OutOfMemory;
 use std::alloc::Global;
@@ -32,10 +32,12 @@ fn renamed_over(
     ensures { IfOk result (λ p. plan_tree p
         ≡ over_each renames.now (plan_tree node) (plan_tree below)) }
 {
+    let mut part = with_below(node, below);
     if renames.is_empty() {
-        return Ok(with_below(node, below));
+        return Ok(part);
     }
-    over_renamed_by_each(alloc, &node, below, renames)
+    rename_top(alloc, &mut part, renames)?;
+    Ok(part)
 }
 
 // The part with the rule applied until it has no place, and what is renamed above it.

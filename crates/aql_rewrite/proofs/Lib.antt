@@ -3,3 +3,4 @@ mod Steps
 mod Compared
 mod NodeForms
 mod RenamingSteps
+mod InPlace

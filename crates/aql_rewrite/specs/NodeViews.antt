@@ -2,10 +2,8 @@
 use Rattle.std.specs.Prelude.{Bool, List, [], ◌∷◌, Option, Some, None}
 use Rattle.aql_tree.specs.Tree.{ExprTree}
 use Rattle.aql_tree.specs.View.{KeyPart, LetPart, AggregatePart, IntoPart}
-use Rattle.aql_plan.specs.Plan.{Plan, Singleton, Over}
 use Rattle.aql_rewrite.specs.OverParts.{first_or, after_first}
 use Rattle.aql_rewrite.specs.ExprView.{option_over, after_option}
-use Rattle.aql_rewrite.specs.NodeExprs.{over_exprs}
 
 -- what is left of new expressions after one for each of a list
 abbrev pub after_each : List ExprTree → List ExprTree → List ExprTree
@@ -31,8 +29,3 @@ after_each_aggregate (a ∷ rest) ps = after_each_aggregate rest (after_option a
 abbrev pub into_over : Option IntoPart → List ExprTree → Option IntoPart
 into_over None ps = None
 into_over (Some i) ps = Some (i.0, option_over i.1 ps, i.2)
-
--- the node at the top of a plan over another input and over other expressions
-abbrev pub plan_over : Plan → Plan → List ExprTree → Plan
-plan_over Singleton b ps = Singleton
-plan_over (Over c n) b ps = Over b (over_exprs n ps)

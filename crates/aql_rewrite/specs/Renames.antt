@@ -20,6 +20,11 @@ put_each rs e = each renaming rs e
 abbrev pub renamed_by_each : List Rename → Node → Node
 renamed_by_each rs n = each (λ r m. renamed_by (Some r) m) rs n
 
+-- in the node at the top of a plan
+abbrev pub top_each : List Rename → Plan → Plan
+top_each rs Singleton = Singleton
+top_each rs (Over b n) = Over b (renamed_by_each rs n)
+
 -- the node at the top of a plan over another input
 abbrev pub over_each : List Rename → Plan → Plan → Plan
 over_each rs Singleton b = Singleton

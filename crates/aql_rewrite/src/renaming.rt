@@ -1,24 +1,25 @@
-//! Nodes over another input, with variables renamed in their expressions and bodies: a variable
-//! goes by the first of the renamings, what that gives by the next, and so on.
+//! Variables renamed in the expressions and the bodies of nodes: a variable goes by the first of the
+//! renamings, what that gives by the next, and so on.
 
-ghost use Rattle.std.specs.Prelude.{◌≡◌, IfOk, MatchOption, Some, None, map};
+ghost use Rattle.std.specs.Prelude.{◌≡◌, IfOk, OnOk, MatchOption, Some, None, map};
 ghost use Rattle.std.specs.List.{AllByRecursion};
 ghost use Rattle.aql_tree.specs.declared.syntax.Ident.TheVariants.{Num};
 ghost use Rattle.aql_tree.specs.Tree.{variable};
 ghost use Rattle.aql_tree.specs.View.{tree};
 ghost use Rattle.aql_meaning.specs.Plain.{IsPlain};
-ghost use Rattle.aql_plan.specs.Exprs.{map_plan};
+ghost use Rattle.aql_plan.specs.Exprs.{map_plan, map_node};
 ghost use Rattle.aql_plan.specs.Plan.{top};
-ghost use Rattle.aql_plan.specs.View.{plan_tree};
+ghost use Rattle.aql_plan.specs.View.{plan_tree, node_tree};
 ghost use Rattle.aql_rewrite.specs.ExprView.{lent};
+ghost use Rattle.aql_rewrite.specs.NodeExprs.{node_exprs};
 ghost use Rattle.aql_rewrite.specs.Nodes.{over_renamed as spec_over_renamed};
 ghost use Rattle.aql_rewrite.specs.Plain.{NodePlain, PlanPlain, variable_in};
-ghost use Rattle.aql_rewrite.specs.Renames.{renaming, put_each, over_each};
+ghost use Rattle.aql_rewrite.specs.Renames.{renaming, put_each, top_each};
 
-use crate::exprs::{node_exprs, over_body, over_exprs};
+use crate::exprs::{exprs_of, set_exprs};
 use crate::swap::Rename;
 use crate::{over_parts, parts};
-use aql_plan::Plan;
+use aql_plan::{Node, Plan};
 use aql_tree::{Expr, Ident, copy_ident};
 use aql_value::OutOfMemory;
 use std::alloc::Global;
@@ -101,44 +102,58 @@ fn renamed_exprs(
     Ok(out)
 }
 
-#[cycle(plans)]
-fn renamed_plan(alloc: Global, plan: &Plan, renames: &[Rename]) -> Result<Plan, OutOfMemory>
-    requires { PlanPlain (plan_tree plan.now) }
-    ensures { IfOk result (λ p. plan_tree p
-        ≡ map_plan (put_each renames.now) (plan_tree plan.now)) }
+// The expressions of a node, renamed.
+fn renamed_exprs_of(
+    alloc: Global,
+    node: &Node,
+    renames: &[Rename],
+) -> Result<VecDeque<Expr>, OutOfMemory>
+    requires { NodePlain (node_tree node.now) }
+    ensures { IfOk result (λ out. map tree out.items
+        ≡ map (put_each renames.now) (node_exprs (node_tree node.now))) }
 {
-    match plan.below() {
-        None => Ok(Plan::Singleton),
-        Some(below) => {
-            let below = renamed_plan(alloc, below, renames)?;
-            over_renamed_by_each(alloc, plan, below, renames)
+    let all = exprs_of(alloc, node)?;
+    renamed_exprs(alloc, &all, renames)
+}
+
+fn rename_node(alloc: Global, node: &mut Node, renames: &[Rename]) -> Result<(), OutOfMemory>
+    requires { NodePlain (node_tree node.old) }
+    ensures { OnOk result (node_tree node.new
+        ≡ map_node (put_each renames.now) (node_tree node.old)) }
+{
+    let mut queue = renamed_exprs_of(alloc, node, renames)?;
+    set_exprs(node, &mut queue);
+    Ok(())
+}
+
+fn rename_plan(alloc: Global, plan: &mut Plan, renames: &[Rename]) -> Result<(), OutOfMemory>
+    requires { PlanPlain (plan_tree plan.old) }
+    ensures { OnOk result (plan_tree plan.new
+        ≡ map_plan (put_each renames.now) (plan_tree plan.old)) }
+{
+    match plan {
+        Plan::Singleton => Ok(()),
+        Plan::Over { below, node } => {
+            rename_plan(alloc, &mut **below, renames)?;
+            rename_node(alloc, &mut **node, renames)
+        }
+        Plan::Subquery { below, body, .. } => {
+            rename_plan(alloc, &mut **below, renames)?;
+            rename_plan(alloc, &mut **body, renames)
         }
     }
 }
 
-/// The node at the top of a plan over another input, with renamings one after another in its
-/// expressions and its body.
-#[cycle(plans)]
-pub fn over_renamed_by_each(
-    alloc: Global,
-    node: &Plan,
-    below: Plan,
-    renames: &[Rename],
-) -> Result<Plan, OutOfMemory>
-    requires { NodePlain (top (plan_tree node.now)) }
-    ensures { IfOk result (λ p. plan_tree p
-        ≡ over_each renames.now (plan_tree node.now) (plan_tree below)) }
+/// Renames variables in the expressions of a plan's top node and in its body: by each of the
+/// renamings in turn.
+pub fn rename_top(alloc: Global, plan: &mut Plan, renames: &[Rename]) -> Result<(), OutOfMemory>
+    requires { NodePlain (top (plan_tree plan.old)) }
+    ensures { OnOk result (plan_tree plan.new ≡ top_each renames.now (plan_tree plan.old)) }
 {
-    match node.body() {
-        Some(body) => {
-            let body = renamed_plan(alloc, body, renames)?;
-            over_body(alloc, node, below, body)
-        }
-        None => {
-            let all = node_exprs(alloc, node)?;
-            let mut queue = renamed_exprs(alloc, &all, renames)?;
-            over_exprs(alloc, node, below, &mut queue)
-        }
+    match plan {
+        Plan::Singleton => Ok(()),
+        Plan::Over { node, .. } => rename_node(alloc, &mut **node, renames),
+        Plan::Subquery { body, .. } => rename_plan(alloc, &mut **body, renames),
     }
 }
 
@@ -154,8 +169,9 @@ pub(crate) fn over_renamed(
     ensures { IfOk result (λ p. plan_tree p
         ≡ spec_over_renamed rename.now (plan_tree node.now) (plan_tree below)) }
 {
-    match rename {
-        None => node.over(alloc, below),
-        Some(rename) => over_renamed_by_each(alloc, node, below, &[*rename]),
+    let mut new = node.over(alloc, below)?;
+    if let Some(rename) = rename {
+        rename_top(alloc, &mut new, &[*rename])?;
     }
+    Ok(new)
 }

@@ -96,7 +96,7 @@ fn walk_input<R: Rule>(
 /// `None` exactly where neither is a place. The part stands in no fragment, and `above` is what the
 /// nodes above use of its rows. Where the input has no place, this is the first place.
 #[cycle(walk)]
-pub fn swap_here<R: Rule>(
+fn swap_here<R: Rule>(
     alloc: Global,
     rule: &R,
     plan: &Plan,

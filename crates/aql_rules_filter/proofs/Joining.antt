@@ -1,5 +1,5 @@
 -- Conditions that are joined where the first one stands.
-use Rattle.std.proofs.Common.{◌≡◌, ◌∙◌, List, [], ◌∷◌, ◌++◌, map, Bool, true, false, true≢false, cond, refl, ap, ap₂, sym, rules}
+use Rattle.std.proofs.Common.{◌≡◌, ◌∙◌, List, [], ◌∷◌, ◌++◌, map, Bool, true, false, cond, refl, ap, ap₂, sym, rules}
 use Rattle.std.proofs.lemmas.Bool.{and_parts}
 use Rattle.aql_value.specs.declared.operators.BinOp.TheVariants.{And}
 use Rattle.aql_tree.specs.declared.syntax.Expr.{Expr, the_lemmas}
@@ -11,7 +11,8 @@ use Rattle.aql_rules_filter.specs.Conditions.{and_links, with_more, all_of, join
 use Rattle.aql_rules_filter.specs.Readers.{and_link}
 use Rattle.aql_rules_filter.specs.laws.Joined.{is_it}
 
-pub chain_form : (x : Expr) (a ls : _) → x ≡ code.Chain a ls → tree x ≡ chain (tree a.value) (links (map link_part ls))
+pub chain_form : (x : Expr) (a ls : _) → x ≡ code.Chain a ls
+    → tree x ≡ chain (tree a.value) (links (map link_part ls))
 chain_form x a ls h =
     ap tree h ∙ (let k : tree (code.Chain a ls) ≡ chain (tree a.value) (links (map link_part ls))
     = search (rules, the_lemmas) in k)
@@ -38,7 +39,8 @@ more_linked (l ∷ ls) es h =
     ap₂ (λ op ms. link_then op l.1 ms) (is_it l.0 k.0) (more_linked ls es k.1)
 
 -- with items of a condition, of which there is one at least
-with_items : (e f : ExprTree) (ds : List ExprTree) → chain e (and_links (ds ++ parts f)) ≡ with_more e (ds ++ parts f)
+with_items : (e f : ExprTree) (ds : List ExprTree)
+    → chain e (and_links (ds ++ parts f)) ≡ with_more e (ds ++ parts f)
 with_items e f (d ∷ ds) = refl
 with_items e (chain g ls) [] = by (all_and ls)
   where

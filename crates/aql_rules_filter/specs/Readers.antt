@@ -1,5 +1,5 @@
 -- What the rules see of a plan's top node, and the changes that they make there.
-use Rattle.std.specs.Prelude.{ℕ, List, Bool, false, is_none, Option, Some, None, option_to_list}
+use Rattle.std.specs.Prelude.{Bool, false, is_none, Option, Some, None, option_to_list}
 use Rattle.aql_value.specs.Datum.{Datum}
 use Rattle.aql_value.specs.declared.operators.BinOp.{BinOp}
 use Rattle.aql_value.specs.declared.operators.BinOp.TheVariants.{And}

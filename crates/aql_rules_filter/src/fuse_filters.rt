@@ -1,30 +1,10 @@
 //! A Filter over a Filter becomes one with the items of the lower, then of the upper.
 
-ghost use Rattle.std.specs.Prelude.{IfOk};
-ghost use Rattle.aql_meaning.specs.Uses.{Uses as spec_Uses};
-ghost use Rattle.aql_plan.specs.View.{plan_tree};
-ghost use Rattle.aql_rewrite.specs.Changed.{IsChanged};
-ghost use Rattle.aql_rules_filter.specs.FuseFilters.{Fuses};
-
 use crate::readers::{filter_of, is_filter, push_filter};
-use crate::swaps::swap_if;
 use aql_plan::{Facts, Plan, Uses};
 use aql_rewrite::{PartRule, Rule, Swap};
 use aql_value::OutOfMemory;
 use std::alloc::Global;
-
-fn fuse(alloc: Global, part: &mut Plan) -> Result<bool, OutOfMemory>
-    ensures { (us : spec_Uses) → IfOk result
-        (IsChanged Fuses us (plan_tree part.old) (plan_tree part.new)) }
-{
-    match filter_of(part) {
-        Some((below, _)) if is_filter(below) => {
-            push_filter(alloc, part)?;
-            Ok(true)
-        }
-        _ => Ok(false),
-    }
-}
 
 /// The rule fuse-filters.
 #[derive(Clone, Copy, Drop)]
@@ -46,12 +26,14 @@ impl Rule for FuseFilters {
         &self,
         alloc: Global,
         part: &Plan,
-        _above: &[Uses],
-        _facts: &Facts,
+        above: &[Uses],
+        facts: &Facts,
     ) -> Result<Option<Swap>, OutOfMemory> {
         let mut part = part.copy(alloc)?;
-        let changed = fuse(alloc, &mut part)?;
-        Ok(swap_if(changed, part))
+        if self.rewrite(alloc, &mut part, above, facts)? {
+            return Ok(Some(Swap { part, rename: None }));
+        }
+        Ok(None)
     }
 
     ghost refines = { λ _ facts _ _ us p q r _ h. fuses_refine facts us p q r h };
@@ -76,7 +58,14 @@ impl PartRule for FuseFilters {
         _above: &[Uses],
         _facts: &Facts,
     ) -> Result<bool, OutOfMemory> {
-        fuse(alloc, part)
+        let Some((below, _)) = filter_of(part) else {
+            return Ok(false);
+        };
+        if !is_filter(below) {
+            return Ok(false);
+        }
+        push_filter(alloc, part)?;
+        Ok(true)
     }
 
     fn looks_above(&self) -> bool {

@@ -9,7 +9,6 @@ mod optimize_traversals;
 mod readers;
 mod remove_unnecessary_filters;
 mod swapping;
-mod swaps;
 
 pub use fuse_filters::FuseFilters;
 pub use move_filters_into_enumerate::MoveFiltersIntoEnumerate;

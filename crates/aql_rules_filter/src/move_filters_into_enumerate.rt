@@ -1,30 +1,10 @@
 //! A Filter over an EnumerateCollection or an Index that keeps all attributes goes into it.
 
-ghost use Rattle.std.specs.Prelude.{IfOk};
-ghost use Rattle.aql_meaning.specs.Uses.{Uses as spec_Uses};
-ghost use Rattle.aql_plan.specs.View.{plan_tree};
-ghost use Rattle.aql_rewrite.specs.Changed.{IsChanged};
-ghost use Rattle.aql_rules_filter.specs.MoveFiltersIntoEnumerate.{MovesIn};
-
 use crate::readers::{filter_of, keeps_all, push_filter};
-use crate::swaps::swap_if;
 use aql_plan::{Facts, Plan, Uses};
 use aql_rewrite::{PartRule, Rule, Swap};
 use aql_value::OutOfMemory;
 use std::alloc::Global;
-
-fn move_in(alloc: Global, part: &mut Plan) -> Result<bool, OutOfMemory>
-    ensures { (us : spec_Uses) → IfOk result
-        (IsChanged MovesIn us (plan_tree part.old) (plan_tree part.new)) }
-{
-    match filter_of(part) {
-        Some((node, _)) if keeps_all(node) => {
-            push_filter(alloc, part)?;
-            Ok(true)
-        }
-        _ => Ok(false),
-    }
-}
 
 /// The rule move-filters-into-enumerate.
 #[derive(Clone, Copy, Drop)]
@@ -46,12 +26,14 @@ impl Rule for MoveFiltersIntoEnumerate {
         &self,
         alloc: Global,
         part: &Plan,
-        _above: &[Uses],
-        _facts: &Facts,
+        above: &[Uses],
+        facts: &Facts,
     ) -> Result<Option<Swap>, OutOfMemory> {
         let mut part = part.copy(alloc)?;
-        let changed = move_in(alloc, &mut part)?;
-        Ok(swap_if(changed, part))
+        if self.rewrite(alloc, &mut part, above, facts)? {
+            return Ok(Some(Swap { part, rename: None }));
+        }
+        Ok(None)
     }
 
     ghost refines = { λ _ facts _ _ us p q r _ h. moves_in_refine facts us p q r h };
@@ -76,7 +58,14 @@ impl PartRule for MoveFiltersIntoEnumerate {
         _above: &[Uses],
         _facts: &Facts,
     ) -> Result<bool, OutOfMemory> {
-        move_in(alloc, part)
+        let Some((node, _)) = filter_of(part) else {
+            return Ok(false);
+        };
+        if !keeps_all(node) {
+            return Ok(false);
+        }
+        push_filter(alloc, part)?;
+        Ok(true)
     }
 
     fn looks_above(&self) -> bool {

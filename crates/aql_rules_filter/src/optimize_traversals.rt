@@ -12,7 +12,6 @@ ghost use Rattle.aql_rules_filter.specs.Readers.{filter_in, may_go_in};
 
 use crate::readers::{filter_of, open_path, push_filter, remove_edge, remove_path, traversal_of};
 use crate::swapping::{is_gone, is_unused, test_uses, uses_of};
-use crate::swaps::swap_if;
 use aql_plan::{Facts, Plan, Uses};
 use aql_rewrite::{PartRule, Rule, Swap};
 use aql_tree::Expr;
@@ -54,22 +53,6 @@ fn remove_variable(alloc: Global, part: &mut Plan, above: &[Uses]) -> Result<boo
     Ok(false)
 }
 
-fn optimize(alloc: Global, part: &mut Plan, above: &[Uses]) -> Result<bool, OutOfMemory>
-    ensures { IfOk result (IsChanged Optimizes (above_uses above.now) (plan_tree part.old)
-        (plan_tree part.new)) }
-{
-    match filter_of(part) {
-        None => remove_variable(alloc, part, above),
-        Some((node, cond)) => {
-            if !fits_inside(alloc, node, cond)? {
-                return Ok(false);
-            }
-            push_filter(alloc, part)?;
-            Ok(true)
-        }
-    }
-}
-
 /// The rule optimize-traversals.
 #[derive(Clone, Copy, Drop)]
 pub struct OptimizeTraversals;
@@ -91,11 +74,13 @@ impl Rule for OptimizeTraversals {
         alloc: Global,
         part: &Plan,
         above: &[Uses],
-        _facts: &Facts,
+        facts: &Facts,
     ) -> Result<Option<Swap>, OutOfMemory> {
         let mut part = part.copy(alloc)?;
-        let changed = optimize(alloc, &mut part, above)?;
-        Ok(swap_if(changed, part))
+        if self.rewrite(alloc, &mut part, above, facts)? {
+            return Ok(Some(Swap { part, rename: None }));
+        }
+        Ok(None)
     }
 
     ghost refines = { λ _ facts _ _ us p q r _ h. optimizes_refine facts us p q r h };
@@ -121,7 +106,14 @@ impl PartRule for OptimizeTraversals {
         above: &[Uses],
         _facts: &Facts,
     ) -> Result<bool, OutOfMemory> {
-        optimize(alloc, part, above)
+        let Some((node, cond)) = filter_of(part) else {
+            return remove_variable(alloc, part, above);
+        };
+        if !fits_inside(alloc, node, cond)? {
+            return Ok(false);
+        }
+        push_filter(alloc, part)?;
+        Ok(true)
     }
 
     fn looks_above(&self) -> bool {

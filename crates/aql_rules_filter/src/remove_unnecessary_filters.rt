@@ -1,35 +1,11 @@
 //! A Filter with a literal goes where this is true-like, and becomes NoResults where it is not.
 
-ghost use Rattle.aql_meaning.specs.Uses.{Uses as spec_Uses};
-ghost use Rattle.aql_plan.specs.View.{plan_tree};
-ghost use Rattle.aql_rewrite.specs.Changed.{IsChanged};
-ghost use Rattle.aql_rules_filter.specs.RemoveUnnecessaryFilters.{Removes};
-
 use crate::conditions::literal_in;
 use crate::readers::{empty_filter, filter_of, take_filter};
-use crate::swaps::swap_if;
 use aql_plan::{Facts, Plan, Uses};
 use aql_rewrite::{PartRule, Rule, Swap};
 use aql_value::{OutOfMemory, truthy};
 use std::alloc::Global;
-
-fn remove(part: &mut Plan) -> bool
-    ensures { (us : spec_Uses) → IsChanged Removes us (plan_tree part.old) (plan_tree part.new)
-        result }
-{
-    let Some((_, cond)) = filter_of(part) else {
-        return false;
-    };
-    let Some(value) = literal_in(cond) else {
-        return false;
-    };
-    if truthy(value) {
-        take_filter(part);
-    } else {
-        empty_filter(part);
-    }
-    true
-}
 
 /// The rule remove-unnecessary-filters.
 #[derive(Clone, Copy, Drop)]
@@ -51,12 +27,14 @@ impl Rule for RemoveUnnecessaryFilters {
         &self,
         alloc: Global,
         part: &Plan,
-        _above: &[Uses],
-        _facts: &Facts,
+        above: &[Uses],
+        facts: &Facts,
     ) -> Result<Option<Swap>, OutOfMemory> {
         let mut part = part.copy(alloc)?;
-        let changed = remove(&mut part);
-        Ok(swap_if(changed, part))
+        if self.rewrite(alloc, &mut part, above, facts)? {
+            return Ok(Some(Swap { part, rename: None }));
+        }
+        Ok(None)
     }
 
     ghost refines = { λ _ facts _ _ us p q r _ h. removes_refine facts us p q r h };
@@ -81,7 +59,18 @@ impl PartRule for RemoveUnnecessaryFilters {
         _above: &[Uses],
         _facts: &Facts,
     ) -> Result<bool, OutOfMemory> {
-        Ok(remove(part))
+        let Some((_, cond)) = filter_of(part) else {
+            return Ok(false);
+        };
+        let Some(value) = literal_in(cond) else {
+            return Ok(false);
+        };
+        if truthy(value) {
+            take_filter(part);
+        } else {
+            empty_filter(part);
+        }
+        Ok(true)
     }
 
     fn looks_above(&self) -> bool {

@@ -1,22 +1,21 @@
 -- The plan from its lowest node up, each node's expressions to their end, and a body with its node, is a way
 -- of applications each at the first place.
 use Rattle.std.proofs.Common.{◌≡◌, ◌∙◌, Bool, false, List, [], length, refl, ap, sym, subst}
-use Rattle.std.specs.Prelude.{Some, None}
+use Rattle.std.specs.Prelude.{None}
 use Rattle.aql_tree.specs.declared.syntax.Ident.{Ident}
 use Rattle.aql_tree.specs.Tree.{ExprTree}
 use Rattle.aql_meaning.specs.Uses.{Uses}
 use Rattle.aql_plan.specs.Above.{input_inside}
 use Rattle.aql_plan.specs.Needs.{under, result_uses}
-use Rattle.aql_plan.specs.Nodes.{over, body_in, with_body}
-use Rattle.aql_plan.specs.Plan.{Plan, Singleton, Over, Node, Subquery, Scatter, Distribute, Gather, top}
+use Rattle.aql_plan.specs.Nodes.{body_in}
+use Rattle.aql_plan.specs.Plan.{Plan, Singleton, Over, Node, Subquery, Scatter, Distribute, Gather}
 use Rattle.aql_plan.specs.Shapes.{HasNoFragment, IsNoFragment}
 use Rattle.aql_rewrite.specs.FirstPart.{none_left, FirstOf}
 use Rattle.aql_rewrite.specs.NodeExprs.{node_exprs, over_exprs}
-use Rattle.aql_rewrite.specs.NodeViews.{plan_over}
 use Rattle.aql_rewrite.specs.Places.{Stays, NoPlace, NoPlaceAt, First, below, here, body}
 use Rattle.aql_passes.specs.AtExprs.{AtExprs}
 use Rattle.aql_rewrite.specs.Steps.{Steps, at_once, next, PlanStep}
-use Rattle.aql_passes.specs.Ends.{AllEnd, PlanEnds}
+use Rattle.aql_passes.specs.Ends.{AllEnd, ExprsEnd, PlanEnds}
 use Rattle.aql_passes.specs.laws.Ended.{as_many, each_new, first_longer}
 use Rattle.aql_passes.specs.laws.ExprsAgain.{exprs_own, exprs_again}
 use Rattle.aql_passes.specs.laws.ExprsBack.{exprs_back}
@@ -31,16 +30,6 @@ input_outside (Gather directions es) h = absurd h
 input_outside (Scatter coll only) h = refl
 input_outside (Distribute coll es) h = refl
 input_outside n h = refl
-
-pub lone_below : (p b : Plan) → p ≡ Over b (top p) → HasNoFragment p → HasNoFragment b × IsNoFragment (top p)
-lone_below p b e h = by (top p) (subst HasNoFragment e h)
-  where
-    by : (n : Node) → HasNoFragment (Over b n) → HasNoFragment b × IsNoFragment n
-    by n h = h
-
-pub lone_body : (n : Node) (s : Plan) → body_in n ≡ Some s → IsNoFragment n → HasNoFragment s
-lone_body (Subquery x t) s e h = let k : t ≡ s = cc in subst HasNoFragment k h
-lone_body n s e h = cc
 
 module _ (R : ExprTree → ExprTree → Type 0) where
   abbrev Way : Uses → Plan → Plan → Bool → Bool → Type 0
@@ -117,10 +106,10 @@ module _ (R : ExprTree → ExprTree → Type 0) where
   stays_at_subquery : (us : Uses) (v : Ident) (b s : Plan) → Stays (AtExprs R) us (Over b (Subquery v s))
   stays_at_subquery us v b s = stays_at_node R (Over b (Subquery v s)) [] refl none_left
 
-  over_subquery : (v : Ident) (b c s t : Plan) (x y z : Bool) → HasNoFragment s
+  pub body_ends : (v : Ident) (b c s t : Plan) (x y z : Bool) → HasNoFragment s
       → PlanEnds R b c x y → PlanEnds R s t y z
       → PlanEnds R (Over b (Subquery v s)) (Over c (Subquery v t)) x z
-  over_subquery v b c s t x y z i h k = record {
+  body_ends v b c s t x y z i h k = record {
     reached = λ us. joined Plan (PlanStep (AtExprs R) us)
         (way_below (Subquery v s) us b c x y i (h.reached (under (Subquery v s) us)))
         (along Plan Plan (PlanStep (AtExprs R) result_uses) (PlanStep (AtExprs R) us)
@@ -132,28 +121,11 @@ module _ (R : ExprTree → ExprTree → Type 0) where
 
   -- ---- as the program holds them
 
-  pub lowest_ends : (p : Plan) (x : Bool) → p ≡ Singleton → PlanEnds R p Singleton x x
-  lowest_ends p x e = subst (λ (o : Plan). PlanEnds R o Singleton x x) (sym e)
-      (record { reached = λ us. at_once; ended = λ us. tt })
+  pub start_ends : (x : Bool) → PlanEnds R Singleton Singleton x x
+  start_ends x = record { reached = λ us. at_once; ended = λ us. tt }
 
-  pub node_ends : (p b c q : Plan) (es ds : List ExprTree) (x y z : Bool) → HasNoFragment p
-      → p ≡ Over b (top p) → body_in (top p) ≡ None → es ≡ node_exprs (top p) → PlanEnds R b c x y
-      → AllEnd R es ds y z → q ≡ plan_over p c ds → PlanEnds R p q x z
-  node_ends Singleton b c q es ds x y z i e f g h k l = cc
-  node_ends (Over a n) b c q es ds x y z i e f g h k l =
-      let o : a ≡ b = cc in
-      subst (λ (r : Plan). PlanEnds R (Over a n) r x z) (sym l)
-      (over_node n a c ds x y z i.1 f (subst (λ (r : Plan). PlanEnds R r c x y) (sym o) h)
-      (subst (λ (cs : List ExprTree). AllEnd R cs ds y z) g k))
-
-  pub body_ends : (p b c q s t : Plan) (x y z : Bool) → HasNoFragment p → p ≡ Over b (top p)
-      → body_in (top p) ≡ Some s → PlanEnds R b c x y → PlanEnds R s t y z → q ≡ with_body (over p c) t
-      → PlanEnds R p q x z
-  body_ends Singleton b c q s t x y z i e f h k l = cc
-  body_ends (Over a (Subquery v r)) b c q s t x y z i e f h k l =
-      let o : a ≡ b = cc in
-      let j : r ≡ s = cc in
-      subst (λ (w : Plan). PlanEnds R (Over a (Subquery v r)) w x z) (sym l)
-      (over_subquery v a c r t x y z i.1 (subst (λ (w : Plan). PlanEnds R w c x y) (sym o) h)
-      (subst (λ (w : Plan). PlanEnds R w t y z) (sym j) k))
-  body_ends (Over a n) b c q s t x y z i e f h k l = cc
+  pub node_ends : (n m : Node) (b c : Plan) (x y z : Bool) → HasNoFragment (Over b n) → body_in n ≡ None
+      → PlanEnds R b c x y → ExprsEnd R n m y z → PlanEnds R (Over b n) (Over c m) x z
+  node_ends n m b c x y z i e h k =
+      subst (λ (o : Node). PlanEnds R (Over b n) (Over c o) x z) (sym k.2)
+      (over_node n b c k.0 x y z i.1 e h k.1)

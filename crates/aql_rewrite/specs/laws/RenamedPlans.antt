@@ -9,30 +9,22 @@ use Rattle.aql_meaning.specs.Places.{put}
 use Rattle.aql_meaning.specs.Plain.{IsPlain}
 use Rattle.aql_meaning.specs.Uses.{Uses}
 use Rattle.aql_plan.specs.declared.facts.Facts.{Facts}
-use Rattle.aql_plan.specs.Exprs.{map_plan, map_node}
-use Rattle.aql_plan.specs.Nodes.{over, body_in, with_body}
+use Rattle.aql_plan.specs.declared.plan.Node as code
+use Rattle.aql_plan.specs.declared.plan.Node.TheVariants.{EnumerateCollection as EnumerateCollection-code, Index as Index-code, EnumerateList as EnumerateList-code, Traversal as Traversal-code, Calculation as Calculation-code, Filter as Filter-code, Sort as Sort-code, Limit as Limit-code, Collect as Collect-code, Return as Return-code, NoResults as NoResults-code, Scatter as Scatter-code, Distribute as Distribute-code, Remote as Remote-code, Gather as Gather-code}
+use Rattle.aql_plan.specs.Exprs.{map_node}
+use Rattle.aql_plan.specs.Nodes.{over, body_in}
 use Rattle.aql_plan.specs.Plan.{Plan, Singleton, Over, Node, Subquery, top}
+use Rattle.aql_plan.specs.View.{node_tree}
 use Rattle.aql_rewrite.specs.declared.swap.Rename.{Rename}
-use Rattle.aql_rewrite.specs.Renames.{put_each, over_each}
-use Rattle.aql_rewrite.specs.NodeExprs.{node_exprs}
-use Rattle.aql_rewrite.specs.NodeViews.{plan_over}
+use Rattle.aql_rewrite.specs.Nodes.{over_renamed}
+use Rattle.aql_rewrite.specs.Renames.{put_each, over_each, top_each}
+use Rattle.aql_rewrite.specs.NodeExprs.{node_exprs, over_exprs}
 use Rattle.aql_rewrite.specs.Placed.{IsPlaced}
 use Rattle.aql_rewrite.specs.Plain.{PlanPlain, NodePlain}
 use Rattle.aql_rewrite.specs.laws.OverNodes.{node_over}
 use Rattle.aql_rewrite.specs.laws.PlainPlans.{plan_plain}
-use Rattle.aql_rewrite.specs.laws.Renamings.{node_each}
 
 -- ---- what is plain
-
-pub plan_below : (p b : Plan) → p ≡ Over b (top p) → PlanPlain p → PlanPlain b × NodePlain (top p)
-plan_below p b e h = by (top p) (subst PlanPlain e h)
-  where
-    by : (n : Node) → PlanPlain (Over b n) → PlanPlain b × NodePlain n
-    by n h = h
-
-pub body_plain : (n : Node) (s : Plan) → body_in n ≡ Some s → NodePlain n → PlanPlain s
-body_plain (Subquery x t) s e h = let k : t ≡ s = cc in subst PlanPlain k h
-body_plain n s e h = cc
 
 pub exprs_plain : (n : Node) → body_in n ≡ None → NodePlain n → AllByRecursion IsPlain (node_exprs n)
 exprs_plain (Subquery x s) e h = cc
@@ -43,24 +35,43 @@ pub placed_plain : (k inside : Bool) (facts : Facts) (us : Uses) (p : Plan) → 
 placed_plain k inside facts us Singleton h = tt
 placed_plain k inside facts us (Over b n) h = (plan_plain facts h.2.shaped.2).1
 
--- ---- one node
+-- ---- a node of the program, which has no body
 
-pub each_over : (rs : List Rename) (p b : Plan) → body_in (top p) ≡ None
-    → plan_over p b (map (put_each rs) (node_exprs (top p))) ≡ over_each rs p b
-each_over rs Singleton b e = refl
-each_over rs (Over c n) b e = ap (Over b) (node_over (put_each rs) n e ∙ node_each rs n)
+pub no_body : (n : code.Node) → body_in (node_tree n) ≡ None
+no_body (EnumerateCollection-code var coll filter attrs shard) = refl
+no_body (Index-code var coll filter attrs shard index equal last ordered) = refl
+no_body (EnumerateList-code var list) = refl
+no_body (Traversal-code vertex edge path min max direction start colls prune options filter) = refl
+no_body (Calculation-code var expr) = refl
+no_body (Filter-code cond) = refl
+no_body (Sort-code keys limit) = refl
+no_body (Limit-code offset count) = refl
+no_body (Collect-code groups gs into stage) = refl
+no_body (Return-code expr distinct) = refl
+no_body NoResults-code = refl
+no_body (Scatter-code coll only) = refl
+no_body (Distribute-code coll exprs) = refl
+no_body Remote-code = refl
+no_body (Gather-code keys) = refl
 
-pub each_with : (rs : List Rename) (p b s : Plan) → body_in (top p) ≡ Some s
-    → with_body (over p b) (map_plan (put_each rs) s) ≡ over_each rs p b
-each_with rs Singleton b s e = cc
-each_with rs (Over c (Subquery x t)) b s e =
-    let k : t ≡ s = cc in
-    ap (λ (o : Plan). Over b (Subquery x (map_plan (put_each rs) o))) (sym k)
-    ∙ ap (Over b) (node_each rs (Subquery x t))
-each_with rs (Over c n) b s e = cc
+pub node_renamed : (rs : List Rename) (n : Node) (es : List ExprTree) → body_in n ≡ None
+    → es ≡ map (put_each rs) (node_exprs n) → over_exprs n es ≡ map_node (put_each rs) n
+node_renamed rs n es e h = ap (over_exprs n) h ∙ node_over (put_each rs) n e
 
-pub each_plan : (rs : List Rename) (p b q : Plan) → p ≡ Over b (top p) → q ≡ map_plan (put_each rs) b
-    → over_each rs p q ≡ map_plan (put_each rs) p
-each_plan rs p b q e f =
-    ap₂ (over_each rs) e f ∙ ap (Over (map_plan (put_each rs) b)) (sym (node_each rs (top p)))
-    ∙ sym (ap (map_plan (put_each rs)) e)
+-- ---- the node at the top
+
+pub top_over : (rs : List Rename) (p b : Plan) → top_each rs (over p b) ≡ over_each rs p b
+top_over rs Singleton b = refl
+top_over rs (Over c n) b = refl
+
+pub over_plain : (p b : Plan) → NodePlain (top p) → NodePlain (top (over p b))
+over_plain Singleton b h = h
+over_plain (Over c n) b h = h
+
+pub over_one : (r : Rename) (p b : Plan) → top_each (r ∷ []) (over p b) ≡ over_renamed (Some r) p b
+over_one r Singleton b = refl
+over_one r (Over c n) b = refl
+
+pub over_same : (p b : Plan) → over p b ≡ over_renamed None p b
+over_same Singleton b = refl
+over_same (Over c n) b = refl

@@ -86,6 +86,19 @@ fuses_shrink _ _ _ _ fused = omega arith
 
 -- ---- what the rule finds
 
+pub not_a_filter : (us : Uses) (m : Plan) → filter_in m ≡ None
+    → (q : Plan) (r : Option Rename) → Fuses us m q r → ⊥
+not_a_filter us _ h _ _ fused = cc
+
+not_over_one : (us : Uses) (p : Plan) (c : ExprTree) → is_some (filter_in p) ≡ false
+    → (q : Plan) (r : Option Rename) → Fuses us (Over p (Filter c)) q r → ⊥
+not_over_one us _ _ h _ _ fused = absurd (true≢false h)
+
+pub not_over_a_filter : (us : Uses) (m p : Plan) (c : ExprTree) → m ≡ Over p (Filter c)
+    → is_some (filter_in p) ≡ false → (q : Plan) (r : Option Rename) → Fuses us m q r → ⊥
+not_over_a_filter us m p c d h =
+    subst (λ (n : Plan). (q : Plan) (r : Option Rename) → Fuses us n q r → ⊥) (sym d) (not_over_one us p c h)
+
 over_one : (us : Uses) (p : Plan) (c : ExprTree) → is_some (filter_in p) ≡ true
     → Fuses us (Over p (Filter c)) (pushed (Over p (Filter c))) None
 over_one us Singleton c h = absurd (true≢false (sym h))

@@ -28,7 +28,7 @@ use Rattle.aql_rewrite.specs.Placed.{Placed, IsWhole}
 use Rattle.aql_rewrite.specs.Swaps.{Replaced, KeepsPlaced}
 use Rattle.aql_rules_filter.specs.Conditions.{joined}
 use Rattle.aql_rules_filter.specs.Measures.{filters, is_filter}
-use Rattle.aql_rules_filter.specs.MoveFiltersIntoEnumerate.{filtered_by, with_condition, MovesIn, into_enumerate, into_index}
+use Rattle.aql_rules_filter.specs.MoveFiltersIntoEnumerate.{with_condition, MovesIn, into_enumerate, into_index}
 use Rattle.aql_rules_filter.specs.Readers.{filter_in, keeps_all, narrowed, pushed}
 use Rattle.aql_rewrite.specs.laws.Falling.{total_falls}
 use Rattle.aql_rules_filter.specs.laws.Filtered.{holds, filtered, filter_same, filter_twice}
@@ -245,12 +245,23 @@ none_is : {A : Type 0} (o : Option A) → is_none o ≡ true → o ≡ None
 none_is None h = refl
 none_is (Some a) h = absurd (true≢false (sym h))
 
+none_found : (us : Uses) (p : Plan) (c : ExprTree) → keeps_all (top p) ≡ false
+    → (q : Plan) (r : Option Rename) → MovesIn us (Over p (Filter c)) q r → ⊥
+none_found us _ _ h _ _ (into_enumerate e) = absurd (true≢false (sym (ap is_none e) ∙ h))
+none_found us _ _ h _ _ (into_index e) = absurd (true≢false (sym (ap is_none e) ∙ h))
+
+pub moves_in_stays : (us : Uses) (m p : Plan) (c : ExprTree) → m ≡ Over p (Filter c)
+    → keeps_all (top p) ≡ false → (q : Plan) (r : Option Rename) → MovesIn us m q r → ⊥
+moves_in_stays us m p c d h =
+    subst (λ (n : Plan). (q : Plan) (r : Option Rename) → MovesIn us n q r → ⊥) (sym d) (none_found us p c h)
+
 found_at : (us : Uses) (p : Plan) (c : ExprTree) → keeps_all (top p) ≡ true
     → MovesIn us (Over p (Filter c)) (pushed (Over p (Filter c))) None
 found_at us Singleton c h = absurd (true≢false (sym h))
 found_at us (Over b n) c h = by n h
   where
-    by : (n : Node) → keeps_all n ≡ true → MovesIn us (Over (Over b n) (Filter c)) (Over b (narrowed n c)) None
+    by : (n : Node) → keeps_all n ≡ true
+        → MovesIn us (Over (Over b n) (Filter c)) (Over b (narrowed n c)) None
     by (EnumerateCollection x) h = into_enumerate (none_is x.attrs h)
     by (Index x index equal last ordered) h = into_index (none_is x.attrs h)
     by n h = absurd (true≢false (sym h))
@@ -259,3 +270,8 @@ pub moves_in_at : (us : Uses) (m p q : Plan) (c : ExprTree) → m ≡ Over p (Fi
     → keeps_all (top p) ≡ true → q ≡ pushed m → MovesIn us m q None
 moves_in_at us m p q c d h e =
     subst₂ (λ (n s : Plan). MovesIn us n s None) (sym d) (sym (e ∙ ap pushed d)) (found_at us p c h)
+
+pub moves_in_no_filter : (us : Uses) (m : Plan) → filter_in m ≡ None
+    → (q : Plan) (r : Option Rename) → MovesIn us m q r → ⊥
+moves_in_no_filter us _ h _ _ (into_enumerate e) = cc
+moves_in_no_filter us _ h _ _ (into_index e) = cc

@@ -1,8 +1,7 @@
 -- What a node gives for the rows at which a condition holds is what it gives for all rows, where the
 -- condition holds: for nodes with which a Filter may swap places.
-use Rattle.std.proofs.Common.{◌≡◌, ◌∙◌, List, [], ◌∷◌, ◌++◌, map, Bool, true, false, true≢false, cond, refl, ap, sym, subst, ap₂}
-use Rattle.std.specs.Prelude.{None, filter, zip, option_to_list, IsPermutation, Option, Some, flat_map}
-use Rattle.std.specs.Ordering.{is_lt}
+use Rattle.std.proofs.Common.{◌≡◌, ◌∙◌, List, [], ◌∷◌, ◌++◌, map, Bool, true, false, true≢false, cond, refl, ap, sym, subst}
+use Rattle.std.specs.Prelude.{None, filter, zip, option_to_list, IsPermutation}
 use Rattle.std.specs.List.{AllZip}
 use Rattle.std.proofs.lemmas.List.Elements.{filter-append}
 use Rattle.aql_value.specs.Database.{Database}

@@ -96,6 +96,16 @@ literal_is : (e : ExprTree) (v : Datum) → literal_in e ≡ Some v → e ≡ li
 literal_is (literal u) v h = let k : u ≡ v = cc in ap literal k
 literal_is e v h = cc
 
+none_found : (us : Uses) (b : Plan) (e : ExprTree) → literal_in e ≡ None
+    → (q : Plan) (r : Option Rename) → Removes us (Over b (Filter e)) q r → ⊥
+none_found us _ _ h _ _ (passing t) = cc
+none_found us _ _ h _ _ (failing t) = cc
+
+pub removes_stays : (us : Uses) (p b : Plan) (e : ExprTree) → p ≡ Over b (Filter e) → literal_in e ≡ None
+    → (q : Plan) (r : Option Rename) → Removes us p q r → ⊥
+removes_stays us p b e d h =
+    subst (λ (m : Plan). (q : Plan) (r : Option Rename) → Removes us m q r → ⊥) (sym d) (none_found us b e h)
+
 -- what is left without the filter, and with NoResults in its place
 input_left : (p b q : Plan) (e : ExprTree) (taken : Option Expr) → p ≡ Over b (Filter e)
     → MatchOption taken ((filter_in p ≡ None) × (q ≡ p)) (λ c. p ≡ Over q (Filter (tree c))) → q ≡ b
@@ -105,9 +115,11 @@ input_left p b q e (Some c) d h = let k : Over q (Filter (tree c)) ≡ Over b (F
 
 pub passing_at : (us : Uses) (p b q : Plan) (e : ExprTree) (v : Datum) (taken : Option Expr)
     → p ≡ Over b (Filter e) → literal_in e ≡ Some v → truth v ≡ true
-    → MatchOption taken ((filter_in p ≡ None) × (q ≡ p)) (λ c. p ≡ Over q (Filter (tree c))) → Removes us p q None
+    → MatchOption taken ((filter_in p ≡ None) × (q ≡ p)) (λ c. p ≡ Over q (Filter (tree c)))
+    → Removes us p q None
 passing_at us p b q e v taken d h t k = subst₂ (λ (m s : Plan). Removes us m s None)
-    (sym (d ∙ ap (λ c. Over b (Filter c)) (literal_is e v h))) (sym (input_left p b q e taken d k)) (passing t)
+    (sym (d ∙ ap (λ c. Over b (Filter c)) (literal_is e v h))) (sym (input_left p b q e taken d k))
+    (passing t)
 
 pub failing_at : (us : Uses) (p b q : Plan) (e : ExprTree) (v : Datum) → p ≡ Over b (Filter e)
     → literal_in e ≡ Some v → truth v ≡ false → q ≡ plan_emptied p → Removes us p q None

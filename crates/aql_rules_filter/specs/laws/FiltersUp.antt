@@ -1,6 +1,6 @@
 -- A Filter that swaps places with the node below it.
-use Rattle.std.proofs.Common.{◌≡◌, ◌∙◌, ◌<◌, ◌+◌, List, [], ◌∷◌, true, false, true≢false, refl, ap, sym, subst, subst₂, arith, ℕ, ◌++◌, Bool}
-use Rattle.std.specs.Prelude.{◌&&◌, Option, Some, None, filter}
+use Rattle.std.proofs.Common.{◌≡◌, ◌∙◌, ◌<◌, ◌+◌, List, [], ◌∷◌, true, false, true≢false, refl, ap, sym, subst, subst₂, arith}
+use Rattle.std.specs.Prelude.{◌&&◌, Option, None}
 use Rattle.std.specs.List.{list_any, AllZip}
 use Rattle.std.proofs.lemmas.Bool.{and_parts, and_from}
 use Rattle.aql_tree.specs.declared.syntax.Ident.{Ident}
@@ -25,7 +25,7 @@ use Rattle.aql_plan_laws.specs.laws.Agreement.{rows_agree}
 use Rattle.aql_rewrite.specs.declared.swap.Rename.{Rename}
 use Rattle.aql_rewrite.specs.Places.{First}
 use Rattle.aql_rewrite.specs.Placed.{Placed, IsWhole}
-use Rattle.aql_rewrite.specs.Swaps.{Replaced, KeepsPlaced, Kept, SetsNoMore}
+use Rattle.aql_rewrite.specs.Swaps.{Replaced, KeepsPlaced}
 use Rattle.aql_rewrite.specs.laws.Carried.{Lowers, Lifts, first_lowers, renamed_lowers}
 use Rattle.aql_rewrite.specs.laws.PlacedBelow.{whole_placed}
 use Rattle.aql_rules_filter.specs.MoveFiltersUp.{may_swap, none_used, MovesUp, swapped}

@@ -1,5 +1,5 @@
 -- A condition holds where its items hold, and conditions that are joined hold where both do.
-use Rattle.std.proofs.Common.{◌≡◌, ◌∙◌, ◌<◌, length, arith, List, [], ◌∷◌, ◌++◌, map, Bool, true, false, true≢false, cond, refl, ap, ap₂, sym}
+use Rattle.std.proofs.Common.{◌≡◌, ◌∙◌, List, [], ◌∷◌, ◌++◌, Bool, true, false, true≢false, cond, refl, ap, ap₂, sym}
 use Rattle.std.specs.Prelude.{◌&&◌}
 use Rattle.std.specs.List.{list_all, AllByRecursion}
 use Rattle.std.proofs.lemmas.Bool.{and_parts}
@@ -11,7 +11,6 @@ use Rattle.aql_value.specs.declared.operators.BinOp.TheVariants.{And}
 use Rattle.aql_func.specs.Operators.{binary}
 use Rattle.aql_tree.specs.declared.syntax.Ident.{Ident}
 use Rattle.aql_tree.specs.Tree.{ExprTree, literal, chain, MaybeExpr, no_expr, one_expr, LinkTrees, no_links, link_then}
-use Rattle.aql_tree.specs.View.{links}
 use Rattle.aql_meaning.specs.AtRows.{value_of, passes}
 use Rattle.aql_meaning.specs.Plain.{IsPlain, MaybePlain, LinksPlain}
 use Rattle.aql_meaning.specs.Row.{Row}
@@ -20,8 +19,7 @@ use Rattle.aql_meaning.specs.Value.{links_value}
 use Rattle.aql_plan.specs.FirstPlan.{is_and, all_and, right_sides, parts}
 use Rattle.aql_plan.specs.Variables.{are_among}
 use Rattle.aql_rewrite.specs.laws.Among.{among_join, among_split}
-use Rattle.aql_rules_filter.specs.Conditions.{filter_items, and_links, with_more, all_of, joined}
-use Rattle.aql_rules_filter.specs.Readers.{and_link}
+use Rattle.aql_rules_filter.specs.Conditions.{filter_items, and_links, all_of, joined}
 use Rattle.aql_rules_filter.specs.laws.Filtered.{holds}
 
 -- ---- what holds

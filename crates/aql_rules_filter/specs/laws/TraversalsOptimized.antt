@@ -27,9 +27,8 @@ use Rattle.aql_rewrite.specs.Placed.{Placed, IsWhole}
 use Rattle.aql_rewrite.specs.Swaps.{Replaced, Kept, KeepsPlaced}
 use Rattle.aql_rewrite.specs.laws.Among.{has, both, and_true, among_join, among_split}
 use Rattle.aql_rewrite.specs.Sums.{total}
-use Rattle.aql_rules_filter.specs.MoveFiltersUp.{none_used}
 use Rattle.aql_rules_filter.specs.OptimizeTraversals.{with_vars, tests_use, is_gone, Optimizes, edge_goes, path_goes, filter_goes_in}
-use Rattle.aql_rules_filter.specs.Readers.{filter_in, narrowed, pushed, may_go_in, traversal_in, open_path}
+use Rattle.aql_rules_filter.specs.Readers.{narrowed, pushed, may_go_in, traversal_in}
 use Rattle.aql_rules_filter.specs.Readers.{plan_without_edge, plan_without_path}
 use Rattle.aql_rules_filter.specs.Measures.{parts_to_go}
 use Rattle.aql_rewrite.specs.laws.Falling.{total_falls}
@@ -342,7 +341,8 @@ filter_found : (us : Uses) (p : Plan) (c : ExprTree) → may_go_in (top p) c ≡
 filter_found us Singleton c h = absurd (true≢false (sym h))
 filter_found us (Over b n) c h = by n h
   where
-    by : (n : Node) → may_go_in n c ≡ true → Optimizes us (Over (Over b n) (Filter c)) (Over b (narrowed n c)) None
+    by : (n : Node) → may_go_in n c ≡ true
+        → Optimizes us (Over (Over b n) (Filter c)) (Over b (narrowed n c)) None
     by (Traversal w e colls prune no_expr) h = filter_goes_in h
     by (Traversal w e colls prune (one_expr d)) h = absurd (true≢false (sym h))
     by n h = absurd (true≢false (sym h))
@@ -351,3 +351,11 @@ pub filter_at : (us : Uses) (m p q : Plan) (c : ExprTree) → m ≡ Over p (Filt
     → may_go_in (top p) c ≡ true → q ≡ pushed m → Optimizes us m q None
 filter_at us m p q c d h e = subst₂ (λ (n s : Plan). Optimizes us n s None) (sym d) (sym (e ∙ ap pushed d))
     (filter_found us p c h)
+
+over_others : (us : Uses) (p : Plan) (c : ExprTree) → may_go_in (top p) c ≡ false
+    → Nowhere us (Over p (Filter c))
+over_others us _ c h _ _ (filter_goes_in u) = absurd (true≢false (sym u ∙ h))
+
+pub filter_stays : (us : Uses) (m p : Plan) (c : ExprTree) → m ≡ Over p (Filter c)
+    → may_go_in (top p) c ≡ false → Nowhere us m
+filter_stays us m p c d h = subst (λ (n : Plan). Nowhere us n) (sym d) (over_others us p c h)

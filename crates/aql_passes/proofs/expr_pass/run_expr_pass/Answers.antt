@@ -12,9 +12,9 @@ to_end-requires g c = c.requires.1
 
 pub returns-clause-passed : goal.returns-clause-passed
 returns-clause-passed g c =
-    let ends = c.in_ok-plan.ensures in
+    let ends = c.in_ok-to_end.ensures in
     is_pass (AtExprs (g.R.ExprRule.rewrites c.args.rule.now)) (plan_tree c.args.plan)
-    (plan_tree c.in_ok-plan.plan) false c.to_end.new.changed refl (ends.reached result_uses)
+    (plan_tree c.to_end.new.plan) false c.to_end.new.changed refl (ends.reached result_uses)
     (ends.ended result_uses)
 
 pub returns-clause-refines : goal.returns-clause-refines
@@ -23,8 +23,8 @@ returns-clause-refines g c =
     let keeps = g.met.R.ExprRule.keeps c.args.rule.now in
     let facts = c.args.facts.now in
     (pass_sound (AtExprs rewrites) facts false refl (at_top_refines rewrites keeps facts)
-    (at_top_keeps rewrites keeps facts) (plan_tree c.args.plan) (plan_tree c.in_ok-plan.plan) false
-    c.to_end.new.changed c.requires (c.in_ok-plan.ensures.reached result_uses)).refines
+    (at_top_keeps rewrites keeps facts) (plan_tree c.args.plan) (plan_tree c.to_end.new.plan) false
+    c.to_end.new.changed c.requires (c.in_ok-to_end.ensures.reached result_uses)).refines
 
 pub returns-clause-whole : goal.returns-clause-whole
 returns-clause-whole g c =
@@ -32,8 +32,8 @@ returns-clause-whole g c =
     let keeps = g.met.R.ExprRule.keeps c.args.rule.now in
     let facts = c.args.facts.now in
     (pass_sound (AtExprs rewrites) facts false refl (at_top_refines rewrites keeps facts)
-    (at_top_keeps rewrites keeps facts) (plan_tree c.args.plan) (plan_tree c.in_ok-plan.plan) false
-    c.to_end.new.changed c.requires (c.in_ok-plan.ensures.reached result_uses)).whole
+    (at_top_keeps rewrites keeps facts) (plan_tree c.args.plan) (plan_tree c.to_end.new.plan) false
+    c.to_end.new.changed c.requires (c.in_ok-to_end.ensures.reached result_uses)).whole
 
 pub returns-clause-sets : goal.returns-clause-sets
 returns-clause-sets g c =
@@ -41,5 +41,5 @@ returns-clause-sets g c =
     let keeps = g.met.R.ExprRule.keeps c.args.rule.now in
     let facts = c.args.facts.now in
     (pass_sound (AtExprs rewrites) facts false refl (at_top_refines rewrites keeps facts)
-    (at_top_keeps rewrites keeps facts) (plan_tree c.args.plan) (plan_tree c.in_ok-plan.plan) false
-    c.to_end.new.changed c.requires (c.in_ok-plan.ensures.reached result_uses)).sets
+    (at_top_keeps rewrites keeps facts) (plan_tree c.args.plan) (plan_tree c.to_end.new.plan) false
+    c.to_end.new.changed c.requires (c.in_ok-to_end.ensures.reached result_uses)).sets

@@ -1,6 +1,5 @@
-use Rattle.std.proofs.Common.{◌≡◌, ◌∙◌, [], ◌∷◌, ◌++◌, true, false, map, ap, ap₂, sym, subst, arith, rules}
+use Rattle.std.proofs.Common.{◌≡◌, ◌∙◌, [], ◌∷◌, ◌++◌, true, false, map, ap, sym, subst, arith, rules}
 use Rattle.std.proofs.lemmas.Grind.{common_steps}
-use Rattle.aql_tree.specs.declared.syntax.Expr as code
 use Rattle.aql_tree.specs.declared.syntax.Expr.{the_lemmas}
 use Rattle.aql_tree.specs.Tree.{chain}
 use Rattle.aql_tree.specs.View.{tree, links, link_part}
@@ -34,7 +33,8 @@ returns-in_ok-cond-in_default c =
     let more = tree c.args.more.now in
     let moved = map link_part c.move_items-in_default.new.to in
     let items : moved ≡ map and_link (parts more) =
-    c.in_ok-move_items-in_default.ensures ∙ ap (λ ls. map link_part ls ++ map and_link (parts more)) c.new-rest.ensures in
+    c.in_ok-move_items-in_default.ensures
+    ∙ ap (λ ls. map link_part ls ++ map and_link (parts more)) c.new-rest.ensures in
     let made : tree c.in_ok-cond-in_default.field-0 ≡ chain (tree c.in_default.cond) (links moved) =
     c.in_ok-cond-in_default.ensures ∙ ap (λ e. chain (tree e) (links moved)) c.replace-first.ensures.value in
     elim c.in_default.branch [

@@ -1,0 +1,15 @@
+-- They are those of the node.
+use Rattle.std.proofs.Common.{◌∙◌, List, map, ap, subst}
+use Rattle.std.proofs.lemmas.Result.{IfOk-weaker}
+use Rattle.aql_tree.specs.Tree.{ExprTree}
+use Rattle.aql_tree.specs.View.{tree}
+use Rattle.aql_rewrite.specs.ExprView.{lent}
+use Rattle.aql_passes.specs.Ends.{AllEnd}
+use Rattle.aql_passes.proofs.expr_pass.ended_exprs.Goals as goal
+
+pub returns : goal.returns
+returns g c =
+    IfOk-weaker c.all_to_end.result _ _
+    (λ out h. subst (λ (es : List ExprTree). AllEnd (g.R.ExprRule.rewrites c.args.rule.now) es
+    (map tree out.items) c.args.changed.now c.all_to_end.new.changed)
+    (ap (map lent) c.deref.ensures.value ∙ c.in_ok-all.ensures) h) c.all_to_end.ensures
