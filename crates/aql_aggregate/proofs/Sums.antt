@@ -17,9 +17,8 @@ use Rattle.aql_value.specs.laws.Lists.{datum_list-array_of}
 use Rattle.aql_func.specs.Arguments.{argument}
 use Rattle.aql_func.specs.Aggregates.{is_null, is_bad, is_number, count_of, exact_sum, sum_of, sum_state}
 use Rattle.aql_func.proofs.Parts.{trees_counted}
-use Rattle.aql_aggregate.specs.States.{Counts}
-use Rattle.aql_aggregate.specs.declared.part_sums.PartSum.{PartSum}
-use Rattle.aql_aggregate.specs.Kept.{Sums}
+use Rattle.aql_aggregate.specs.States.{Counts, Sums}
+use Rattle.aql_aggregate.specs.declared.summing.RunningSum.{RunningSum}
 use Rattle.aql_aggregate.proofs.Marks.{not_saturated}
 use Rattle.aql_aggregate.proofs.Counts.{total_append, small}
 use Rattle.aql_aggregate.proofs.Totals.{halves, numbers_alone}
@@ -97,7 +96,7 @@ counted_short n ts h k = by (cases_lt (length ts) (2 ^ 63))
     by (inr l) = absurd (true≢false (sym k ∙ ap is_some h
         ∙ ap (λ (b : Bool). is_some (cond b (Some (pos (length ts))) None)) (le-ltb _ _ l)))
 
-pub value_is : (s : PartSum) (ts : List Datum) (v : Datum) → Sums s ts → s.bad ≡ false
+pub value_is : (s : RunningSum) (ts : List Datum) (v : Datum) → Sums s ts → s.bad ≡ false
     → is_some s.count ≡ true → v ≡ number_or_null (to_z w128 (of_z w128 s.total)) → v ≡ sum_of ts
 value_is s ts v h b c e =
     let short = counted_short s.count ts h.counted c in

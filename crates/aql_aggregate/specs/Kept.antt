@@ -1,22 +1,12 @@
 -- What is kept of the members of a part, and of those of other parts that are known by their states (the
 -- high-level operation COLLECT, AGGREGATE; Cluster: grouping on shards).
-use Rattle.std.specs.Prelude.{◌≡◌, ◌<◌, ◌*◌, ◌^◌, pos, neg_ℤ, ◌≤ℤ◌, List, filter, length}
-use Rattle.std.specs.List.{list_any}
+use Rattle.std.specs.Prelude.{◌≡◌, List}
 use Rattle.aql_value.specs.Datum.{Datum}
-use Rattle.aql_func.specs.Aggregates.{Aggregate, count, sum, min, max, sorted_unique, count_distinct, state, is_bad, is_number, exact_sum}
+use Rattle.aql_func.specs.Aggregates.{Aggregate, count, sum, min, max, sorted_unique, count_distinct, state}
 use Rattle.aql_aggregate.specs.declared.accumulator.Accumulator.{Accumulator}
 use Rattle.aql_aggregate.specs.States as members
-use Rattle.aql_aggregate.specs.declared.part_sums.PartSum.{PartSum}
 use Rattle.aql_aggregate.specs.declared.staged_accumulator.PartAccumulator.{PartAccumulator}
 use Rattle.aql_aggregate.specs.declared.staged_accumulator.PartAccumulator.TheVariants as code
-
--- the sum is right as long as the count is
-pub record Sums (s : PartSum) (ts : List Datum) : Type 0 where
-  pub counted : members.Counts s.count ts
-  pub marked : s.bad ≡ list_any is_bad ts
-  pub added : length ts < 2 ^ 63 → s.total ≡ exact_sum (filter is_number ts)
-  pub low : length ts < 2 ^ 63 → neg_ℤ (pos (2 ^ 63 * length ts)) ≤ℤ s.total
-  pub high : length ts < 2 ^ 63 → s.total ≤ℤ pos (2 ^ 63 * length ts)
 
 -- the aggregate that it is of
 abbrev pub kind_of : PartAccumulator → Aggregate
@@ -33,7 +23,7 @@ KeepsAlike a kind ts = (us : List Datum) × members.Keeps a kind us × (state ki
 
 abbrev pub Keeps : PartAccumulator → List Datum → Type 0
 Keeps (code.Count n) ts = members.Counts n ts
-Keeps (code.Sum s) ts = Sums s ts
+Keeps (code.Sum s) ts = members.Sums s ts
 Keeps (code.Min a) ts = KeepsAlike a min ts
 Keeps (code.Max a) ts = KeepsAlike a max ts
 Keeps (code.SortedUnique a) ts = KeepsAlike a sorted_unique ts

@@ -5,7 +5,7 @@ use Rattle.aql_value.specs.declared.values.Value.{Value}
 use Rattle.aql_value.specs.Datum.{Datum}
 use Rattle.aql_value.specs.View.{datum_of, datums_in}
 use Rattle.aql_func.specs.Lists.{firsts}
-use Rattle.aql_func.specs.Aggregates.{Aggregate, count, sum, min, max, sorted_unique, count_distinct, is_null, is_bad, exact_sum, best, lesser, greater}
+use Rattle.aql_func.specs.Aggregates.{Aggregate, count, sum, min, max, sorted_unique, count_distinct, is_null, is_bad, is_number, exact_sum, best, lesser, greater}
 use Rattle.aql_aggregate.specs.declared.summing.RunningSum.{RunningSum}
 use Rattle.aql_aggregate.specs.declared.accumulator.Accumulator.{Accumulator}
 use Rattle.aql_aggregate.specs.declared.accumulator.Accumulator.TheVariants as code
@@ -18,7 +18,7 @@ Counts n ts = n ≡ cond (nat_lt (length ts) (2 ^ 63)) (Some (pos (length ts))) 
 pub record Sums (s : RunningSum) (ts : List Datum) : Type 0 where
   pub counted : Counts s.count ts
   pub marked : s.bad ≡ list_any is_bad ts
-  pub added : length ts < 2 ^ 63 → s.bad ≡ false → s.total ≡ exact_sum ts
+  pub added : length ts < 2 ^ 63 → s.total ≡ exact_sum (filter is_number ts)
   pub low : length ts < 2 ^ 63 → neg_ℤ (pos (2 ^ 63 * length ts)) ≤ℤ s.total
   pub high : length ts < 2 ^ 63 → s.total ≤ℤ pos (2 ^ 63 * length ts)
 

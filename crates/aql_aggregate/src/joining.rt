@@ -11,7 +11,7 @@ ghost use Rattle.aql_aggregate.specs.View.{aggregate_of};
 ghost use Rattle.aql_aggregate.specs.Joined.{Adds, CountsJoin, SumsJoin, Joins};
 
 use crate::elements::{add_elements, is_null};
-use crate::part_sums::{HALF, in_64_bits};
+use crate::summing::{HALF, in_64_bits};
 use crate::{Accumulator, AggregateKind};
 use aql_value::{OutOfMemory, Value, to_number, truthy};
 use std::alloc::Global;

@@ -11,7 +11,7 @@ ghost use Rattle.aql_aggregate.specs.Kept.{kind_of, Keeps};
 
 use crate::elements::{add_elements, at_most_one, element_count};
 use crate::part_counts::more;
-use crate::part_sums::PartSum;
+use crate::summing::RunningSum;
 use crate::{Accumulator, AggregateKind, count_value, none_counted, one_more};
 use aql_value::{OutOfMemory, Value};
 use std::alloc::Global;
@@ -21,7 +21,7 @@ use std::alloc::Global;
 #[derive(Drop)]
 pub enum PartAccumulator {
     Count(Option<i64>),
-    Sum(PartSum),
+    Sum(RunningSum),
     Min(Accumulator),
     Max(Accumulator),
     SortedUnique(Accumulator),
@@ -38,7 +38,7 @@ impl PartAccumulator {
         let distinct = AggregateKind::SortedUnique;
         match kind {
             AggregateKind::Count => PartAccumulator::Count(none_counted()),
-            AggregateKind::Sum => PartAccumulator::Sum(PartSum::new()),
+            AggregateKind::Sum => PartAccumulator::Sum(RunningSum::new()),
             AggregateKind::Min => PartAccumulator::Min(Accumulator::new(alloc, kind)),
             AggregateKind::Max => PartAccumulator::Max(Accumulator::new(alloc, kind)),
             AggregateKind::SortedUnique => {

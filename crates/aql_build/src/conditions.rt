@@ -4,26 +4,13 @@ ghost use Rattle.std.specs.Prelude.{◌≡◌, IfOk, map};
 ghost use Rattle.aql_tree.specs.View.{tree, links, link_part};
 ghost use Rattle.aql_plan.specs.Plan as spec;
 ghost use Rattle.aql_plan.specs.View.{plan_tree};
-ghost use Rattle.aql_plan.specs.FirstPlan.{all_and, right_sides, parts, filters};
+ghost use Rattle.aql_plan.specs.FirstPlan.{right_sides, parts, filters};
 
 use crate::clauses::{take, take_boxed};
-use aql_func::BinOp;
-use aql_plan::{Node, Plan};
-use aql_tree::{Expr, Link, Links};
+use aql_plan::{Node, Plan, is_all_and};
+use aql_tree::{Expr, Links};
 use aql_value::OutOfMemory;
 use std::alloc::Global;
-
-fn is_all_and(rest: &[Link]) -> bool
-    ensures { result ≡ all_and (links (map link_part rest.now)) }
-{
-    for link in rest {
-        match link.op {
-            BinOp::And => {}
-            _ => return false,
-        }
-    }
-    true
-}
 
 fn filter(cond: Expr, below: Plan, alloc: Global) -> Result<Plan, OutOfMemory>
     ensures { IfOk result

@@ -6,6 +6,7 @@ use Rattle.aql_block.specs.declared.tally.Tally.{Tally}
 use Rattle.aql_exec.specs.Rests.{Counts, Rest, with_rows, Ahead, Rises, EndsOwed, Ends}
 use Rattle.aql_exec.specs.Counting.{nothing}
 use Rattle.aql_exec.specs.Steps.{given, Led}
+use Rattle.aql_exec.proofs.Telling.{ahead_none}
 use Rattle.aql_engine.proofs.Loops.{Leads}
 
 -- ---- counts and families of rests
@@ -30,14 +31,8 @@ ahead_then s d e r q b i j = record {
   counts = λ c. (let m = i.counts c in let n = j.counts c in omega (arith, m, n));
 }
 
-pub ahead_none : (r : Rest) → Ahead [] nothing r r
-ahead_none r = record { rows = refl; counts = λ c. omega arith }
-
 pub rises_then : (t t' t'' : Tally) (d e : Counts) → Rises t t' d → Rises t' t'' e → Rises t t'' (plus d e)
 rises_then t t' t'' d e h i c = (let m = h c in let n = i c in (omega (arith, m, n), omega (arith, m, n)))
-
-pub rises_none : (t : Tally) → Rises t t nothing
-rises_none t c = (omega arith, omega arith)
 
 sums : (a b c k : ℕ) → a ≡ c → b ≡ k → a + b ≡ c + k
 sums a b c k e f = omega arith

@@ -16,6 +16,10 @@ pub held_after : (k : ℕ) (s rows left : List Row) → length s ≡ k
     → held_in true k rows (s ++ left) ≡ (s ++ rows) ++ left
 held_after k s rows left e = rw (← e) (seam s rows left)
 
+-- nothing is owed of an input
+pub none_owed : (s : List Row) (i' i : Rest) → length s ≡ 0 → i' ≡ with_rows s i → i' ≡ i
+none_owed s i' i l e = e ∙ ap (λ z. with_rows z i) (nil_from_length s l)
+
 -- with no row in front the input is the same
 pub same_rows : (s : List Row) (i' i : Rest) → length s ≡ 0 → i' ≡ with_rows s i → i'.rows ≡ i.rows
 same_rows s i' i l e = ap (λ (z : Rest). z.rows) e ∙ ap (λ z. z ++ i.rows) (nil_from_length s l)

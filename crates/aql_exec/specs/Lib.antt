@@ -11,5 +11,4 @@ pub mod Leaves
 pub mod RowMaps
 pub mod Filters
 pub mod FirstResults
-pub mod BlockRows
 pub mod laws

@@ -1,37 +1,18 @@
 //! The values of an expression at the rows of a block.
 
-ghost use Rattle.std.specs.Prelude.{◌≡◌, ℕ, List, None, IfOk, OnOk, take, drop};
+ghost use Rattle.std.specs.Prelude.{◌≡◌, IfOk, OnOk, take, drop};
 ghost use Rattle.aql_value.specs.View.{datums_in};
 ghost use Rattle.aql_tree.specs.View.{tree};
 ghost use Rattle.aql_meaning.specs.Plain.{IsPlain};
 ghost use Rattle.aql_meaning.specs.AtRows.{values_of};
-ghost use Rattle.aql_block.specs.Rows.{row_of};
 ghost use Rattle.aql_block.specs.Tables.{rows_of};
 
-use aql_block::{Block, RowRef};
-use aql_expr::{RowView, eval};
+use aql_block::Block;
+use aql_expr::eval;
 use aql_tree::Expr;
 use aql_value::{OutOfMemory, Value};
 use std::alloc::Global;
 use std::mem;
-
-// A row of a block, as expressions see it.
-#[derive(Drop)]
-struct BlockRow<'a> {
-    row: RowRef<'a>,
-}
-
-impl RowView for BlockRow<'_> {
-    ghost use Rattle.aql_exec.specs.BlockRows.{no_names};
-
-    ghost vars = { λ r. row_of r.row };
-
-    fn value(&self, var: u32) -> Option<&Value> {
-        self.row.value(var)
-    }
-
-    ghost numbered = { λ r name. no_names r.row name };
-}
 
 /// The value of the expression at each row, in order.
 pub fn values_in(alloc: Global, e: &Expr, block: &Block) -> Result<Vec<Value>, OutOfMemory>
@@ -42,7 +23,7 @@ pub fn values_in(alloc: Global, e: &Expr, block: &Block) -> Result<Vec<Value>, O
     let mut values = Vec::with_capacity(alloc, block.len() as usize)?;
     for at in 0..block.len() {
         if let Some(row) = block.row(at) {
-            let value = eval(alloc, e, &BlockRow { row })?;
+            let value = eval(alloc, e, &row)?;
             values.push(value)?;
         }
     }

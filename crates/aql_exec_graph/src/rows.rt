@@ -1,4 +1,4 @@
-//! Rows, as expressions see them.
+//! Rows that PRUNE and a filter judge.
 
 ghost use Rattle.std.specs.Prelude.{◌≡◌, None, Some, IfOk, map, filter, option_to_list, length, ◌∷◌, [], ◌<◌, ◌^◌};
 ghost use Rattle.aql_meaning.specs.Plain.{MaybePlain};
@@ -8,28 +8,10 @@ ghost use Rattle.aql_block.specs.Rows.{row_of};
 ghost use Rattle.aql_exec_graph.specs.Searches.{Judged};
 
 use aql_block::{Row, Tally};
-use aql_expr::{RowView, eval};
+use aql_expr::eval;
 use aql_tree::Expr;
-use aql_value::{OutOfMemory, Value, truthy};
+use aql_value::{OutOfMemory, truthy};
 use std::alloc::Global;
-
-// A row by itself.
-#[derive(Drop)]
-pub(crate) struct OwnRow<'a> {
-    pub(crate) row: &'a Row,
-}
-
-impl RowView for OwnRow<'_> {
-    ghost use Rattle.aql_exec.specs.BlockRows.{no_names};
-
-    ghost vars = { λ r. row_of r.row.now };
-
-    fn value(&self, var: u32) -> Option<&Value> {
-        self.row.value(var)
-    }
-
-    ghost numbered = { λ r name. no_names r.row.now name };
-}
 
 // Whether PRUNE stops a walk at a row; where there is none, it goes on.
 pub(crate) fn stops(alloc: Global, prune: &Option<Expr>, row: &Row) -> Result<bool, OutOfMemory>
@@ -39,7 +21,7 @@ pub(crate) fn stops(alloc: Global, prune: &Option<Expr>, row: &Row) -> Result<bo
     match prune {
         None => Ok(false),
         Some(prune) => {
-            let value = eval(alloc, prune, &OwnRow { row })?;
+            let value = eval(alloc, prune, row)?;
             Ok(truthy(&value))
         }
     }
@@ -53,7 +35,7 @@ fn passes(alloc: Global, filter: &Option<Expr>, row: &Row) -> Result<bool, OutOf
     match filter {
         None => Ok(true),
         Some(filter) => {
-            let value = eval(alloc, filter, &OwnRow { row })?;
+            let value = eval(alloc, filter, row)?;
             Ok(truthy(&value))
         }
     }

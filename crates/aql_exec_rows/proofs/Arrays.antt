@@ -1,5 +1,5 @@
 -- LET of a subquery: what an answer and a step of an input leave.
-use Rattle.std.proofs.Common.{◌≡◌, ◌∙◌, ℕ, zero, suc, ◌+◌, ◌-◌, ◌*◌, ◌<◌, ◌≤◌, ◌++◌, ◌⊎◌, inl, inr, List, [], ◌∷◌, length, drop, take, Bool, true, false, cond, refl, sym, ap, ap₂, min, subst, arith, append_assoc, length-drop}
+use Rattle.std.proofs.Common.{◌≡◌, ◌∙◌, ℕ, zero, suc, ◌+◌, ◌-◌, ◌*◌, ◌<◌, ◌≤◌, ◌++◌, List, [], ◌∷◌, length, drop, take, Bool, true, false, cond, refl, sym, ap, ap₂, min, subst, arith, append_assoc, length-drop}
 use Rattle.std.specs.Prelude.{map, slice_get, None}
 use Rattle.std.proofs.lemmas.List.{nil_from_length, drop_all, append-nil, map-append, length-take, take_min, drop_min, take-map, drop-map}
 use Rattle.aql_value.specs.Datum.{Datum}
@@ -13,27 +13,9 @@ use Rattle.aql_exec.specs.Rests.{Counter, Counts, Rest, with_rows, Ahead}
 use Rattle.aql_exec.specs.Steps.{Led, given}
 use Rattle.aql_exec.specs.Operators.{EachRow}
 use Rattle.aql_exec.specs.Counting.{nothing}
+use Rattle.aql_exec.proofs.Telling.{led_none}
+use Rattle.aql_exec.proofs.Handing.{none_owed}
 use Rattle.aql_exec_rows.specs.Subqueries.{Follow, Leaves, room_of}
-
--- the step tells of nothing
-led_none : {before after : Rest → Type 0} (step : Step) → step.skipped ≡ 0 → given step ≡ []
-    → ((r : Rest) → after r → before r) → Led before nothing step after
-led_none step s g k r h = ([], r, sym s, record { rows = rw g refl; counts = λ c. omega arith }, k r h)
-
-pub ahead_none : (r : Rest) → Ahead [] nothing r r
-ahead_none r = record { rows = refl; counts = λ c. omega arith }
-
--- a node with one port has no other port
-pub no_other : (port p : ℕ) → (port ≡ 0) ⊎ (port < 1) → (p ≡ port → ⊥) → (p ≡ 0) ⊎ (p < 1) → ⊥
-no_other port p a n b = n (only p b ∙ sym (only port a))
-  where
-    only : (port : ℕ) → (port ≡ 0) ⊎ (port < 1) → port ≡ 0
-    only port (inl e) = e
-    only port (inr h) = omega (arith, h)
-
--- nothing is owed of an input
-pub none_owed : (s : List Row) (i' i : Rest) → length s ≡ 0 → i' ≡ with_rows s i → i' ≡ i
-none_owed s i' i l e = e ∙ ap (λ z. with_rows z i) (nil_from_length s l)
 
 -- ---- values of rows
 

@@ -1,11 +1,11 @@
 -- What comes of the groups when all rows came: in ascending order of the criteria, they are what a COLLECT
 -- makes of the rows.
-use Rattle.std.proofs.Common.{◌≡◌, ℕ, zero, suc, ◌+◌, ◌<◌, List, [], ◌∷◌, ◌++◌, length, map, drop, reverse, get_or, Bool, true, false, cond, Option, Some, None, unwrap_or, refl, sym, ap, ap₂, ◌∙◌, subst, true≢false, append_assoc, arith}
+use Rattle.std.proofs.Common.{◌≡◌, ℕ, zero, suc, ◌+◌, List, [], ◌∷◌, ◌++◌, length, map, drop, reverse, get_or, Bool, true, false, cond, Option, Some, None, unwrap_or, refl, sym, ap, ap₂, ◌∙◌, subst, true≢false, append_assoc, arith}
 use Rattle.std.specs.Prelude.{slice_get, option_map, is_some, IsPermutation}
 use Rattle.std.specs.List.{All, AllZip}
 use Rattle.std.specs.List.Sorted.{IsSorted, IsSortedBy}
 use Rattle.std.specs.Ordering.{is_lt, on}
-use Rattle.std.proofs.lemmas.List.{length-map, get_or-map, map-append, reverse-append}
+use Rattle.std.proofs.lemmas.List.{map-append, reverse-append}
 use Rattle.std.proofs.lemmas.List.Elements.{All-cons, All-head, All-tail, All-nil}
 use Rattle.std.proofs.lemmas.List.Sorted.{IsPermutation-map, IsPermutation-refl, All-permutation}
 use Rattle.std.proofs.lemmas.Simd.{map-map}
@@ -38,6 +38,7 @@ use Rattle.aql_exec_rows.specs.declared.group.Group.{Group}
 use Rattle.aql_exec_rows.specs.declared.group.Finished.{Finished}
 use Rattle.aql_exec_rows.specs.declared.groups.Groups.{Groups}
 use Rattle.aql_exec_rows.specs.declared.frame.Frame.{Frame}
+use Rattle.aql_exec_rows.proofs.Keyings.{sorted_seen}
 
 -- ---- the keys in order
 
@@ -137,16 +138,6 @@ module _ (g : Grouping) (kinds : List StagedKind) (rows : List GroupedRow) (fram
       (listed_in_order keys (all_listed kinds g.into rows keys s.kept.items h.groups)))
 
 -- ---- sorting
-
-sorted_seen : {X Y : Type 0} (f : X → Y) (lt : Y → Y → Bool) (xs : List X)
-    → IsSortedBy (λ a b. lt (f a) (f b)) xs → IsSortedBy lt (map f xs)
-sorted_seen f lt [] up = λ k d low h. absurd (omega arith)
-sorted_seen f lt (x ∷ xs) up = λ k d low h.
-    let n = length-map (x ∷ xs) f in
-    let inside : k + 1 < length (x ∷ xs) = omega (arith, h, n) in
-    let inside' : k < length (x ∷ xs) = omega (arith, inside) in
-    ap₂ lt (get_or-map f (x ∷ xs) (k + 1) x d inside) (get_or-map f (x ∷ xs) k x d inside')
-    ∙ up k x low inside
 
 module _ (of : Datum → Result) (own : (key : Datum) → (of key).criteria ≡ key) where
   abbrev Comes : Finished → Type 0

@@ -9,8 +9,7 @@ use Rattle.aql_meaning.specs.Row.{Row}
 use Rattle.aql_meaning.specs.Clauses.{KeyedRow}
 use Rattle.aql_block.specs.Tables.{Table, rows_of}
 use Rattle.aql_block.specs.laws.BlockRows.{row_has_all, row_only}
-use Rattle.aql_block.specs.declared.tally.Tally.{Tally}
-use Rattle.aql_exec.specs.Rests.{Rest, Ahead, Rises}
+use Rattle.aql_exec.specs.Rests.{Rest, Ahead}
 use Rattle.aql_exec.specs.Counting.{nothing}
 use Rattle.aql_exec_rows.specs.declared.keyed.Keyed.{Keyed}
 use Rattle.aql_exec_rows.specs.declared.sort.Order.{Order}
@@ -103,6 +102,3 @@ pub both_on_ok : {A E P R : Type 0} {Q : A → Type 0} (r : Result A E) → OnOk
     → ((x : A) → P → Q x → R) → OnOk r R
 both_on_ok (Ok x) p q f = f x p q
 both_on_ok (Err e) p q f = tt
-
-pub rises_none : (t : Tally) → Rises t t nothing
-rises_none t c = (omega arith, omega arith)

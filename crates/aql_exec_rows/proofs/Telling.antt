@@ -11,7 +11,7 @@ use Rattle.aql_block.specs.declared.calls.Step.{Step}
 use Rattle.aql_exec.specs.Rests.{Counter, Counts, Rest, with_rows, Ahead}
 use Rattle.aql_exec.specs.Steps.{Led, given}
 use Rattle.aql_exec.specs.Counting.{nothing}
-use Rattle.aql_exec.proofs.Handing.{same_rows, same_counts}
+use Rattle.aql_exec.proofs.Handing.{same_rows, same_counts, none_owed}
 use Rattle.aql_exec.proofs.Telling.{led_none}
 use Rattle.aql_aggregate.specs.declared.staged.StagedKind.{StagedKind}
 use Rattle.aql_exec_rows.specs.Told.{AreKinds}
@@ -23,10 +23,6 @@ use Rattle.aql_exec_rows.specs.declared.group.Finished.{Finished}
 use Rattle.aql_exec_rows.specs.declared.groups.Groups.{Groups}
 use Rattle.aql_exec_rows.specs.declared.frame.Frame.{Frame}
 use Rattle.aql_exec_rows.proofs.Finishing.{all_collected}
-
--- nothing is owed of the input
-none_owed : (s : List Row) (i' i : Rest) → length s ≡ 0 → i' ≡ with_rows s i → i' ≡ i
-none_owed s i' i l e = e ∙ ap (λ z. with_rows z i) (nil_from_length s l)
 
 module _ (g : Grouping) (kinds : List StagedKind) (frame : Frame) where
   -- an answer that tells of nothing

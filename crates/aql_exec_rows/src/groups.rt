@@ -20,7 +20,6 @@ use crate::group::{Finished, Group, add_member};
 use crate::grouping::Grouping;
 use aql_aggregate::StagedKind;
 use aql_block::{Block, RowRef};
-use aql_expr::RowView;
 use aql_value::{Items, OutOfMemory, Value, cmp};
 use indexmap::IndexSet;
 use std::alloc::Global;
@@ -31,24 +30,6 @@ use std::alloc::Global;
 pub(crate) struct Groups {
     keys: IndexSet<Value>,
     kept: Vec<Group>,
-}
-
-// A row of a block, as expressions see it.
-#[derive(Drop)]
-struct BlockRow<'a> {
-    row: RowRef<'a>,
-}
-
-impl RowView for BlockRow<'_> {
-    ghost use Rattle.aql_exec.specs.BlockRows.{no_names};
-
-    ghost vars = { λ r. row_of r.row };
-
-    fn value(&self, var: u32) -> Option<&Value> {
-        self.row.value(var)
-    }
-
-    ghost numbered = { λ r name. no_names r.row name };
 }
 
 impl Groups {
@@ -101,7 +82,7 @@ impl Groups {
     {
         for at in 0..block.len() {
             if let Some(row) = block.row(at) {
-                self.add(alloc, grouping, kinds, &BlockRow { row })?;
+                self.add(alloc, grouping, kinds, &row)?;
             }
         }
         Ok(())
@@ -113,7 +94,7 @@ impl Groups {
         alloc: Global,
         grouping: &Grouping,
         kinds: &[StagedKind],
-        row: &BlockRow<'_>,
+        row: &RowRef<'_>,
     ) -> Result<(), OutOfMemory>
         requires plain { AllPlain (criteria_trees grouping.now.criteria) }
         requires known { AllKnown (aggregate_trees grouping.now.aggregates) }
@@ -123,7 +104,7 @@ impl Groups {
         ensures held { OnOk result ((rows : List GroupedRow)
             → Holds grouping.now kinds.now rows self.old
             → Holds grouping.now kinds.now
-            (rows ++ seen grouping.now (row_of row.now.row) ∷ []) self.new) }
+            (rows ++ seen grouping.now (row_of row.now) ∷ []) self.new) }
         ensures count { OnOk result (length self.new.kept.items ≤ length self.old.kept.items + 1) }
     {
         let arguments = grouping.arguments(alloc, row)?;

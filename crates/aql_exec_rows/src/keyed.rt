@@ -13,7 +13,7 @@ ghost use Rattle.aql_block.specs.Tables.{rows_of};
 ghost use Rattle.aql_exec_rows.specs.Keys.{with_keys, keyed_in, first_of};
 
 use aql_block::{Block, Row};
-use aql_expr::{RowView, eval};
+use aql_expr::eval;
 use aql_tree::Key;
 use aql_value::{OutOfMemory, Value, cmp};
 use std::alloc::Global;
@@ -35,24 +35,6 @@ impl Keyed {
     }
 }
 
-// A row by itself, as expressions see it.
-#[derive(Drop)]
-struct LoneRow<'a> {
-    row: &'a Row,
-}
-
-impl RowView for LoneRow<'_> {
-    ghost use Rattle.aql_exec.specs.BlockRows.{no_names};
-
-    ghost vars = { λ r. row_of r.row.now };
-
-    fn value(&self, var: u32) -> Option<&Value> {
-        self.row.value(var)
-    }
-
-    ghost numbered = { λ r name. no_names r.row.now name };
-}
-
 // The values of the keys at a row, in order.
 fn keys_at(alloc: Global, keys: &[Key], row: &Row) -> Result<Vec<Value>, OutOfMemory>
     requires { AllPlain (key_trees keys.now) }
@@ -61,7 +43,7 @@ fn keys_at(alloc: Global, keys: &[Key], row: &Row) -> Result<Vec<Value>, OutOfMe
 {
     let mut values = Vec::with_capacity(alloc, keys.len())?;
     for key in keys {
-        values.push(eval(alloc, &key.expr, &LoneRow { row })?)?;
+        values.push(eval(alloc, &key.expr, row)?)?;
     }
     Ok(values)
 }

@@ -1,4 +1,4 @@
-//! Rows of blocks, as expressions see them.
+//! Rows with one variable more, as expressions see them.
 
 ghost use Rattle.std.specs.Prelude.{◌≡◌, ℕ, List, None};
 ghost use Rattle.aql_value.specs.View.{datum_of};
@@ -10,24 +10,6 @@ use aql_block::RowRef;
 use aql_expr::RowView;
 use aql_value::Value;
 
-// A row of a block.
-#[derive(Drop)]
-pub(crate) struct BlockRow<'a> {
-    pub(crate) row: &'a RowRef<'a>,
-}
-
-impl RowView for BlockRow<'_> {
-    ghost use Rattle.aql_exec.specs.BlockRows.{no_names};
-
-    ghost vars = { λ r. row_of r.row.now };
-
-    fn value(&self, var: u32) -> Option<&Value> {
-        self.row.value(var)
-    }
-
-    ghost numbered = { λ r name. no_names r.row.now name };
-}
-
 // A row of a block with one more variable.
 #[derive(Drop)]
 pub(crate) struct LongerRow<'a> {
@@ -37,7 +19,7 @@ pub(crate) struct LongerRow<'a> {
 }
 
 impl RowView for LongerRow<'_> {
-    ghost use Rattle.aql_exec.specs.BlockRows.{no_names};
+    ghost use Rattle.aql_block.specs.laws.BlockRows.{no_names};
 
     ghost vars = { λ r. bind (Num r.var) (row_of r.row.now) (datum_of r.value.now) };
 

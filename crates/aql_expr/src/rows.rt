@@ -4,7 +4,9 @@ ghost use Rattle.aql_value.specs.Datum.{null};
 ghost use Rattle.aql_value.specs.View.{datum_of};
 ghost use Rattle.aql_tree.specs.declared.syntax.Ident.TheVariants.{Name, Num};
 ghost use Rattle.aql_meaning.specs.Row.{Row, value_at};
+ghost use Rattle.aql_block.specs.Rows.{row_of};
 
+use aql_block::RowRef;
 use aql_tree::Ident;
 use aql_value::{OutOfMemory, Value, copy};
 use std::alloc::Global;
@@ -21,6 +23,30 @@ pub trait RowView {
 
     /// No variable goes by a name.
     ghost numbered: { (row : Self) (name : List ℕ) → vars row (Name name) ≡ None };
+}
+
+impl RowView for aql_block::Row {
+    ghost use Rattle.aql_block.specs.laws.BlockRows.{no_names};
+
+    ghost vars = { λ r. row_of r };
+
+    fn value(&self, var: u32) -> Option<&Value> {
+        self.value(var)
+    }
+
+    ghost numbered = { λ r name. no_names r name };
+}
+
+impl RowView for RowRef<'_> {
+    ghost use Rattle.aql_block.specs.laws.BlockRows.{no_names};
+
+    ghost vars = { λ r. row_of r };
+
+    fn value(&self, var: u32) -> Option<&Value> {
+        self.value(var)
+    }
+
+    ghost numbered = { λ r name. no_names r name };
 }
 
 // The value of a variable, and `missing`, which is null, where the row has no such variable.

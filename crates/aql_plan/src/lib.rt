@@ -2,6 +2,7 @@
 //! collections when a query is planned.
 #![tactic(auto)]
 
+mod conditions;
 mod facts;
 mod node_uses;
 mod nodes;
@@ -12,7 +13,8 @@ mod variables;
 pub mod worked;
 
 pub use aql_meaning::{Edge, Last, Stage, TraversalOptions};
-pub use facts::{CollFact, CollFacts, Facts, IndexFact, IndexFacts, IndexKind, Widths};
+pub use conditions::is_all_and;
+pub use facts::{CollFact, CollFacts, Facts, IndexFact, IndexFacts, IndexKind, Widths, index_of};
 pub use node_uses::add_own_uses;
 pub use plan::{Node, Passed, Plan, Plans};
 pub use rules::{RuleName, RuleNames};

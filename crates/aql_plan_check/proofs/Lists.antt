@@ -7,7 +7,7 @@ use Rattle.aql_tree.specs.Tree.{ExprTree, AggregateTrees, no_aggregates, aggrega
 use Rattle.aql_tree.specs.View.{AggregatePart, aggregates as aggregate_trees, aggregate_part}
 use Rattle.aql_tree.specs.declared.syntax.AggregateItem.{AggregateItem}
 use Rattle.aql_plan_check.specs.Sameness.{AggregatesSame, AreAttributes}
-use Rattle.aql_plan_check.proofs.ShapeTests.{left}
+use Rattle.aql_plan_check.proofs.Tests.{left}
 
 -- how many aggregates there are
 aggregates_in : AggregateTrees → ℕ

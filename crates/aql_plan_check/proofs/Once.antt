@@ -1,18 +1,15 @@
 -- Collections that are named once each.
-use Rattle.std.proofs.Common.{◌≡◌, ◌∙◌, ℕ, List, [], ◌∷◌, map, length, Bool, true, false, true≢false, eqb, refl, ap, sym, subst}
+use Rattle.std.proofs.Common.{◌≡◌, ◌∙◌, ℕ, List, [], ◌∷◌, map, length, true, false, true≢false, eqb, refl, ap, sym, subst}
 use Rattle.std.specs.Prelude.{◌||◌, ◌↔◌}
 use Rattle.std.specs.List.{list_any, AllByRecursion, IsDistinct}
 use Rattle.std.proofs.lemmas.List.{nil_from_length}
+use Rattle.std.proofs.lemmas.Bool.{or_parts}
 use Rattle.aql_value.specs.declared.lists.CollNo.{CollNo}
-
-neither : (a b : Bool) → a || b ≡ false → (a ≡ false) × (b ≡ false)
-neither true b h = absurd (true≢false h)
-neither false b h = (refl, h)
 
 all_others : (n : ℕ) (ns : List ℕ) → list_any (eqb n) ns ≡ false → AllByRecursion (λ m. eqb n m ≡ false) ns
 all_others n [] h = tt
 all_others n (m ∷ ms) h =
-    let k = neither (eqb n m) (list_any (eqb n) ms) h in (k.0, all_others n ms k.1)
+    let k = or_parts (eqb n m) (list_any (eqb n) ms) h in (k.0, all_others n ms k.1)
 
 not_among : (n : ℕ) (ns : List ℕ) → AllByRecursion (λ m. eqb n m ≡ false) ns → list_any (eqb n) ns ≡ false
 not_among n [] h = refl

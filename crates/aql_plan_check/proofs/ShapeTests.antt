@@ -1,12 +1,6 @@
 -- Tests of a list, one after another.
-use Rattle.std.proofs.Common.{◌≡◌, ◌∙◌, ap, sym, ℕ, ◌<◌, ◌+◌, List, ◌∷◌, length, get_or, drop, Bool, false, true≢false}
+use Rattle.std.proofs.Common.{◌≡◌, ◌∙◌, sym, Bool, false, true≢false}
 use Rattle.std.specs.Prelude.{◌↔◌, IsTrue}
-use Rattle.std.proofs.lemmas.List.{drop_more}
-
--- what is left of a list, from one place on
-pub left : {X : Type 0} (xs : List X) (i : ℕ) (x : X) → i < length xs → x ≡ get_or xs i x
-    → drop i xs ≡ x ∷ drop (i + 1) xs
-left xs i x h e = drop_more xs i x h ∙ ap (λ y. y ∷ drop (i + 1) xs) (sym e)
 
 -- a loop over a list: the first part holds, or doesn't
 pub next : {A B W : Type 0} → (A × B) ↔ W → A → B ↔ W

@@ -1,8 +1,9 @@
 -- What is found form by form is what is found of the list of uses.
-use Rattle.std.proofs.Common.{◌≡◌, ◌∙◌, ap, sym, refl, List, [], ◌∷◌, ◌++◌, Bool, true, false}
+use Rattle.std.proofs.Common.{◌≡◌, ◌∙◌, ap, sym, refl, List, [], ◌∷◌, ◌++◌, Bool, true}
 use Rattle.std.specs.Prelude.{◌&&◌, ◌↔◌, Option, Some, None}
 use Rattle.std.specs.List.{list_any}
 use Rattle.std.proofs.lemmas.Bool.{and_parts, and_from}
+use Rattle.std.proofs.Math.Bool.{and_assoc}
 use Rattle.aql_tree.specs.declared.syntax.Ident.{Ident}
 use Rattle.aql_tree.specs.Tree.{ExprTree, literal, variable, current, array_literal, object_literal, access, function_call, unary_of, chain, array_comparison, ternary, range_of, subquery, ExprTrees, no_exprs, expr_then, MaybeExpr, no_expr, one_expr, MemberTrees, no_members, named_then, computed_then, StepTrees, no_steps, name_then, at_then, inline_then, LinkTrees, no_links, link_then, AggregateTrees, no_aggregates, aggregate_then, IntoTree, no_into, into}
 use Rattle.aql_meaning.specs.Row.{same_ident}
@@ -15,15 +16,11 @@ use Rattle.aql_plan.specs.Needs.{end_uses, last_uses, as_wholes}
 use Rattle.aql_plan.specs.Variables.{are_among, input_uses, filter_uses}
 use Rattle.aql_plan_check.specs.Findings.{IsAmong, Finds, AllFind, MaybeFinds, MembersFind, StepsFind, LinksFind, AggregatesFind, IntoFinds, EndFinds, LastFinds, AreAmong, InputFinds, FilterFinds}
 
-and_grouped : (a b c : Bool) → ((a && b) && c) ≡ (a && (b && c))
-and_grouped true b c = refl
-and_grouped false b c = refl
-
 module _ (xs : List Ident) where
   among_append : (us vs : Uses) → are_among (us ++ vs) xs ≡ (are_among us xs && are_among vs xs)
   among_append [] vs = refl
   among_append (u ∷ us) vs = ap (λ b. list_any (same_ident (used_variable u)) xs && b) (among_append us vs)
-      ∙ sym (and_grouped (list_any (same_ident (used_variable u)) xs) (are_among us xs) (are_among vs xs))
+      ∙ sym (and_assoc (list_any (same_ident (used_variable u)) xs) (are_among us xs) (are_among vs xs))
 
   nothing : Unit {0} ↔ (are_among [] xs ≡ true)
   nothing = ((λ h. refl), (λ h. tt))

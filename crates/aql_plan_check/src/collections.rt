@@ -1,14 +1,14 @@
 //! What is known of the collections.
 
-ghost use Rattle.std.specs.Prelude.{◌≡◌, ◌+◌, ◌↔◌, IsTrue, length, map, eqb, slice_get, option_copied};
+ghost use Rattle.std.specs.Prelude.{◌≡◌, ◌+◌, ◌↔◌, IsTrue, length, map, eqb};
 ghost use Rattle.std.specs.List.{list_any, AllByRecursion, IsDistinct};
 ghost use Rattle.aql_plan.specs.declared.facts.CollFact.{CollFact};
 ghost use Rattle.aql_plan.specs.declared.facts.IndexFact.{IndexFact};
-ghost use Rattle.aql_plan.specs.Facts.{keys_in, indexes_in, attributes_in};
+ghost use Rattle.aql_plan.specs.Facts.{keys_in, attributes_in};
 ghost use Rattle.aql_plan.specs.Fits.{IsShard, IsEdgeCollection};
 ghost use Rattle.aql_plan.specs.WellFormed.{CollectionFits};
 
-use aql_plan::{CollFact, Facts, IndexFact};
+use aql_plan::{CollFact, Facts, IndexFact, index_of};
 use aql_value::{CollNo, Text};
 
 fn widths_fit(indexes: &[IndexFact]) -> bool
@@ -107,17 +107,6 @@ pub(crate) fn key_count(facts: &Facts, coll: CollNo) -> usize
         Some(known) => known.keys.len(),
         None => 0,
     }
-}
-
-/// An index of a collection, if there is one of this number.
-pub(crate) fn index_of(facts: &Facts, coll: CollNo, index: u32) -> Option<&IndexFact>
-    ensures { option_copied result ≡ slice_get (indexes_in facts.now coll.0) index }
-{
-    facts
-        .collections
-        .get(coll.0 as usize)?
-        .indexes
-        .get(index as usize)
 }
 
 /// The attributes of an index of a collection.

@@ -12,9 +12,9 @@ ghost use Rattle.aql_plan.specs.View.{node_tree, plan_tree};
 
 use crate::aggregates::{all_known, into_plain};
 use crate::bounds::{index_fits, last_plain};
-use crate::collections::{are_distinct, are_edge_collections, index_of, is_shard, key_count};
+use crate::collections::{are_distinct, are_edge_collections, is_shard, key_count};
 use crate::plain::{all_plain, is_plain, keys_plain, lets_plain, maybe_plain};
-use aql_plan::{Facts, IndexFact, Last, Node, Plan};
+use aql_plan::{Facts, IndexFact, Last, Node, Plan, index_of};
 use aql_tree::Expr;
 use aql_value::{CollNo, Names};
 

@@ -1,12 +1,11 @@
 //! Where at most five attributes of a document are looked at, only these are kept of it.
 
 ghost use Rattle.std.specs.Prelude.{◌≡◌, ◌≤◌, ◌↔◌, ◌++◌, ◌∷◌, [], IfOk, OnOk, IsTrue, MatchOption};
-ghost use Rattle.std.specs.Prelude.{Some, None, map, length, slice_get, option_copied};
+ghost use Rattle.std.specs.Prelude.{Some, None, map, length};
 ghost use Rattle.aql_tree.specs.declared.syntax.Ident.{Ident as spec_Ident};
 ghost use Rattle.aql_tree.specs.declared.syntax.Ident.TheVariants.{Num};
 ghost use Rattle.aql_meaning.specs.Row.{same_ident};
 ghost use Rattle.aql_meaning.specs.Uses.{Part};
-ghost use Rattle.aql_plan.specs.Facts.{indexes_in};
 ghost use Rattle.aql_plan.specs.Plan.{top};
 ghost use Rattle.aql_plan.specs.View.{node_tree, plan_tree};
 ghost use Rattle.aql_plan.specs.Used.{use_tree, uses_tree};
@@ -17,7 +16,7 @@ ghost use Rattle.aql_rules_calc.specs.Projections.{read_whole as spec_read_whole
 ghost use Rattle.aql_rules_calc.specs.Projections.{AreKept, order_of as spec_order_of};
 ghost use Rattle.aql_rules_calc.specs.ReduceExtractionToProjection.{with_name, Reduces};
 
-use aql_plan::{Facts, IndexFact, Node, Plan, Use, Uses};
+use aql_plan::{Facts, Node, Plan, Use, Uses, index_of};
 use aql_rewrite::{ChangingRule, Rule, Swap};
 use aql_tree::Ident;
 use aql_value::{CollNo, Names, OutOfMemory, Seq, Text};
@@ -160,17 +159,6 @@ fn kept_names(
         return Ok(None);
     }
     Ok(Some(names))
-}
-
-// An index of a collection, if there is one of this number.
-fn index_of(facts: &Facts, coll: CollNo, index: u32) -> Option<&IndexFact>
-    ensures { option_copied result ≡ slice_get (indexes_in facts.now coll.0) index }
-{
-    facts
-        .collections
-        .get(coll.0 as usize)?
-        .indexes
-        .get(index as usize)
 }
 
 // The attributes of an index, if it is ordered.

@@ -4,11 +4,12 @@ ghost use Rattle.std.specs.Prelude.{◌≡◌, ◌++◌, Some, None, OnOk, Match
 ghost use Rattle.aql_value.specs.View.{datum_of};
 ghost use Rattle.aql_tree.specs.Tree.{no_expr, one_expr};
 ghost use Rattle.aql_tree.specs.View.{tree, maybe, links, link_part};
-ghost use Rattle.aql_plan.specs.FirstPlan.{all_and, right_sides, parts};
+ghost use Rattle.aql_plan.specs.FirstPlan.{right_sides, parts};
 ghost use Rattle.aql_rules_filter.specs.Conditions.{joined};
 ghost use Rattle.aql_rules_filter.specs.Readers.{literal_in as spec_literal_in, and_link};
 
 use aql_func::BinOp;
+use aql_plan::is_all_and;
 use aql_tree::{Expr, Link, Links};
 use aql_value::{OutOfMemory, Seq, Value};
 use std::alloc::Global;
@@ -23,18 +24,6 @@ pub(crate) fn literal_in(expr: &Expr) -> Option<&Value>
         Expr::Lit(value) => Some(value),
         _ => None,
     }
-}
-
-fn is_all_and(rest: &[Link]) -> bool
-    ensures { result ≡ all_and (links (map link_part rest.now)) }
-{
-    for link in rest {
-        match link.op {
-            BinOp::And => {}
-            _ => return false,
-        }
-    }
-    true
 }
 
 // Moves the right sides of links to the end of an `&&` chain.

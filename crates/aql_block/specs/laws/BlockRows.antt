@@ -1,10 +1,10 @@
--- The rows of a block have its registers and no other variables.
+-- The rows of a block have its registers and no other variables, and none that goes by a name.
 use Rattle.std.proofs.Common.{◌≡◌, ◌∙◌, ℕ, zero, suc, List, [], ◌∷◌, refl, ap, sym, subst}
-use Rattle.std.specs.Prelude.{Option, Some, is_some, slice_get, map}
+use Rattle.std.specs.Prelude.{Option, Some, None, is_some, slice_get, map}
 use Rattle.aql_value.specs.Datum.{Datum}
-use Rattle.aql_tree.specs.declared.syntax.Ident.TheVariants.{Num}
+use Rattle.aql_tree.specs.declared.syntax.Ident.TheVariants.{Name, Num}
 use Rattle.aql_meaning.specs.Row.{Row, bind}
-use Rattle.aql_block.specs.Rows.{row_of, HasAll, only}
+use Rattle.aql_block.specs.Rows.{Entries, row_of, HasAll, only}
 use Rattle.aql_block.specs.Tables.{Table, cells, rows_of}
 use Rattle.aql_block.specs.laws.Registers.{bind_self, has_all_bind, has_all_cells, only_bind, only_cells}
 
@@ -38,3 +38,8 @@ pub extended_only : (t : Table) (at : ℕ) (r : Row) (x : ℕ) (v : Datum)
     → slice_get (rows_of t) at ≡ Some r → only (x ∷ t.registers) (bind (Num x) r v) ≡ bind (Num x) r v
 extended_only t at r x v e =
     only_bind x t.registers r v ∙ ap (λ (s : Row). bind (Num x) s v) (row_only t at r e)
+
+-- no variable of a row goes by a name
+pub no_names : (es : Entries) (name : List ℕ) → row_of es (Name name) ≡ None
+no_names [] name = refl
+no_names (e ∷ es) name = no_names es name

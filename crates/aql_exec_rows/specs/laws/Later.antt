@@ -18,6 +18,7 @@ use Rattle.aql_aggregate.specs.declared.accumulator.Accumulator.TheVariants as c
 use Rattle.aql_aggregate.specs.declared.summing.RunningSum.{RunningSum}
 use Rattle.aql_aggregate.specs.States.{Counts, Sums, Keeps, better_if}
 use Rattle.aql_aggregate.proofs.Best.{least_more, greatest_more}
+use Rattle.aql_aggregate.proofs.Totals.{numbers_alone}
 
 -- what grows by one member at a time is the same of two lists, where it was the same before
 module _ {X : Type 0} (f : List Datum → X) (g : X → Datum → X)
@@ -113,7 +114,8 @@ same_sum s ts ts' us h h' = by (alike s.count ts ts' h.counted h'.counted)
         none_summed ts us l ∙ sym (none_summed ts' us (omega (arith, l, e)))
     short e false p true q =
         let l : length ts < 2 ^ 63 = grind (arith, q) in
-        let z : exact_sum ts ≡ exact_sum ts' = sym (h.added l p) ∙ h'.added (omega (arith, l, e)) p in
+        let z : exact_sum ts ≡ exact_sum ts' = sym (numbers_alone ts (sym h.marked ∙ p)) ∙ sym (h.added l)
+        ∙ h'.added (omega (arith, l, e)) ∙ numbers_alone ts' (sym h'.marked ∙ p) in
         let counts = same_count s.count ts ts' us h.counted h'.counted in
         let bad = same_grown (list_any is_bad) (λ b t. b || is_bad t) bad_push us ts ts'
         (sym h.marked ∙ h'.marked) in

@@ -15,13 +15,13 @@ use Rattle.aql_meaning.specs.declared.grouping.Stage.{Stage}
 use Rattle.aql_meaning.specs.declared.grouping.Stage.TheVariants as stage
 use Rattle.aql_aggregate.specs.declared.accumulator.Accumulator.{Accumulator}
 use Rattle.aql_aggregate.specs.declared.accumulator.Accumulator.TheVariants as members
-use Rattle.aql_aggregate.specs.States.{Keeps}
+use Rattle.aql_aggregate.specs.States.{Sums, Keeps}
 use Rattle.aql_aggregate.proofs.Counts.{total, total_append}
 use Rattle.aql_aggregate.proofs.Totals.{any_append}
 use Rattle.aql_aggregate.proofs.Members.{distinct_alike, in_distinct}
 use Rattle.aql_aggregate.specs.declared.staged_accumulator.PartAccumulator.{PartAccumulator}
 use Rattle.aql_aggregate.specs.declared.staged_accumulator.PartAccumulator.TheVariants as part
-use Rattle.aql_aggregate.specs.declared.part_sums.PartSum.{PartSum}
+use Rattle.aql_aggregate.specs.declared.summing.RunningSum.{RunningSum}
 use Rattle.aql_aggregate.specs.declared.joining.JoinedCounts.{JoinedCounts}
 use Rattle.aql_aggregate.specs.declared.joining.JoinedSums.{JoinedSums}
 use Rattle.aql_aggregate.specs.declared.joining.StateAccumulator.{StateAccumulator}
@@ -95,7 +95,7 @@ formed size bad n = let z = cond (is_null size) (pos 0) n in
     list (size ∷ boolean bad ∷ number (int_div_euclid z (pos (2 ^ 63)))
     ∷ number (int_rem_euclid z (pos (2 ^ 63))) ∷ [])
 
-sum_later : (s : PartSum) (ts ts' us : List Datum) → parts.Sums s ts → parts.Sums s ts'
+sum_later : (s : RunningSum) (ts ts' us : List Datum) → Sums s ts → Sums s ts'
     → sum_state (ts ++ us) ≡ sum_state (ts' ++ us)
 sum_later s ts ts' us h h' = by (alike s.count ts ts' h.counted h'.counted)
   where

@@ -3,6 +3,7 @@ use Rattle.std.proofs.Common.{◌≡◌, ℕ, suc, List, [], ◌∷◌, length, 
 use Rattle.std.specs.Prelude.{option_map, is_some, unwrap_or}
 use Rattle.std.specs.Ordering.{is_eq}
 use Rattle.std.proofs.lemmas.Cmp.{tied_itself}
+use Rattle.std.proofs.Math.Bool.{or-false}
 use Rattle.aql_value.specs.Datum.{Datum, null}
 use Rattle.aql_value.specs.Parts.{list, same, is_in}
 use Rattle.aql_value.specs.laws.Strict.{compare_total}
@@ -24,10 +25,6 @@ use Rattle.aql_exec_rows.specs.declared.grouping.Grouping.{Grouping}
 pub same_self : (t : Datum) → same t t ≡ true
 same_self t = ap is_eq (tied_itself compare_total t)
 
-pub or_false : (b : Bool) → b || false ≡ b
-or_false true = refl
-or_false false = refl
-
 pub either_false : (b d : Bool) → b || d ≡ false → (b ≡ false) × (d ≡ false)
 either_false true d e = absurd (true≢false e)
 either_false false d e = (refl, e)
@@ -42,7 +39,7 @@ no_members key (row ∷ rows) h =
 
 pub new_key : (ls : List Let) (rows : List GroupedRow) (key : Datum) → (ls ≡ [] → key ≡ list [])
     → is_in (keys_seen (criteria_vars ls) rows) key ≡ false → members_of key rows ≡ []
-new_key [] rows key e h = absurd (true≢false (sym (or_false (same (list []) (list [])) ∙ same_self (list []))
+new_key [] rows key e h = absurd (true≢false (sym (or-false (same (list []) (list [])) ∙ same_self (list []))
     ∙ sym (ap (λ k. is_in (list [] ∷ []) k) (e refl)) ∙ h))
 new_key (l ∷ ls) rows key e h = no_members key rows (sym (in_firsts (map key_of rows) key) ∙ h)
 

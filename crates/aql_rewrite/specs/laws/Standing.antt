@@ -1,13 +1,13 @@
 -- A part that refines another one does so below a node, wherever both stand, and as a body; a renaming goes
 -- on through the nodes above.
-use Rattle.std.proofs.Common.{◌≡◌, ◌∙◌, ℕ, suc, ◌+◌, ◌≤◌, List, [], ◌∷◌, ◌++◌, Bool, true, false, true≢false, cond, refl, ap, sym, subst, arith}
-use Rattle.std.specs.Prelude.{Option, Some, None, option_to_list, ◌||◌}
+use Rattle.std.proofs.Common.{◌≡◌, ℕ, suc, ◌+◌, ◌≤◌, List, [], ◌∷◌, ◌++◌, Bool, true, false, true≢false, cond, refl, arith}
+use Rattle.std.specs.Prelude.{Option, Some, None, option_to_list}
 use Rattle.std.specs.List.{list_any, AllByRecursion}
 use Rattle.aql_tree.specs.declared.syntax.Ident.{Ident}
 use Rattle.aql_tree.specs.declared.syntax.Ident.TheVariants.{Num}
 use Rattle.aql_meaning.specs.Row.{same_ident}
 use Rattle.aql_meaning.specs.Numbered.{IsNumber}
-use Rattle.aql_meaning.specs.Uses.{Uses, used_variable, is_used}
+use Rattle.aql_meaning.specs.Uses.{Uses}
 use Rattle.aql_meaning.specs.Visible.{aggregate_vars, into_var}
 use Rattle.aql_meaning.specs.declared.grouping.Stage.TheVariants as stage
 use Rattle.aql_plan.specs.declared.facts.Facts.{Facts}
@@ -16,18 +16,18 @@ use Rattle.aql_plan.specs.Needs.{sets, under, result_uses}
 use Rattle.aql_plan.specs.Above.{input_inside}
 use Rattle.aql_plan.specs.Refines.{Refines}
 use Rattle.aql_plan.specs.Shapes.{HasNoFragment, IsNoFragment}
-use Rattle.aql_plan.specs.Variables.{vars_of, are_among, vars_set, set_once, count}
+use Rattle.aql_plan.specs.Variables.{vars_of, vars_set, set_once, count}
 use Rattle.aql_plan.specs.Renaming.{PlanSets, NodeSets, IsOther, RefinesRenamed, IsGoneAfter}
 use Rattle.aql_plan_laws.specs.laws.Among.{count_append, none_in, counted_has}
 use Rattle.aql_plan_laws.specs.laws.Congruence.{refines_answers, refines_body, Stands, stands_below}
-use Rattle.aql_plan_laws.specs.laws.Idents.{same_is, same_swapped}
+use Rattle.aql_plan_laws.specs.laws.Idents.{same_swapped}
 use Rattle.aql_plan_laws.specs.laws.RenamedAbove.{renamed_below, renamed_answers}
 use Rattle.aql_plan_laws.specs.laws.RenamedPlaces.{number_is_no_result}
 use Rattle.aql_plan_laws.specs.laws.SetsHave.{node_sets}
 use Rattle.aql_rewrite.specs.declared.swap.Rename.{Rename}
 use Rattle.aql_rewrite.specs.Places.{renamed_by}
 use Rattle.aql_rewrite.specs.Placed.{Placed}
-use Rattle.aql_rewrite.specs.laws.Among.{has, both}
+use Rattle.aql_rewrite.specs.laws.Unused.{unused_from}
 
 -- ---- variables that a node does not set
 
@@ -45,21 +45,6 @@ module _ (x y : Ident) where
       let a = one_less (same_ident x z) (count x zs) h in
       let b = one_less (same_ident y z) (count y zs) k in
       (other z a.0 b.0, all_other zs a.1 b.1)
-
-not_same : (x z : Ident) (zs : List Ident) → has x zs ≡ false → has z zs ≡ true → same_ident x z ≡ false
-not_same x z zs h k = by (same_ident x z) refl
-  where
-    by : (t : Bool) → same_ident x z ≡ t → t ≡ false
-    by false e = refl
-    by true e = absurd (true≢false
-        (sym (subst (λ (s : Ident). has s zs ≡ true) (sym (same_is x z e)) k) ∙ h))
-
-unused_from : (x : Ident) (us : Uses) (zs : List Ident) → has x zs ≡ false → are_among us zs ≡ true
-    → is_used x us ≡ false
-unused_from x [] zs h k = refl
-unused_from x (u ∷ us) zs h k =
-    let l = both (has (used_variable u) zs) (are_among us zs) k in
-    ap (λ (b : Bool). b || is_used x us) (not_same x (used_variable u) zs h l.0) ∙ unused_from x us zs h l.1
 
 -- ---- a renaming above a part
 

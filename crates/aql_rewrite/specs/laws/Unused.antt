@@ -1,6 +1,7 @@
 -- A variable that is not used may be set anew, and may go; one that is not there is not used.
 use Rattle.std.proofs.Common.{◌≡◌, ◌∙◌, List, [], ◌∷◌, Bool, true, false, true≢false, cond, refl, ap, sym, subst}
 use Rattle.std.specs.Prelude.{Option, Some, None, ◌||◌, unwrap_or}
+use Rattle.std.proofs.lemmas.Bool.{or_parts}
 use Rattle.aql_value.specs.Datum.{Datum, null}
 use Rattle.aql_value.specs.Parts.{at_name}
 use Rattle.aql_tree.specs.declared.syntax.Ident.{Ident}
@@ -10,10 +11,6 @@ use Rattle.aql_plan.specs.Variables.{are_among}
 use Rattle.aql_plan_laws.specs.laws.Idents.{same_is}
 use Rattle.aql_rewrite.specs.Swaps.{Kept}
 use Rattle.aql_rewrite.specs.laws.Among.{has, both}
-
-pub neither : (a b : Bool) → (a || b) ≡ false → (a ≡ false) × (b ≡ false)
-neither true b h = absurd (true≢false h)
-neither false b h = (refl, h)
 
 other_value : {X : Type 0} (b : Bool) (f : Option Datum → X) (v : Datum) (o : Option Datum) → b ≡ false
     → f o ≡ f (cond b (Some v) o)
@@ -30,7 +27,7 @@ pub agree_unused : (us : Uses) (x : Ident) (row : Row) (v : Datum) → is_used x
     → Agree us row (bind x row v)
 agree_unused [] x row v h = tt
 agree_unused (u ∷ us) x row v h =
-    let k = neither (same_ident x (used_variable u)) (is_used x us) h in
+    let k = or_parts (same_ident x (used_variable u)) (is_used x us) h in
     (agree_at u x row v k.0, agree_unused us x row v k.1)
 
 -- one that is used is another one

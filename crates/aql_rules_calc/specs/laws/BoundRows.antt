@@ -4,6 +4,7 @@ use Rattle.std.proofs.Common.{◌≡◌, ◌∙◌, ℕ, List, [], ◌∷◌, �
 use mathlib.Core.Path.{fun_ext}
 use Rattle.std.specs.Prelude.{Option, Some, None, ◌||◌, filter, option_to_list}
 use Rattle.std.specs.List.{AllZip, AllByRecursion}
+use Rattle.std.proofs.lemmas.Bool.{or_parts}
 use Rattle.aql_value.specs.Datum.{Datum, null, boolean}
 use Rattle.aql_value.specs.Truth.{truth}
 use Rattle.aql_value.specs.Parts.{elements}
@@ -30,7 +31,7 @@ use Rattle.aql_plan_laws.specs.laws.Lists.{map_equal, filter_related}
 use Rattle.aql_plan_laws.specs.laws.NodesAlike.{first_related}
 use Rattle.aql_plan_laws.specs.laws.SortsAlike.{sorted_alike}
 use Rattle.aql_rules_calc.specs.MoveCalculationsUp.{enumerates_or_sorts}
-use Rattle.aql_rewrite.specs.laws.Unused.{neither, agree_unused}
+use Rattle.aql_rewrite.specs.laws.Unused.{agree_unused}
 
 -- g is the row with x, which has one of the values that V allows at the row
 abbrev pub Bound : Ident → (Row → Datum → Type 0) → Row → Row → Type 0
@@ -125,7 +126,7 @@ module _ (x : Ident) (V : Row → Datum → Type 0) where
       → (is_used x us ≡ false) × (is_used x vs ≡ false)
   unused_parts [] vs h = (refl, h)
   unused_parts (u ∷ us) vs h =
-      let k = neither (same_ident x (used_variable u)) (is_used x (us ++ vs)) h in
+      let k = or_parts (same_ident x (used_variable u)) (is_used x (us ++ vs)) h in
       let l = unused_parts us vs k.1 in
       (ap (λ (b : Bool). b || is_used x us) k.0 ∙ l.0, l.1)
 

@@ -2,7 +2,7 @@
 use Rattle.std.proofs.Common.{◌≡◌, ◌∙◌, ℕ, ◌+◌, ◌<◌, ◌≤◌, List, [], ◌∷◌, ◌++◌, map, append-nil, Bool, true, false, true≢false, refl, ap, ap₂, sym, subst, subst₂, arith}
 use Rattle.std.specs.Prelude.{Option, None, ◌||◌, not}
 use Rattle.std.specs.List.{AllZip, AllByRecursion}
-use Rattle.std.proofs.lemmas.Bool.{or_right, and_parts, not-true}
+use Rattle.std.proofs.lemmas.Bool.{or_right, and_parts, not-true, or_parts}
 use Rattle.std.proofs.lemmas.List.Folds.{list_any-append}
 use Rattle.aql_value.specs.Datum.{Datum, null}
 use Rattle.aql_value.specs.Parts.{list}
@@ -39,7 +39,7 @@ use Rattle.aql_rules_calc.specs.MoveCalculationsUp.{enumerates, enumerates_or_so
 use Rattle.aql_rules_calc.specs.Measures.{others_below, height}
 use Rattle.aql_rewrite.specs.laws.Apart.{counts_itself, not_there}
 use Rattle.aql_rules_calc.specs.laws.BoundRows.{Bound, IsFree, gives_bound}
-use Rattle.aql_rewrite.specs.laws.Unused.{neither, agree_unused, used_other, unused_from}
+use Rattle.aql_rewrite.specs.laws.Unused.{agree_unused, used_other, unused_from}
 
 -- ---- the values of the upper node do not depend on what the lower one sets
 
@@ -74,7 +74,7 @@ all_free : (x : Ident) (V : Row → Datum → Type 0) (us : Uses)
     → (ys : List Ident) → has x ys ≡ false → UsesNone us ys → AllByRecursion (IsFree x V) ys
 all_free x V us f [] h k = tt
 all_free x V us f (y ∷ ys) h k =
-    let l = neither (same_ident x y) (has x ys) h in ((l.0, f y k.0), all_free x V us f ys l.1 k.1)
+    let l = or_parts (same_ident x y) (has x ys) h in ((l.0, f y k.0), all_free x V us f ys l.1 k.1)
 
 -- ---- rows with the variable, and back
 
@@ -177,7 +177,7 @@ module _ {facts : Facts} {outer away : List Ident} {us : Uses} {b : Plan} {n upp
   fresh = ap (has x) (sym (rows_of p outer b)) ∙ not_there placed x set
 
   apart : (has x (sets n) ≡ false) × (has x (vars_of outer b) ≡ false)
-  apart = neither (has x (sets n)) (has x (vars_of outer b))
+  apart = or_parts (has x (sets n)) (has x (vars_of outer b))
       (sym (list_any-append (same_ident x) (sets n) (vars_of outer b)) ∙ fresh)
 
   not_used : is_used x (own_uses n) ≡ false

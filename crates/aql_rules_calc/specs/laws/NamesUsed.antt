@@ -8,6 +8,7 @@ use Rattle.std.specs.Cmp.Lexicographic.{slice_cmp}
 use Rattle.std.proofs.lemmas.List.{take_more, take_all, take-append-drop, map-append}
 use Rattle.std.proofs.lemmas.List.Folds.{list_any-append}
 use Rattle.std.proofs.lemmas.List.Sums.{fold-append}
+use Rattle.std.proofs.lemmas.Bool.{or_parts}
 use Rattle.aql_tree.specs.declared.syntax.Ident.{Ident}
 use Rattle.aql_meaning.specs.Row.{same_ident}
 use Rattle.aql_meaning.specs.Uses.{Use, Whole, Part, Uses}
@@ -18,7 +19,6 @@ use Rattle.aql_rewrite.specs.View.{above_uses}
 use Rattle.aql_rewrite.specs.laws.Levels.{nearest_first}
 use Rattle.aql_rules_calc.specs.Projections.{AreAdded}
 use Rattle.aql_rules_calc.specs.ReduceExtractionToProjection.{is_whole, used_whole, with_name, with_use}
-use Rattle.aql_rewrite.specs.laws.Unused.{neither}
 
 -- ---- no name goes
 
@@ -57,7 +57,7 @@ either_whole x us vs = list_any-append (is_whole x) us vs
 not_added : (before mid after : List (List ℕ)) (x : Ident) (us vs : Uses)
     → AreAdded false before x us mid → AreAdded false before x (us ++ vs) after
 not_added before mid after x us vs h whole most =
-    let k = neither (used_whole x us) (used_whole x vs) (sym (either_whole x us vs) ∙ whole) in
+    let k = or_parts (used_whole x us) (used_whole x vs) (sym (either_whole x us vs) ∙ whole) in
     let more = uses_more x vs (fold (with_use x) before us) in
     let same = ap length (fold-append (with_use x) before us vs) in h k.0 (omega (arith, more, same, most))
 
@@ -70,7 +70,7 @@ added_then true before mid after x us vs h k = (
   k.2,
 )
 added_then false before mid after x us vs h k = λ whole most.
-    k (neither (used_whole x us) (used_whole x vs) (sym (either_whole x us vs) ∙ whole)).1
+    k (or_parts (used_whole x us) (used_whole x vs) (sym (either_whole x us vs) ∙ whole)).1
     (subst (λ (names : List (List ℕ)). length names ≤ 5)
     (fold-append (with_use x) before us vs
     ∙ ap (λ (names : List (List ℕ)). fold (with_use x) names vs) (sym h.0)) most)

@@ -6,7 +6,7 @@ use Rattle.std.specs.declared.cmp.Ordering.{Ordering}
 use Rattle.std.specs.declared.cmp.Ordering.TheVariants.{Less, Equal, Greater}
 use Rattle.std.specs.Ordering.{nat_cmp, is_eq, match_ordering}
 use Rattle.std.specs.Cmp.Lexicographic.{slice_cmp}
-use Rattle.std.proofs.lemmas.Bool.{or_cases, or_left, or_right, and_from}
+use Rattle.std.proofs.lemmas.Bool.{or_cases, or_left, or_right, and_from, or_parts}
 use Rattle.std.proofs.lemmas.Map.Text.{is_eq-slice_cmp}
 use Rattle.std.proofs.lemmas.Slice.Eq.{bytes_eq-Decides}
 use Rattle.aql_value.specs.Datum.{Datum, null}
@@ -44,7 +44,6 @@ use Rattle.aql_rewrite.specs.laws.PlacedBelow.{whole_placed}
 use Rattle.aql_rules_calc.specs.Projections.{AreAdded, AreKept, order_of, where_whole, read_whole, node_with_attrs, with_attrs}
 use Rattle.aql_rules_calc.specs.ReduceExtractionToProjection.{is_whole, used_whole, with_name, with_use, names_used, order_uses, keeping, Reduces, enumeration, by_index}
 use Rattle.aql_rules_calc.specs.Measures.{reads_whole, whole_readers, readers_in}
-use Rattle.aql_rewrite.specs.laws.Unused.{neither}
 use Rattle.aql_rules_calc.specs.laws.Attributes.{named_first}
 use Rattle.aql_rewrite.specs.Changed.{Changes}
 
@@ -105,7 +104,7 @@ covered : (x : Ident) (us : Uses) (before : List (List ℕ)) → used_whole x us
     → AllByRecursion (IsCovered x (fold (with_use x) before us)) us
 covered x [] before h = tt
 covered x (u ∷ us) before h =
-    let k = neither (is_whole x u) (used_whole x us) h in
+    let k = or_parts (is_whole x u) (used_whole x us) h in
     (first u k.0, covered x us (with_use x before u) k.1)
   where
     first : (u : Use) → is_whole x u ≡ false → IsCovered x (fold (with_use x) (with_use x before u) us) u

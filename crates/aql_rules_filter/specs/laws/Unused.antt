@@ -1,7 +1,7 @@
 -- A condition does not look at a variable that it does not use; what is used is there without those that are not.
 use Rattle.std.proofs.Common.{◌≡◌, ◌∙◌, List, [], ◌∷◌, ◌++◌, Bool, true, false, true≢false, refl, ap, sym}
 use Rattle.std.specs.Prelude.{◌||◌, not, Option, Some, None, option_to_list}
-use Rattle.std.proofs.lemmas.Bool.{and_parts, not-true}
+use Rattle.std.proofs.lemmas.Bool.{and_parts, not-true, or_parts}
 use Rattle.std.proofs.lemmas.List.Folds.{list_all-append}
 use Rattle.aql_value.specs.Datum.{Datum, null}
 use Rattle.aql_value.specs.Truth.{truth}
@@ -13,7 +13,7 @@ use Rattle.aql_meaning.specs.laws.Agrees.{value_same}
 use Rattle.aql_plan.specs.Variables.{are_among}
 use Rattle.aql_plan_laws.specs.laws.Idents.{same_swapped}
 use Rattle.aql_rewrite.specs.laws.Among.{has, both, and_true}
-use Rattle.aql_rewrite.specs.laws.Unused.{neither, agree_unused}
+use Rattle.aql_rewrite.specs.laws.Unused.{agree_unused}
 use Rattle.aql_rules_filter.specs.MoveFiltersUp.{none_used}
 use Rattle.aql_rules_filter.specs.laws.Filtered.{holds}
 
@@ -43,7 +43,7 @@ among_without : (us : Uses) (x : Ident) (xs : List Ident) → is_used x us ≡ f
     → are_among us (x ∷ xs) ≡ true → are_among us xs ≡ true
 among_without [] x xs h k = refl
 among_without (u ∷ us) x xs h k =
-    let l = neither (same_ident x (used_variable u)) (is_used x us) h in
+    let l = or_parts (same_ident x (used_variable u)) (is_used x us) h in
     let m = both (has (used_variable u) (x ∷ xs)) (are_among us (x ∷ xs)) k in
     and_true (has (used_variable u) xs) (are_among us xs)
     (by (same_ident (used_variable u) x) (same_swapped x (used_variable u) l.0) m.0)

@@ -2,8 +2,9 @@ use Rattle.std.proofs.Common.{◌≤◌, inl, inr, length, refl, ◌∙◌, arit
 use Rattle.aql_exec.specs.Rests.{Over}
 use Rattle.aql_exec.specs.Counting.{nothing}
 use Rattle.aql_block.specs.Tables.{rows_of}
+use Rattle.aql_exec.proofs.Telling.{ahead_none, rises_none}
 use Rattle.aql_engine.specs.Run.{rows_in}
-use Rattle.aql_engine.proofs.Leading.{plus, ahead_none, rises_none, rises_then}
+use Rattle.aql_engine.proofs.Leading.{plus, rises_then}
 use Rattle.aql_engine.proofs.Running.{rows_came, later, all_came, rises_within, follows_all}
 use Rattle.aql_engine.proofs.run.run_feed.Goals as goal
 

@@ -6,9 +6,10 @@ use Rattle.aql_exec.specs.Rests.{Rest}
 use Rattle.aql_exec.specs.Steps.{unless_waiting, told}
 use Rattle.aql_exec.specs.Operators.{height, arity, Produces, leaf, StartRow, no_rest}
 use Rattle.aql_exec.specs.Counting.{nothing}
+use Rattle.aql_exec.proofs.Telling.{rises_none}
 use Rattle.aql_engine.specs.Tree.{Waits, WaitsAt, tree_plan, TreeRests, TreeOwn, NodeValid}
 use Rattle.aql_engine.specs.laws.TreesKept.{tree_kept_rests, tree_some, choose}
-use Rattle.aql_engine.proofs.Leading.{plus, rises_then, rises_none, leads_init, leads_first, leads_second, leads_started, leads_given, leads_beside, one_zero, zero_one}
+use Rattle.aql_engine.proofs.Leading.{plus, rises_then, leads_init, leads_first, leads_second, leads_started, leads_given, leads_beside, one_zero, zero_one}
 use Rattle.aql_engine.proofs.Inputs.{of_inputs, at_most, is_below, not_new, pulled_input, input_weaker, input_kept, fewer_wait, turned_inputs}
 use Rattle.aql_engine.proofs.Rooms.{falls, starts, more_patience, le_more, below_pulled, body_pulled, body_begun, node_given, of_two, below_two, at_body}
 use Rattle.aql_engine.proofs.tree.+pull.Goals as goal

@@ -30,7 +30,7 @@ found rows at n s l e =
     let f : slice_get rows at ≡ Some _ = slice_get-get_or rows at empty_row (omega (arith, l, e)) in
     let g = s ∙ f in cc g
 
--- src/values.rt:43:5
+-- src/values.rt:24:5
 pub loop-at-preserved : goal.loop-at-preserved
 loop-at-preserved c =
     let e = tree c.args.e.now in

@@ -4,7 +4,8 @@ use Rattle.std.specs.Prelude.{◌↔◌}
 use Rattle.aql_tree.specs.declared.syntax.AggregateItem.{AggregateItem}
 use Rattle.aql_tree.specs.View.{aggregate_part, aggregates as aggregate_trees}
 use Rattle.aql_plan.specs.Fits.{AllKnown}
-use Rattle.aql_plan_check.proofs.ShapeTests.{left, next, stop}
+use Rattle.aql_plan_check.proofs.ShapeTests.{next, stop}
+use Rattle.aql_plan_check.proofs.Tests.{left}
 use Rattle.aql_plan_check.proofs.aggregates.all_known.Goals as goal
 
 pub returns-then-not-is_known : goal.returns-then-not-is_known

@@ -1,13 +1,13 @@
-use Rattle.std.proofs.Common.{◌≡◌, ◌<◌, ◌^◌, ◌*◌, ◌+◌, ◌∷◌, [], ◌++◌, length, false, ◌||◌, ap, sym, subst, ◌∙◌, arith, rules, length-append}
+use Rattle.std.proofs.Common.{◌≡◌, ◌<◌, ◌^◌, ◌*◌, ◌+◌, ◌∷◌, [], ◌++◌, filter, length, ◌||◌, ap, sym, subst, ◌∙◌, arith, rules, length-append}
 use Rattle.std.specs.Prelude.{pos, neg_ℤ, ◌+ℤ◌, ◌≤ℤ◌, FitsSigned}
 use Rattle.std.specs.List.{list_any}
 use Rattle.std.specs.Int.{w64, w128, saturate_signed}
 use mir.Val.{to_z, of_z}
 use Rattle.std.proofs.lemmas.Int.{ints}
-use Rattle.aql_value.specs.Convert.{to_number}
 use Rattle.aql_value.specs.View.{datum_of}
-use Rattle.aql_func.specs.Aggregates.{is_bad, exact_sum}
-use Rattle.aql_func.proofs.Sums.{sum_push, bad_push, wider}
+use Rattle.aql_func.specs.Aggregates.{is_bad, is_number, exact_sum}
+use Rattle.aql_aggregate.proofs.Sums.{numbers_append}
+use Rattle.aql_func.proofs.Sums.{bad_push, wider}
 use Rattle.aql_aggregate.proofs.Marks.{unmarked, not_saturated}
 use Rattle.aql_aggregate.proofs.summing.RunningSum.add.Goals as goal
 
@@ -39,9 +39,10 @@ returns-in-Num c ts h =
     record {
       counted = c.one_more-self.ensures ts t h.counted;
       marked = h.marked ∙ sym (g ∙ unmarked (list_any is_bad ts));
-      added = λ short good. added (below short)
-          ∙ ap (λ z. z +ℤ n) (h.added (below short) good)
-          ∙ sym (sum_push ts t ∙ ap (λ u. exact_sum ts +ℤ to_number u) is);
+      added = λ short. added (below short)
+          ∙ ap (λ z. z +ℤ n) (h.added (below short))
+          ∙ sym (numbers_append ts (t ∷ []) ∙ ap (λ u. exact_sum (filter is_number ts)
+          +ℤ exact_sum (filter is_number (u ∷ []))) is ∙ omega (arith, ints));
       low = λ short. subst (λ z. neg_ℤ (pos (2 ^ 63 * length (ts ++ t ∷ []))) ≤ℤ z)
           (sym (added (below short))) (rw m (bounds (below short)).0);
       high = λ short. subst (λ z. z ≤ℤ pos (2 ^ 63 * length (ts ++ t ∷ [])))

@@ -22,7 +22,7 @@ add_member-requires-clause-place c =
     let held = c.requires.holds in
     let mid = c.place.new.self in
     let placed = c.in_ok-at.ensures in
-    let groups = placed_groups g c.args.kinds.now (row_of c.args.row.now.row) (datum_of c.in_ok-key.key)
+    let groups = placed_groups g c.args.kinds.now (row_of c.args.row.now) (datum_of c.in_ok-key.key)
     c.in_ok-key.ensures held.0 c.args.self.now mid held.1 placed.keys placed.kept in
     let many = as_many c.args.kinds.now g.into held.0 (datums_in mid.keys.keys) mid.kept.items groups in
     let within = slice_get_within (datums_in mid.keys.keys) c.in_ok-at.at _ placed.place in
@@ -32,7 +32,7 @@ add_member-requires-clause-place c =
 pub add_member-requires-clause-count : goal.add_member-requires-clause-count
 add_member-requires-clause-count c =
     let g = c.args.grouping.now in
-    let row = row_of c.args.row.now.row in
+    let row = row_of c.args.row.now in
     let held = c.requires.holds in
     let mid = c.place.new.self in
     let placed = c.in_ok-at.ensures in
@@ -50,7 +50,7 @@ add_member-requires-clause-count c =
 pub returns-clause-held : goal.returns-clause-held
 returns-clause-held c rows h =
     let g = c.args.grouping.now in
-    let row = row_of c.args.row.now.row in
+    let row = row_of c.args.row.now in
     let placed = c.in_ok-at.ensures in
     let mid = c.place.new.self in
     let at = c.in_ok-at.at in

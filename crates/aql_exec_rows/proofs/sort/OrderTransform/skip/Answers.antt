@@ -1,10 +1,11 @@
 use Rattle.std.proofs.Common.{◌≡◌, ◌∙◌, ◌-◌, ◌++◌, [], length, drop, reverse, refl, ap, sym, subst, arith, length-drop}
 use Rattle.std.proofs.lemmas.List.{length-take}
 use Rattle.aql_exec.specs.Counting.{nothing}
+use Rattle.aql_exec.proofs.Telling.{rises_none}
 use Rattle.aql_exec_rows.specs.declared.sort.Order.{Order}
 use Rattle.aql_exec_rows.specs.Keys.{keyed_in, rows_alone}
 use Rattle.aql_exec_rows.specs.Sorting.{AllHave}
-use Rattle.aql_exec_rows.proofs.Joining.{none_ahead, front_leaves, row_count, last_cut, fewer_few, take_has, rises_none}
+use Rattle.aql_exec_rows.proofs.Joining.{none_ahead, front_leaves, row_count, last_cut, fewer_few, take_has}
 use Rattle.aql_exec_rows.proofs.sort.OrderTransform.skip.Goals as goal
 
 pub returns-then-not-self-clause-left : goal.returns-then-not-self-clause-left

@@ -12,7 +12,7 @@ use Rattle.aql_func.specs.Aggregates.{is_bad, is_number, exact_sum}
 use Rattle.aql_aggregate.proofs.Totals.{any_append}
 use Rattle.aql_aggregate.proofs.Formed.{within}
 use Rattle.aql_aggregate.proofs.Sums.{numbers_append, opened, four, item_at, numbers_of, total_joined}
-use Rattle.aql_aggregate.proofs.part_sums.PartSum.join.Goals as goal
+use Rattle.aql_aggregate.proofs.summing.RunningSum.join.Goals as goal
 
 pub returns-in_default-as_slice : goal.returns-in_default-as_slice
 returns-in_default-as_slice c ts us h f e =
