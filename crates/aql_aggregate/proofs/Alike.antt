@@ -7,13 +7,13 @@ use Rattle.std.proofs.lemmas.Bool.{cases_lt}
 use mir.Val.{to_z, of_z}
 use Rattle.aql_value.specs.Convert.{number_or_null}
 use Rattle.aql_value.specs.Datum.{Datum, null, number}
-use Rattle.aql_value.specs.Parts.{list, elements, is_in, same}
+use Rattle.aql_value.specs.Contents.{list, elements, is_in, same}
 use Rattle.aql_value.specs.laws.Lists.{datum_list-array_of}
 use Rattle.aql_func.specs.Lists.{distinct}
 use Rattle.aql_func.specs.Aggregates.{Aggregate, min, max, sorted_unique, count_distinct, state, aggregate, is_null, count_of, best, lesser, greater, at_most_one}
 use Rattle.aql_aggregate.specs.declared.accumulator.Accumulator.{Accumulator}
 use Rattle.aql_aggregate.specs.States.{Keeps}
-use Rattle.aql_aggregate.specs.Kept.{KeepsAlike}
+use Rattle.aql_aggregate.specs.PartialStates.{KeepsAlike}
 use Rattle.aql_aggregate.proofs.Counts.{small, large}
 use Rattle.aql_aggregate.proofs.Totals.{any_append}
 use Rattle.aql_aggregate.proofs.Chosen.{meld, IsKept, best_append, best_kept, alone, lesser_associates, greater_associates, lesser_no_null, greater_no_null}

@@ -1,7 +1,7 @@
 -- The least and the greatest of members, with one member more at the end.
 use Rattle.std.proofs.Common.{◌≡◌, List, [], ◌∷◌, ◌++◌, Bool, true, false, cond, Option, Some, None, unwrap_or, option_map, refl, sym, ap, ◌∙◌}
 use Rattle.aql_value.specs.Datum.{Datum}
-use Rattle.aql_value.specs.Parts.{is_below}
+use Rattle.aql_value.specs.Contents.{is_below}
 use Rattle.aql_func.specs.Aggregates.{is_null, best, prefer, lesser, greater}
 use Rattle.aql_func.proofs.Ascending.{below_order}
 use Rattle.aql_aggregate.specs.States.{better_if, better}

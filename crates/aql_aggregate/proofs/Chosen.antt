@@ -2,7 +2,7 @@
 use Rattle.std.proofs.Common.{◌≡◌, List, [], ◌∷◌, ◌++◌, map, Bool, true, false, cond, Option, Some, None, unwrap_or, option_map, refl, sym, ap, ◌∙◌}
 use Rattle.std.specs.Prelude.{flat_map}
 use Rattle.aql_value.specs.Datum.{Datum}
-use Rattle.aql_value.specs.Parts.{elements, is_below}
+use Rattle.aql_value.specs.Contents.{elements, is_below}
 use Rattle.aql_func.specs.Aggregates.{is_null, best, prefer, lesser, greater, at_most_one}
 use Rattle.aql_func.proofs.Ascending.{below_order}
 use Rattle.aql_aggregate.specs.Theorems.{all_of}

@@ -7,7 +7,7 @@ use Rattle.std.proofs.lemmas.Int.{ints}
 use Rattle.std.proofs.lemmas.Bool.{cases_lt}
 use Rattle.aql_value.specs.Datum.{Datum, null, boolean, number, text, array, object, array_of}
 use Rattle.aql_value.specs.WellFormed.{WellFormed, ItemsWellFormed}
-use Rattle.aql_value.specs.Parts.{is_below}
+use Rattle.aql_value.specs.Contents.{is_below}
 use Rattle.aql_value.specs.Convert.{to_number}
 use Rattle.aql_func.specs.Lists.{distinct}
 use Rattle.aql_func.specs.Aggregates.{Aggregate, count, sum, min, max, sorted_unique, count_distinct, state, sum_state, is_null, is_number, count_of, exact_sum, best, lesser, greater, at_most_one}

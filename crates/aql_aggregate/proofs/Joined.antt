@@ -5,7 +5,7 @@ use Rattle.aql_func.specs.Aggregates.{Aggregate, count, sum, min, max, sorted_un
 use Rattle.aql_aggregate.specs.Theorems.{all_of}
 use Rattle.aql_aggregate.proofs.Counts.{counts_joined}
 use Rattle.aql_aggregate.proofs.Totals.{sums_joined}
-use Rattle.aql_value.specs.Parts.{list}
+use Rattle.aql_value.specs.Contents.{list}
 use Rattle.aql_aggregate.proofs.Members.{distinct_joined}
 use Rattle.aql_aggregate.proofs.Chosen.{least_joined, greatest_joined}
 

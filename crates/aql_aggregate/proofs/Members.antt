@@ -4,7 +4,7 @@ use Rattle.std.specs.Prelude.{flat_map}
 use Rattle.std.specs.Ordering.{is_eq}
 use Rattle.std.proofs.lemmas.Cmp.{tied_itself}
 use Rattle.aql_value.specs.Datum.{Datum}
-use Rattle.aql_value.specs.Parts.{list, elements, same, is_in, is_below}
+use Rattle.aql_value.specs.Contents.{list, elements, same, is_in, is_below}
 use Rattle.aql_value.specs.laws.Strict.{compare_total}
 use Rattle.aql_value.specs.laws.Lists.{datum_list-array_of}
 use Rattle.aql_func.specs.Lists.{firsts, among, sort_values, distinct}

@@ -9,7 +9,7 @@ use Rattle.std.specs.declared.cmp.Ordering.TheVariants.{Less, Equal, Greater}
 use Rattle.std.proofs.lemmas.Int.{ints}
 use Rattle.aql_value.specs.Datum.{Datum, null}
 use Rattle.aql_value.specs.Compare.{compare}
-use Rattle.aql_value.specs.Parts.{list, elements, same, is_below}
+use Rattle.aql_value.specs.Contents.{list, elements, same, is_below}
 use Rattle.aql_value.specs.Truth.{truth}
 use Rattle.aql_value.specs.Convert.{to_number, number_or_null}
 use Rattle.aql_value.specs.laws.Strict.{compare_total}

@@ -4,7 +4,7 @@ use Rattle.std.specs.List.{AllZip, AllByRecursion}
 use Rattle.std.proofs.lemmas.List.{map-append}
 use Rattle.std.proofs.lemmas.List.Elements.{filter-append}
 use Rattle.aql_value.specs.Datum.{Datum, null}
-use Rattle.aql_value.specs.Parts.{list, elements, same, is_in}
+use Rattle.aql_value.specs.Contents.{list, elements, same, is_in}
 use Rattle.aql_func.specs.Aggregates.{Aggregate, aggregate, aggregate_named, state, join}
 use Rattle.aql_func.specs.Arguments.{argument}
 use Rattle.aql_func.specs.Lists.{distinct}

@@ -12,7 +12,7 @@ use Rattle.aql_value.specs.Datum.{Datum, null}
 use Rattle.aql_value.specs.View.{datum_of, datums_in}
 use Rattle.aql_value.specs.WellFormed.{WellFormed}
 use Rattle.aql_value.specs.Convert.{to_number, number_or_null}
-use Rattle.aql_value.specs.Parts.{list, elements}
+use Rattle.aql_value.specs.Contents.{list, elements}
 use Rattle.aql_value.specs.laws.Lists.{datum_list-array_of}
 use Rattle.aql_func.specs.Arguments.{argument}
 use Rattle.aql_func.specs.Aggregates.{is_null, is_bad, is_number, count_of, exact_sum, sum_of, sum_state}

@@ -4,7 +4,7 @@ use Rattle.std.specs.Prelude.{pos}
 use Rattle.aql_value.specs.declared.values.Value.{Value}
 use Rattle.aql_value.specs.Datum.{Datum}
 use Rattle.aql_value.specs.View.{datums_in}
-use Rattle.aql_value.specs.Parts.{is_below}
+use Rattle.aql_value.specs.Contents.{is_below}
 use Rattle.aql_value.specs.Convert.{number_or_null}
 use Rattle.aql_func.specs.Lists.{firsts, add, among, sort_values}
 use Rattle.aql_func.specs.Aggregates.{Aggregate, count, sum, min, max, sorted_unique, count_distinct, aggregate, count_of}

@@ -3,7 +3,7 @@
 use Rattle.std.specs.Prelude.{◌≡◌, pos, List, map, flat_map}
 use Rattle.std.specs.List.{list_any}
 use Rattle.aql_value.specs.Datum.{Datum}
-use Rattle.aql_value.specs.Parts.{elements}
+use Rattle.aql_value.specs.Contents.{elements}
 use Rattle.aql_value.specs.Truth.{truth}
 use Rattle.aql_func.specs.Aggregates.{Aggregate, count, sum, min, max, sorted_unique, count_distinct, is_null, exact_sum, part_at}
 use Rattle.aql_aggregate.specs.States as members

@@ -1,6 +1,6 @@
 pub mod View
 pub mod States
 pub mod Theorems
-pub mod Kept
+pub mod PartialStates
 pub mod Joined
 pub mod Staged

@@ -7,7 +7,7 @@ use Rattle.aql_meaning.specs.declared.grouping.Stage.{Stage}
 use Rattle.aql_meaning.specs.declared.grouping.Stage.TheVariants as stage
 use Rattle.aql_aggregate.specs.View.{aggregate_of}
 use Rattle.aql_aggregate.specs.States as members
-use Rattle.aql_aggregate.specs.Kept.{kind_of, Keeps}
+use Rattle.aql_aggregate.specs.PartialStates.{kind_of, Keeps}
 use Rattle.aql_aggregate.specs.Joined.{Joins}
 use Rattle.aql_aggregate.specs.declared.staged.StagedKind.{StagedKind}
 use Rattle.aql_aggregate.specs.declared.staged.StagedAccumulator.{StagedAccumulator}

@@ -8,7 +8,7 @@ ghost use Rattle.aql_aggregate.specs.View.{aggregate_of};
 ghost use Rattle.aql_aggregate.specs.States.{Keeps, datum_in};
 
 use crate::choosing::{keep_greatest, keep_least};
-use crate::counting::{count_value, none_counted, one_more};
+use crate::counting::{count_value, one_more, zero_count};
 use crate::distinct::{ascending, count, note};
 use crate::kinds::AggregateKind;
 use crate::summing::RunningSum;
@@ -34,7 +34,7 @@ impl Accumulator {
         ensures { Keeps result (aggregate_of kind) [] }
     {
         match kind {
-            AggregateKind::Count => Accumulator::Count(none_counted()),
+            AggregateKind::Count => Accumulator::Count(zero_count()),
             AggregateKind::Sum => Accumulator::Sum(RunningSum::new()),
             AggregateKind::Min => Accumulator::Min(None),
             AggregateKind::Max => Accumulator::Max(None),

@@ -9,7 +9,7 @@ ghost use Rattle.aql_aggregate.specs.States.{Counts};
 use aql_value::Value;
 
 /// A count of no members.
-pub fn none_counted() -> Option<i64>
+pub fn zero_count() -> Option<i64>
     ensures { Counts result [] }
 {
     Some(0)

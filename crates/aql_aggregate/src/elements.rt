@@ -3,7 +3,7 @@
 ghost use Rattle.std.specs.Prelude.{◌≡◌, List, [], ◌∷◌, ◌++◌, cond, IfOk, OnOk};
 ghost use Rattle.aql_value.specs.Datum.{Datum};
 ghost use Rattle.aql_value.specs.View.{datum_of, datums_in};
-ghost use Rattle.aql_value.specs.Parts.{list, elements};
+ghost use Rattle.aql_value.specs.Contents.{list, elements};
 ghost use Rattle.aql_func.specs.Aggregates.{Aggregate, count_of};
 ghost use Rattle.aql_func.specs.Aggregates as aggregates;
 ghost use Rattle.aql_aggregate.specs.States.{Keeps};

@@ -3,7 +3,7 @@
 ghost use Rattle.std.specs.Prelude.{◌≡◌, pos, List, [], ◌∷◌, ◌++◌, ◌+ℤ◌, ◌*ℤ◌, ◌^◌, IfOk, OnOk};
 ghost use Rattle.aql_value.specs.Datum.{Datum, null};
 ghost use Rattle.aql_value.specs.View.{datum_of, datums_in};
-ghost use Rattle.aql_value.specs.Parts.{elements};
+ghost use Rattle.aql_value.specs.Contents.{elements};
 ghost use Rattle.aql_value.specs.Convert.{number_or_null};
 ghost use Rattle.aql_func.specs.Arguments.{argument};
 ghost use Rattle.aql_func.specs.Aggregates.{Aggregate, join, join_counts, join_sums, exact_sum};
@@ -102,7 +102,7 @@ pub struct JoinedSums {
 }
 
 // The value at a place; another one where there is none.
-fn part_of<'a>(values: &'a [Value], place: usize, missing: &'a Value) -> &'a Value
+fn item_at<'a>(values: &'a [Value], place: usize, missing: &'a Value) -> &'a Value
     requires { datum_of missing.now ≡ null }
     ensures { datum_of result.now ≡ argument (datums_in values.now) place }
 {
@@ -142,10 +142,10 @@ impl JoinedSums {
     {
         let parts = elements_of(state);
         let missing = Value::Null;
-        self.counts.add(part_of(parts, 0, &missing))?;
-        self.bad = self.bad | truthy(part_of(parts, 1, &missing));
-        self.high.add(part_of(parts, 2, &missing))?;
-        self.low.add(part_of(parts, 3, &missing))?;
+        self.counts.add(item_at(parts, 0, &missing))?;
+        self.bad = self.bad | truthy(item_at(parts, 1, &missing));
+        self.high.add(item_at(parts, 2, &missing))?;
+        self.low.add(item_at(parts, 3, &missing))?;
         Ok(())
     }
 

@@ -11,15 +11,15 @@ mod elements;
 mod joining;
 mod kinds;
 pub mod laws;
-mod part_counts;
+mod partial_counts;
 mod staged;
 mod staged_accumulator;
 mod summing;
 
 pub use accumulator::Accumulator;
-pub use counting::{count_value, none_counted, one_more};
+pub use counting::{count_value, one_more, zero_count};
 pub use joining::{JoinedCounts, JoinedSums, StateAccumulator, WideSum};
 pub use kinds::{AggregateKind, aggregate_kind};
 pub use staged::{StagedAccumulator, StagedKind};
-pub use staged_accumulator::PartAccumulator;
+pub use staged_accumulator::PartialAccumulator;
 pub use summing::RunningSum;

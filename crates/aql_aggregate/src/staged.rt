@@ -6,7 +6,7 @@ ghost use Rattle.aql_value.specs.View.{datum_of};
 ghost use Rattle.aql_aggregate.specs.Staged.{Staged, staged, made, KeepsIn};
 
 use crate::joining::StateAccumulator;
-use crate::staged_accumulator::PartAccumulator;
+use crate::staged_accumulator::PartialAccumulator;
 use crate::{Accumulator, AggregateKind};
 use aql_meaning::Stage;
 use aql_value::{OutOfMemory, Value};
@@ -23,7 +23,7 @@ pub struct StagedKind {
 #[derive(Drop)]
 pub enum StagedAccumulator {
     Whole(Accumulator),
-    Partial(PartAccumulator),
+    Partial(PartialAccumulator),
     Final(StateAccumulator),
 }
 
@@ -35,7 +35,7 @@ impl StagedAccumulator {
         let kind = aggregate.kind;
         match aggregate.stage {
             Stage::Whole => StagedAccumulator::Whole(Accumulator::new(alloc, kind)),
-            Stage::Partial => StagedAccumulator::Partial(PartAccumulator::new(alloc, kind)),
+            Stage::Partial => StagedAccumulator::Partial(PartialAccumulator::new(alloc, kind)),
             Stage::Final => StagedAccumulator::Final(StateAccumulator::new(alloc, kind)),
         }
     }

@@ -7,19 +7,19 @@ ghost use Rattle.aql_value.specs.View.{datum_of};
 ghost use Rattle.aql_value.specs.WellFormed.{WellFormed};
 ghost use Rattle.aql_func.specs.Aggregates.{aggregate, state};
 ghost use Rattle.aql_aggregate.specs.View.{aggregate_of};
-ghost use Rattle.aql_aggregate.specs.Kept.{kind_of, Keeps};
+ghost use Rattle.aql_aggregate.specs.PartialStates.{kind_of, Keeps};
 
 use crate::elements::{add_elements, at_most_one, element_count};
-use crate::part_counts::more;
+use crate::partial_counts::more;
 use crate::summing::RunningSum;
-use crate::{Accumulator, AggregateKind, count_value, none_counted, one_more};
+use crate::{Accumulator, AggregateKind, count_value, one_more, zero_count};
 use aql_value::{OutOfMemory, Value};
 use std::alloc::Global;
 
 /// What an aggregate keeps of the members that it saw, one by one or by the states of parts of
 /// them: never the members themselves, but those that are its result.
 #[derive(Drop)]
-pub enum PartAccumulator {
+pub enum PartialAccumulator {
     Count(Option<i64>),
     Sum(RunningSum),
     Min(Accumulator),
@@ -29,23 +29,23 @@ pub enum PartAccumulator {
     CountDistinct(Accumulator),
 }
 
-impl PartAccumulator {
+impl PartialAccumulator {
     /// Of no members.
-    pub fn new(alloc: Global, kind: AggregateKind) -> PartAccumulator
+    pub fn new(alloc: Global, kind: AggregateKind) -> PartialAccumulator
         ensures kind { kind_of result ≡ aggregate_of kind }
         ensures keeps { Keeps result [] }
     {
         let distinct = AggregateKind::SortedUnique;
         match kind {
-            AggregateKind::Count => PartAccumulator::Count(none_counted()),
-            AggregateKind::Sum => PartAccumulator::Sum(RunningSum::new()),
-            AggregateKind::Min => PartAccumulator::Min(Accumulator::new(alloc, kind)),
-            AggregateKind::Max => PartAccumulator::Max(Accumulator::new(alloc, kind)),
+            AggregateKind::Count => PartialAccumulator::Count(zero_count()),
+            AggregateKind::Sum => PartialAccumulator::Sum(RunningSum::new()),
+            AggregateKind::Min => PartialAccumulator::Min(Accumulator::new(alloc, kind)),
+            AggregateKind::Max => PartialAccumulator::Max(Accumulator::new(alloc, kind)),
             AggregateKind::SortedUnique => {
-                PartAccumulator::SortedUnique(Accumulator::new(alloc, distinct))
+                PartialAccumulator::SortedUnique(Accumulator::new(alloc, distinct))
             }
             AggregateKind::CountDistinct => {
-                PartAccumulator::CountDistinct(Accumulator::new(alloc, distinct))
+                PartialAccumulator::CountDistinct(Accumulator::new(alloc, distinct))
             }
         }
     }
@@ -57,12 +57,12 @@ impl PartAccumulator {
             → Keeps self.new (ts ++ datum_of value.now ∷ [])) }
     {
         match self {
-            PartAccumulator::Count(count) => *count = one_more(*count),
-            PartAccumulator::Sum(sum) => sum.add(value),
-            PartAccumulator::Min(kept) => kept.add(alloc, value)?,
-            PartAccumulator::Max(kept) => kept.add(alloc, value)?,
-            PartAccumulator::SortedUnique(kept) => kept.add(alloc, value)?,
-            PartAccumulator::CountDistinct(kept) => kept.add(alloc, value)?,
+            PartialAccumulator::Count(count) => *count = one_more(*count),
+            PartialAccumulator::Sum(sum) => sum.add(value),
+            PartialAccumulator::Min(kept) => kept.add(alloc, value)?,
+            PartialAccumulator::Max(kept) => kept.add(alloc, value)?,
+            PartialAccumulator::SortedUnique(kept) => kept.add(alloc, value)?,
+            PartialAccumulator::CountDistinct(kept) => kept.add(alloc, value)?,
         }
         Ok(())
     }
@@ -75,12 +75,12 @@ impl PartAccumulator {
             → Keeps self.new (ts ++ us)) }
     {
         match self {
-            PartAccumulator::Count(count) => *count = more(*count, part),
-            PartAccumulator::Sum(sum) => sum.join(part),
-            PartAccumulator::Min(kept) => add_elements(alloc, kept, part)?,
-            PartAccumulator::Max(kept) => add_elements(alloc, kept, part)?,
-            PartAccumulator::SortedUnique(kept) => add_elements(alloc, kept, part)?,
-            PartAccumulator::CountDistinct(kept) => add_elements(alloc, kept, part)?,
+            PartialAccumulator::Count(count) => *count = more(*count, part),
+            PartialAccumulator::Sum(sum) => sum.join(part),
+            PartialAccumulator::Min(kept) => add_elements(alloc, kept, part)?,
+            PartialAccumulator::Max(kept) => add_elements(alloc, kept, part)?,
+            PartialAccumulator::SortedUnique(kept) => add_elements(alloc, kept, part)?,
+            PartialAccumulator::CountDistinct(kept) => add_elements(alloc, kept, part)?,
         }
         Ok(())
     }
@@ -91,12 +91,12 @@ impl PartAccumulator {
             → datum_of v ≡ state (kind_of self) ts) }
     {
         match self {
-            PartAccumulator::Count(count) => Ok(count_value(count)),
-            PartAccumulator::Sum(sum) => sum.state(alloc),
-            PartAccumulator::Min(kept) => Ok(at_most_one(alloc, kept.finish(alloc)?)?),
-            PartAccumulator::Max(kept) => Ok(at_most_one(alloc, kept.finish(alloc)?)?),
-            PartAccumulator::SortedUnique(kept) => kept.finish(alloc),
-            PartAccumulator::CountDistinct(kept) => kept.finish(alloc),
+            PartialAccumulator::Count(count) => Ok(count_value(count)),
+            PartialAccumulator::Sum(sum) => sum.state(alloc),
+            PartialAccumulator::Min(kept) => Ok(at_most_one(alloc, kept.finish(alloc)?)?),
+            PartialAccumulator::Max(kept) => Ok(at_most_one(alloc, kept.finish(alloc)?)?),
+            PartialAccumulator::SortedUnique(kept) => kept.finish(alloc),
+            PartialAccumulator::CountDistinct(kept) => kept.finish(alloc),
         }
     }
 
@@ -106,12 +106,12 @@ impl PartAccumulator {
             → datum_of v ≡ aggregate (kind_of self) ts) }
     {
         match self {
-            PartAccumulator::Count(count) => Ok(count_value(count)),
-            PartAccumulator::Sum(sum) => Ok(sum.value()),
-            PartAccumulator::Min(kept) => kept.finish(alloc),
-            PartAccumulator::Max(kept) => kept.finish(alloc),
-            PartAccumulator::SortedUnique(kept) => kept.finish(alloc),
-            PartAccumulator::CountDistinct(kept) => Ok(element_count(&kept.finish(alloc)?)),
+            PartialAccumulator::Count(count) => Ok(count_value(count)),
+            PartialAccumulator::Sum(sum) => Ok(sum.value()),
+            PartialAccumulator::Min(kept) => kept.finish(alloc),
+            PartialAccumulator::Max(kept) => kept.finish(alloc),
+            PartialAccumulator::SortedUnique(kept) => kept.finish(alloc),
+            PartialAccumulator::CountDistinct(kept) => Ok(element_count(&kept.finish(alloc)?)),
         }
     }
 }

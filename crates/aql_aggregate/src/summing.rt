@@ -9,8 +9,8 @@ ghost use Rattle.aql_value.specs.Convert.{number_or_null};
 ghost use Rattle.aql_func.specs.Aggregates.{sum_of, sum_state};
 ghost use Rattle.aql_aggregate.specs.States.{Sums};
 
-use crate::part_counts::more;
-use crate::{count_value, none_counted, one_more};
+use crate::partial_counts::more;
+use crate::{count_value, one_more, zero_count};
 use aql_value::{Items, OutOfMemory, Value, to_number, truthy};
 use std::alloc::Global;
 
@@ -32,7 +32,7 @@ impl RunningSum {
         ensures { Sums result [] }
     {
         RunningSum {
-            count: none_counted(),
+            count: zero_count(),
             bad: false,
             total: 0,
         }

@@ -10,7 +10,7 @@ ghost use Rattle.aql_block.specs.Tables.{cells, cells_at, rows_of, marked};
 
 use crate::Row;
 use crate::columns::{
-    Column, copy_values, filled, new_columns, push_values, retain_all, split_all, take_values,
+    Column, copy_values, new_columns, push_values, retain_all, row_columns, split_all, take_values,
     truncate_all,
 };
 use aql_value::{OutOfMemory, Value};
@@ -107,7 +107,7 @@ impl Block {
 
     /// No rows, with the registers of this block and one more in front; takes the memory for `room`
     /// rows.
-    pub fn extended(&self, alloc: Global, var: u32, room: u32) -> Result<Block, OutOfMemory>
+    pub fn with_register(&self, alloc: Global, var: u32, room: u32) -> Result<Block, OutOfMemory>
         ensures { IfOk result (λ b. b ≡
             record { registers = var ∷ self.now.registers; room = room; values = [] }) }
     {
@@ -127,7 +127,7 @@ impl Block {
         ensures rows { IfOk result (λ b. rows_of b ≡ row_of row ∷ []) }
         ensures room { IfOk result (λ b. b.room ≡ 1) }
     {
-        let (registers, columns) = filled(alloc, row)?;
+        let (registers, columns) = row_columns(alloc, row)?;
         Ok(Block {
             registers,
             columns,
@@ -279,7 +279,7 @@ impl Block {
         ensures values { IfSome result
             (λ vs. map (λ row. row (Num var)) (rows_of self) ≡ map Some (datums_in vs.items)) }
     {
-        let at = place_of(&self.registers, var)?;
+        let at = index_of(&self.registers, var)?;
         let Block {
             registers: _,
             mut columns,
@@ -349,7 +349,7 @@ impl Block {
         ensures { option_map (λ v. datum_of v.now) result
             ≡ row_of (cells_at self.now at) (Num var) }
     {
-        match place_of(&self.registers, var) {
+        match index_of(&self.registers, var) {
             Some(place) => self.columns[place].get(at as usize),
             None => None,
         }
@@ -391,7 +391,7 @@ fn copy_registers(alloc: Global, registers: &[u32]) -> Result<Vec<u32>, OutOfMem
 }
 
 // The place of a register, the first where there are several.
-fn place_of(registers: &[u32], var: u32) -> Option<usize>
+fn index_of(registers: &[u32], var: u32) -> Option<usize>
     ensures { MatchOption result (is_among registers.now (Num var) ≡ false)
         (IsFirst registers.now var) }
 {

@@ -6,7 +6,7 @@ ghost use Rattle.aql_value.specs.Datum.{null};
 ghost use Rattle.aql_value.specs.View.{datum_of, datums_in};
 ghost use Rattle.aql_block.specs.Rows.{row_of, HasAll};
 ghost use Rattle.aql_block.specs.Tables.{cells, marked};
-ghost use Rattle.aql_block.specs.Columns.{HasRoom, single_columns, pushed, taken, values_at, without, first_of, rest_of, marked_of};
+ghost use Rattle.aql_block.specs.Columns.{HasRoom, single_columns, pushed, moved_values, values_at, without, first_of, rest_of, marked_of};
 
 use crate::Row;
 use crate::rows::Entry;
@@ -29,11 +29,11 @@ impl Drop for Column {
 
 impl Model for Column {
     ghost use Rattle.std.specs.Prelude.{◌≤◌, vec_capacity};
-    ghost use Rattle.aql_block.specs.Columns.{Places, coded_places};
+    ghost use Rattle.aql_block.specs.Columns.{Column, coded_column};
 
-    ghost Value = { Places };
+    ghost Value = { Column };
 
-    ghost coded = { coded_places };
+    ghost coded = { coded_column };
 
     ghost use Rattle.aql_value.specs.View.{datums_in};
 
@@ -164,7 +164,7 @@ pub(crate) fn new_columns(
 }
 
 // The variables of a row, and a column of the one value for each.
-pub(crate) fn filled(alloc: Global, row: Row) -> Result<(Vec<u32>, Vec<Column>), OutOfMemory>
+pub(crate) fn row_columns(alloc: Global, row: Row) -> Result<(Vec<u32>, Vec<Column>), OutOfMemory>
     ensures registers { IfOk result (λ both. both.0.items ≡ map (λ e. e.0) row) }
     ensures columns { IfOk result (λ both. both.1.items ≡ single_columns row) }
 {
@@ -183,7 +183,7 @@ pub(crate) fn push_values(registers: &[u32], columns: &mut [Column], row: &mut R
     requires count { length columns.old ≡ length registers.now }
     requires room { AllByRecursion HasRoom columns.old }
     requires all { HasAll registers.now (row_of row.old) }
-    ensures { columns.new ≡ pushed columns.old (taken registers.now (row_of row.old)) }
+    ensures { columns.new ≡ pushed columns.old (moved_values registers.now (row_of row.old)) }
 {
     for (at, register) in registers.iter().enumerate() {
         let value = row.take(*register);

@@ -81,7 +81,7 @@ impl Row {
             (row_of self.new ≡ bind (Num var) (row_of self.old) (datum_of value)) }
         ensures err { OnErr result (self.new ≡ self.old) }
     {
-        match self.place(var) {
+        match self.index_of(var) {
             Some(at) => self.entries[at].value = value,
             None => self.entries.push(Entry { var, value })?,
         }
@@ -109,7 +109,7 @@ impl Row {
         ensures value { datum_of result ≡ value_at (row_of self.old) (Num var) }
         ensures rest { row_of self.new ≡ bind (Num var) (row_of self.old) null }
     {
-        match self.place(var) {
+        match self.index_of(var) {
             Some(at) => mem::replace(&mut self.entries[at].value, Value::Null),
             None => unreachable!(),
         }
@@ -123,7 +123,7 @@ impl Row {
     }
 
     // The place of a variable's entry.
-    fn place(&self, var: u32) -> Option<usize>
+    fn index_of(&self, var: u32) -> Option<usize>
         ensures { MatchOption result (row_of self.now (Num var) ≡ None)
             (IsFirst (variables_of self.now) var) }
     {

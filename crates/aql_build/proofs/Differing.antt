@@ -8,7 +8,7 @@ use Rattle.aql_meaning.specs.Visible.{each_once}
 use Rattle.aql_plan.specs.declared.facts.Facts.{Facts}
 use Rattle.aql_plan.specs.declared.facts.CollFact.{CollFact}
 use Rattle.aql_plan.specs.Fits.{IsEdgeCollection}
-use Rattle.aql_plan.specs.FirstPlan.{place_of, coll_number}
+use Rattle.aql_plan.specs.FirstPlan.{number_among, coll_number}
 use Rattle.aql_build.proofs.Collections.{all_kept}
 
 -- the collection at the place of a name has that name
@@ -18,15 +18,15 @@ Named name found = MatchOption found ⊥ (λ (c : CollFact). bytes_eq c.name nam
 abbrev Edges : Option CollFact → Type 0
 Edges found = MatchOption found ⊥ (λ (c : CollFact). c.edge ≡ true)
 
-named_there : (cs : List CollFact) (name : List ℕ) → Edges (slice_get cs (place_of cs name))
-    → Named name (slice_get cs (place_of cs name))
+named_there : (cs : List CollFact) (name : List ℕ) → Edges (slice_get cs (number_among cs name))
+    → Named name (slice_get cs (number_among cs name))
 named_there [] name h = h
 named_there (c ∷ cs) name h = by (bytes_eq c.name name) refl (named_there cs name) h
   where
     by : (b : Bool) → bytes_eq c.name name ≡ b
-        → (Edges (slice_get cs (place_of cs name)) → Named name (slice_get cs (place_of cs name)))
-        → Edges (slice_get (c ∷ cs) (cond b 0 (suc (place_of cs name))))
-        → Named name (slice_get (c ∷ cs) (cond b 0 (suc (place_of cs name))))
+        → (Edges (slice_get cs (number_among cs name)) → Named name (slice_get cs (number_among cs name)))
+        → Edges (slice_get (c ∷ cs) (cond b 0 (suc (number_among cs name))))
+        → Named name (slice_get (c ∷ cs) (cond b 0 (suc (number_among cs name))))
     by true e f g = e
     by false e f g = f g
 

@@ -9,7 +9,7 @@ ghost use Rattle.aql_meaning.specs.Numbered.{IsNumber};
 ghost use Rattle.aql_meaning.specs.declared.grouping.Stage.TheVariants.{Whole};
 ghost use Rattle.aql_plan.specs.Plan as spec;
 ghost use Rattle.aql_plan.specs.View.{node_tree, directions, key_trees};
-ghost use Rattle.aql_plan.specs.FirstPlan.{place_of, coll_number};
+ghost use Rattle.aql_plan.specs.FirstPlan.{number_among, coll_number};
 
 use aql_plan::{CollFact, Facts, Node, Stage};
 use aql_tree::{Collect, Expr, Ident, Keys};
@@ -52,9 +52,9 @@ pub(crate) fn maybe_number(ident: &Option<Ident>) -> Option<u32>
 }
 
 // The place of a collection; how many there are, where none has the name.
-fn place(collections: &[CollFact], name: &str) -> u32
+fn collection_index(collections: &[CollFact], name: &str) -> u32
     requires { length collections.now < 2 ^ 32 }
-    ensures { result ≡ place_of collections.now name.now }
+    ensures { result ≡ number_among collections.now name.now }
 {
     let mut place = 0;
     for collection in collections {
@@ -70,7 +70,7 @@ pub(crate) fn collection_number(name: &Text, facts: &Facts) -> CollNo
     requires { length facts.now.collections < 2 ^ 32 }
     ensures { result.0 ≡ coll_number facts.now name.now }
 {
-    CollNo(place(facts.collections.as_slice(), name.as_str()))
+    CollNo(collection_index(facts.collections.as_slice(), name.as_str()))
 }
 
 /// FOR over an array.

@@ -4,7 +4,7 @@ ghost use Rattle.std.specs.Prelude.{◌≡◌, IfOk, map};
 ghost use Rattle.aql_tree.specs.View.{tree, links, link_part};
 ghost use Rattle.aql_plan.specs.Plan as spec;
 ghost use Rattle.aql_plan.specs.View.{plan_tree};
-ghost use Rattle.aql_plan.specs.FirstPlan.{right_sides, parts, filters};
+ghost use Rattle.aql_plan.specs.FirstPlan.{right_sides, conjuncts, filters};
 
 use crate::clauses::{take, take_boxed};
 use aql_plan::{Node, Plan, is_all_and};
@@ -32,9 +32,9 @@ fn filter_sides(rest: &mut Links, below: Plan, alloc: Global) -> Result<Plan, Ou
 }
 
 /// The rows at which a condition holds: a Filter for each part, the first lowest.
-pub fn filter_parts(cond: &mut Expr, below: Plan, alloc: Global) -> Result<Plan, OutOfMemory>
+pub fn filter_conjuncts(cond: &mut Expr, below: Plan, alloc: Global) -> Result<Plan, OutOfMemory>
     ensures { IfOk result
-        (λ p. plan_tree p ≡ filters (plan_tree below) (parts (tree cond.old))) }
+        (λ p. plan_tree p ≡ filters (plan_tree below) (conjuncts (tree cond.old))) }
 {
     match cond {
         Expr::Chain { first, rest } if is_all_and(rest.as_slice()) => {

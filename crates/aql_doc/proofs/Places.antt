@@ -6,7 +6,7 @@ use Rattle.std.specs.Borrow.{Bor}
 use Rattle.aql_doc.specs.declared.info.CollInfo.{CollInfo}
 use Rattle.aql_value.specs.Datum.{Datum}
 use Rattle.aql_doc.specs.Held.{Held, documents_in, documents_at}
-use Rattle.aql_doc.specs.Declarations.{place_of, replace, change, are_same, has_index, with_index}
+use Rattle.aql_doc.specs.Declarations.{collection_index, replace, change, are_same, has_index, with_index}
 use Rattle.aql_doc.specs.Limits.{IsDeclared, IsWithinLimits, HasOneToEight, AreApart}
 use Rattle.std.specs.Prelude.{All, ◌||◌}
 use Rattle.std.proofs.lemmas.List.{length_push}
@@ -38,7 +38,7 @@ held_set (g ∷ hs) (suc i) d h n l e =
 -- the first collection of the name
 pub place_here : (name : List ℕ) (hs : List Held) (i : ℕ) (d : Held) → i < length hs
     → ((k : ℕ) → k < i → bytes_eq (get_or hs k d).info.name name ≡ false)
-    → bytes_eq (get_or hs i d).info.name name ≡ true → Some i ≡ place_of hs name
+    → bytes_eq (get_or hs i d).info.name name ≡ true → Some i ≡ collection_index hs name
 place_here name [] i d l h e = absurd (omega (arith, l))
 place_here name (b ∷ bs) zero d l h e = rw e refl
 place_here name (b ∷ bs) (suc i) d l h e =
@@ -47,7 +47,8 @@ place_here name (b ∷ bs) (suc i) d l h e =
     (ap (option_map suc) (place_here name bs i d lt (λ k m. h (suc k) (omega arith)) e))
 
 pub place_none : (name : List ℕ) (hs : List Held) (d : Held)
-    → ((k : ℕ) → k < length hs → bytes_eq (get_or hs k d).info.name name ≡ false) → None ≡ place_of hs name
+    → ((k : ℕ) → k < length hs → bytes_eq (get_or hs k d).info.name name ≡ false)
+    → None ≡ collection_index hs name
 place_none name [] d h = refl
 place_none name (b ∷ bs) d h =
     rw (h 0 (omega arith)) (ap (option_map suc) (place_none name bs d (λ k m. h (suc k) (omega arith))))

@@ -8,9 +8,10 @@ use Rattle.aql_doc.specs.declared.faults.CatalogFault.{CatalogFault}
 use Rattle.aql_doc.specs.declared.faults.CatalogFault.TheVariants.{Twice, TooMany}
 
 -- the number of the collection with a name
-abbrev pub place_of : List Held → List ℕ → Option ℕ
-place_of [] name = None
-place_of (h ∷ held) name = if bytes_eq h.info.name name then Some 0 else option_map suc (place_of held name)
+abbrev pub collection_index : List Held → List ℕ → Option ℕ
+collection_index [] name = None
+collection_index (h ∷ held) name =
+    if bytes_eq h.info.name name then Some 0 else option_map suc (collection_index held name)
 
 -- a collection without indexes and documents
 abbrev pub empty : List ℕ → Bool → ℕ → List (List ℕ) → Held
@@ -21,7 +22,7 @@ empty name edge shards keys = record {
 
 abbrev pub declare : List Held → List ℕ → Bool → ℕ → List (List ℕ) → Result (List Held) CatalogFault
 declare held name edge shards keys =
-    if is_some (place_of held name) then Err Twice
+    if is_some (collection_index held name) then Err Twice
     else (if nat_lt (length held) 64 then Ok (held ++ empty name edge shards keys ∷ []) else Err TooMany)
 
 -- the same names in the same order

@@ -5,7 +5,7 @@
 use Rattle.std.specs.Prelude.{ℕ, List, [], ◌∷◌, ◌++◌, Bool, ◌&&◌, not, Option, Some, None, Result, Ok, Err, if◌then◌else◌, codes, nat_lt, slice_get}
 use Rattle.aql_value.specs.Datum.{Datum, text}
 use Rattle.aql_value.specs.Attributes.{attribute, with_attribute}
-use Rattle.aql_value.specs.Parts.{members_of, record_of}
+use Rattle.aql_value.specs.Contents.{members_of, record_of}
 use Rattle.aql_doc.specs.Keys.{is_key, id_of, is_text, rest_after, is_end}
 use Rattle.aql_doc.specs.Held.{Held, documents_in}
 use Rattle.aql_doc.specs.KeySet.{has_key}

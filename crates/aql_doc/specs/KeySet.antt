@@ -3,7 +3,7 @@ use Rattle.std.specs.Prelude.{◌≡◌, ℕ, List, [], Bool, String, bytes_eq, 
 use Rattle.std.specs.List.{list_any}
 use Rattle.std.specs.HashSet.{HashSet, contains_text}
 use Rattle.aql_value.specs.Datum.{Datum, text}
-use Rattle.aql_value.specs.Parts.{at_name}
+use Rattle.aql_value.specs.Contents.{at_name}
 
 -- the bytes of a text, and of nothing else
 abbrev pub bytes_of : Datum → List ℕ

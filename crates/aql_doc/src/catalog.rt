@@ -1,7 +1,7 @@
 ghost use Rattle.std.specs.Prelude.{◌≡◌, ◌⊎◌, ◌<◌, ◌≤◌, [], length, option_map, slice_get, IfOk, IfSome, IfErr, OnOk, OnErr, Ok, Err};
 ghost use Rattle.aql_value.specs.View.{datum_of};
 ghost use Rattle.aql_doc.specs.Held.{Held, documents_at};
-ghost use Rattle.aql_doc.specs.Declarations.{place_of, declare, add_index};
+ghost use Rattle.aql_doc.specs.Declarations.{collection_index, declare, add_index};
 ghost use Rattle.aql_doc.specs.Documents.{add};
 ghost use Rattle.aql_doc.specs.Limits.{IsDeclared, IsWithinLimits};
 ghost use Rattle.aql_doc.specs.Meets.{Refuses};
@@ -77,7 +77,7 @@ impl Catalog {
 
     /// The number of the collection with a name; `None` exactly where there is none.
     pub fn find(&self, name: &str) -> Option<CollNo>
-        ensures value { option_map (λ n. n.0) result ≡ place_of self.now name.now }
+        ensures value { option_map (λ n. n.0) result ≡ collection_index self.now name.now }
         ensures within { IfSome result (λ n. n.0 < length self.now) }
     {
         for (i, collection) in self.collections.iter().enumerate() {

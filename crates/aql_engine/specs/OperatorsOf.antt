@@ -5,7 +5,7 @@ use Rattle.std.specs.Prelude.{ℕ, List, [], ◌∷◌, length, Option, Some, No
 use Rattle.aql_plan.specs.declared.facts.Facts.{Facts}
 use Rattle.aql_plan.specs.Plan.{Reading, Plan, Singleton, Over, Node, EnumerateCollection, Index}
 use Rattle.aql_plan.specs.Plan.{Subquery, NoResults, Scatter, Distribute, Remote, Gather}
-use Rattle.aql_plan.specs.Refines.{world}
+use Rattle.aql_plan.specs.Refines.{dataset}
 use Rattle.aql_plan.specs.Runs.{targets}
 use Rattle.aql_exec.specs.Operators as operator
 use Rattle.aql_exec.specs.Operators.{Operator, StartRow, NoRows, ShardRows, OnRows, WithBody, Shards}
@@ -40,7 +40,7 @@ foot (Over b n) = foot b
 
 -- the shards that a fragment reaches
 abbrev pub shards_of : Facts → Plan → List ℕ
-shards_of facts b = targets b (world facts [])
+shards_of facts b = targets b (dataset facts [])
 
 abbrev pub each_tree : (ℕ → OperatorTree) → List ℕ → OperatorTrees
 each_tree tree [] = no_trees

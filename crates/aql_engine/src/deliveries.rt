@@ -7,7 +7,7 @@ ghost use Rattle.aql_exec.specs.Operators.{within, IsTree};
 ghost use Rattle.aql_engine.specs.Tree.{Waits, tree_plan, tree_full, NodeRests, NodeOwn};
 ghost use Rattle.aql_engine.specs.Tree.{NodeValid, NodeRoom};
 
-use crate::tree::{Tree, turn_node};
+use crate::tree::{Tree, run_node};
 use aql_block::Tally;
 use aql_exec::{Delivers, Executor, Feed, Message, Place, Wired};
 use aql_value::OutOfMemory;
@@ -59,7 +59,7 @@ fn work_on<W: Place, X: Wired<W>>(
     let Some(call) = x.received() else {
         return Ok(());
     };
-    turn_node(alloc, x, below, body, 1, world, call, tally)?;
+    run_node(alloc, x, below, body, 1, world, call, tally)?;
     Ok(())
 }
 

@@ -1,7 +1,7 @@
 //! What runs plans, and keeps what came of each.
 
 ghost use Rattle.std.specs.Prelude.{◌≡◌, ◌≤◌, OnOk, OnErr};
-ghost use Rattle.aql_shard.specs.Held.{stock};
+ghost use Rattle.aql_shard.specs.Datasets.{stock};
 ghost use Rattle.aql_engine.specs.Engine.{CanRun, Adds};
 
 use aql_block::Tally;

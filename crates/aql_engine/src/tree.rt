@@ -77,7 +77,7 @@ impl<W: Place, X: Executor<W>> Feed<W> for Tree<X> {
             Tree::Sub(x, below, body) => {
                 let below = &mut **below;
                 let body = &mut **body;
-                let step = turn_node(alloc, x, below, body, 0, world, call, tally)?;
+                let step = run_node(alloc, x, below, body, 0, world, call, tally)?;
                 Ok(step)
             }
         }
@@ -97,7 +97,7 @@ impl<W: Place, X: Executor<W>> Feed<W> for Tree<X> {
 /// Turns the executor of a node at a port until it answers the call; pulls its inputs where it
 /// asks, and begins its body where it says so.
 #[cycle(pull)]
-pub fn turn_node<W: Place, X: Executor<W>>(
+pub fn run_node<W: Place, X: Executor<W>>(
     alloc: Global,
     x: &mut X,
     below: &mut Tree<X>,

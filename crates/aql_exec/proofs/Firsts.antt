@@ -2,14 +2,14 @@
 use Rattle.std.proofs.Common.{◌≡◌, ℕ, ◌+◌, ◌≤◌, List, [], ◌∷◌, ◌++◌, length, map, take, drop, Bool, true, false, cond, not, filter, ◌||◌, refl, sym, ap, ◌∙◌, arith, append_assoc, true≢false}
 use Rattle.std.proofs.lemmas.List.{take-append-drop, map-append, length-map}
 use Rattle.aql_value.specs.Datum.{Datum}
-use Rattle.aql_value.specs.Parts.{same, is_in}
+use Rattle.aql_value.specs.Contents.{same, is_in}
 use Rattle.aql_tree.specs.Tree.{ExprTree}
 use Rattle.aql_func.specs.Lists.{firsts, add, add_all}
 use Rattle.aql_func.proofs.Firsts.{same_is, same_flip}
 use Rattle.aql_meaning.specs.Row.{Row}
 use Rattle.aql_meaning.specs.AtRows.{value_of, values_of}
 use Rattle.aql_plan.specs.Plan as plan
-use Rattle.aql_plan.specs.Runs.{World, result_row}
+use Rattle.aql_plan.specs.Runs.{Dataset, result_row}
 use Rattle.aql_exec.specs.Rests.{Counter, Rest, Ahead}
 use Rattle.aql_exec.specs.Counting.{GivesCounting, nothing}
 use Rattle.aql_exec.specs.FirstResults.{unseen, results_of, shown, seen_after, left_results}
@@ -130,7 +130,7 @@ results_append e seen held rows =
     (unseen (add_all true seen (values_of e held)) (values_of e rows))
 
 -- a RETURN DISTINCT that holds no rows and saw no values gives what its node gives
-pub returns_firsts : (e : ExprTree) (w : World) (start : Row) (rows : List Row) (r : Rest)
+pub returns_firsts : (e : ExprTree) (w : Dataset) (start : Row) (rows : List Row) (r : Rest)
     → left_results e true [] [] rows r → GivesCounting (plan.Return true e) w start rows r.rows r.counts
 returns_firsts e w start rows r h = (h.0 ∙ ap (map result_row) (none_seen (values_of e rows)), h.1)
 

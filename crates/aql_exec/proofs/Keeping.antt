@@ -11,7 +11,7 @@ use Rattle.aql_meaning.specs.Row.{Row}
 use Rattle.aql_meaning.specs.AtRows.{value_of, values_of}
 use Rattle.aql_meaning.specs.Clauses.{filter_true}
 use Rattle.aql_plan.specs.Plan as plan
-use Rattle.aql_plan.specs.Runs.{World}
+use Rattle.aql_plan.specs.Runs.{Dataset}
 use Rattle.aql_block.specs.Tables.{marked}
 use Rattle.aql_block.specs.declared.tally.Tally.{Tally}
 use Rattle.aql_exec.specs.Rests.{Counter, scanned_full, scanned_index, filtered, Rest, Ahead, Rises}
@@ -29,7 +29,7 @@ both e rows = length-filter_both (λ row. truth (value_of e row)) (λ row. not (
     (λ row. refl) rows
 
 -- a FILTER that holds no rows gives what its node gives
-pub filters : (e : ExprTree) (w : World) (start : Row) (rows : List Row) (r : Rest)
+pub filters : (e : ExprTree) (w : Dataset) (start : Row) (rows : List Row) (r : Rest)
     → left_keep e true [] rows r → GivesCounting (plan.Filter e) w start rows r.rows r.counts
 filters e w start rows r h =
     let n = both e rows in

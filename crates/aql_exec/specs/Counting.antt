@@ -9,7 +9,7 @@ use Rattle.aql_meaning.specs.Row.{Row}
 use Rattle.aql_meaning.specs.AtRows.{values_of, passes, stops}
 use Rattle.aql_meaning.specs.Paths.{EdgeStep, steps_from, leaves, enters, Path, end_of, path_row, TraversesPaths, with_paths}
 use Rattle.aql_plan.specs.Plan.{Node, EnumerateCollection, Index, Traversal, Filter}
-use Rattle.aql_plan.specs.Runs.{World, Outside, Gives, read, read_in_bounds, edges_in}
+use Rattle.aql_plan.specs.Runs.{Dataset, Outside, Gives, read, read_in_bounds, edges_in}
 use Rattle.aql_exec.specs.Rests.{Counter, scanned_full, scanned_index, filtered, Counts}
 
 -- three numbers
@@ -39,20 +39,21 @@ path_count w es pruned t = cond (pruned t || not (nat_lt (length t.steps) w.max)
     (sum (map (step_count w.direction (end_of t)) (steps_from w.direction es (end_of t))))
 
 -- the vertex of the start, and all steps
-abbrev pub walk_count : World → TraversalShape → List Datum → MaybeExpr → Row → List Path → ℕ
-walk_count w shape es prune row paths =
+abbrev pub traversal_count : Dataset → TraversalShape → List Datum → MaybeExpr → Row → List Path → ℕ
+traversal_count w shape es prune row paths =
     suc (sum (map (path_count shape es (λ t. stops prune (path_row w.db shape row t))) paths))
 
-abbrev pub walk_counts : World → TraversalShape → List Datum → MaybeExpr → List Row → List (List Path) → ℕ
-walk_counts w shape es prune [] paths = 0
-walk_counts w shape es prune (row ∷ rows) [] = 0
-walk_counts w shape es prune (row ∷ rows) (ts ∷ paths) =
-    walk_count w shape es prune row ts + walk_counts w shape es prune rows paths
+abbrev pub traversal_counts : Dataset → TraversalShape → List Datum → MaybeExpr → List Row → List (List Path)
+    → ℕ
+traversal_counts w shape es prune [] paths = 0
+traversal_counts w shape es prune (row ∷ rows) [] = 0
+traversal_counts w shape es prune (row ∷ rows) (ts ∷ paths) =
+    traversal_count w shape es prune row ts + traversal_counts w shape es prune rows paths
 
 -- ---- nodes
 
 -- a node makes `out` of its rows, outside fragments, and counts so much
-abbrev pub GivesCounting : Node → World → Row → List Row → List Row → Counts → Type 0
+abbrev pub GivesCounting : Node → Dataset → Row → List Row → List Row → Counts → Type 0
 GivesCounting (EnumerateCollection x) w start rows out d =
     Gives (EnumerateCollection x) w Outside start rows out
     × (d scanned_full ≡ size_of_all (λ row. read w x.coll x.shard Outside) rows)
@@ -66,7 +67,8 @@ GivesCounting (Traversal shape e colls prune keep) w start rows out d = (paths :
     × (walked : List Row)
     × TraversesPaths w.db shape (edges_in w.db colls) (stops prune) rows (values_of e rows) paths
     × IsPermutation (with_paths w.db shape rows paths) walked × (out ≡ filter (passes keep) walked)
-    × (d scanned_full ≡ 0) × (d scanned_index ≡ walk_counts w shape (edges_in w.db colls) prune rows paths)
+    × (d scanned_full ≡ 0)
+    × (d scanned_index ≡ traversal_counts w shape (edges_in w.db colls) prune rows paths)
     × (d filtered + length out ≡ length walked)
 GivesCounting (Filter e) w start rows out d = Gives (Filter e) w Outside start rows out
     × (d scanned_full ≡ 0) × (d scanned_index ≡ 0) × (d filtered + length out ≡ length rows)

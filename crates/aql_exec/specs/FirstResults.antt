@@ -2,7 +2,7 @@
 -- operations, RETURN).
 use Rattle.std.specs.Prelude.{◌≡◌, List, [], ◌∷◌, ◌++◌, map, cond, Bool, true, false, refl}
 use Rattle.aql_value.specs.Datum.{Datum}
-use Rattle.aql_value.specs.Parts.{is_in}
+use Rattle.aql_value.specs.Contents.{is_in}
 use Rattle.aql_tree.specs.Tree.{ExprTree}
 use Rattle.aql_func.specs.Lists.{add_all}
 use Rattle.aql_meaning.specs.Row.{Row}

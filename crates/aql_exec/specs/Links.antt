@@ -1,10 +1,10 @@
 -- A delivery: one message is taken off its link.
 use Rattle.std.specs.Prelude.{ℕ, ◌≡◌, List, ◌∷◌, ◌++◌}
-use Rattle.aql_plan.specs.Runs.{World}
+use Rattle.aql_plan.specs.Runs.{Dataset}
 use Rattle.aql_exec.specs.declared.turns.Message.{Message}
 
 -- a message was taken off its link, and nothing else happened
-pub record Taken (stock stock' : World) (links links' : ℕ) (flight flight' : ℕ → List Message) (l : ℕ)
+pub record Taken (stock stock' : Dataset) (links links' : ℕ) (flight flight' : ℕ → List Message) (l : ℕ)
     (m : Message) : Type 0 where
   pub stock_kept : stock' ≡ stock
   pub links_kept : links' ≡ links

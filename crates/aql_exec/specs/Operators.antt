@@ -2,7 +2,7 @@
 -- a tree for each shard that it reaches, and stands in the operator that gathers it; a subquery's body is the
 -- second input of its operator. What each tree produces is said in the words of plans.
 use Rattle.std.specs.Prelude.{ℕ, zero, suc, ◌≡◌, ◌+◌, ◌<◌, ◌≤◌, ◌^◌, List, [], ◌∷◌, map, filter, length, slice_index_or, Bool, true, false, ◌==◌}
-use Rattle.aql_value.specs.Parts.{list}
+use Rattle.aql_value.specs.Contents.{list}
 use Rattle.aql_value.specs.Shards.{shard_of}
 use Rattle.aql_tree.specs.declared.syntax.Ident.{Ident}
 use Rattle.aql_tree.specs.Tree.{ExprTrees}
@@ -14,7 +14,7 @@ use Rattle.aql_plan.specs.Facts.{shards_in}
 use Rattle.aql_plan.specs.Plan.{Node}
 use Rattle.aql_plan.specs.Plan as plan
 use Rattle.aql_plan.specs.Fits.{Fits}
-use Rattle.aql_plan.specs.Runs.{World, result_of}
+use Rattle.aql_plan.specs.Runs.{Dataset, result_of}
 use Rattle.aql_exec.specs.Rests.{Counter, Counts, Rest}
 use Rattle.aql_exec.specs.Counting.{GivesCounting}
 
@@ -66,13 +66,13 @@ EachRow body x (row ∷ rows) outs d = (results : Rest) × (rest : List Row) × 
 -- ---- shards
 
 -- of the rows that a Scatter or Distribute took, those of a shard
-abbrev pub rows_for : Node → World → ℕ → List Row → List Row
+abbrev pub rows_for : Node → Dataset → ℕ → List Row → List Row
 rows_for (plan.Distribute coll es) w shard rows =
     filter (λ row. shard_of (shards_in w.facts coll) (keys_of es row) == shard) rows
 rows_for n w shard rows = rows
 
 -- at a shard's port the rows of this shard; no row at the port at which it is filled
-abbrev pub AtPort : Node → World → List ℕ → ℕ → Rest → Rest → Type 0
+abbrev pub AtPort : Node → Dataset → List ℕ → ℕ → Rest → Rest → Type 0
 AtPort n w shards p ins r =
     (p < length shards → r.rows ≡ rows_for n w (slice_index_or shards p 0) ins.rows)
     × (p ≡ length shards → r.rows ≡ []) × ((c : Counter) → r.counts c ≡ ins.counts c)
@@ -105,7 +105,7 @@ count_of (tree_then t ts) = suc (count_of ts)
 abbrev mutual
   -- an operator may give this rest at a port, where these rows came to its shard, from a start row, for the
   -- lists of a body and a rest of each input
-  pub Makes : Operator → World → List Row → Row → ℕ → (Row → Rest → Type 0) → (ℕ → Rest) → Rest → Type 0
+  pub Makes : Operator → Dataset → List Row → Row → ℕ → (Row → Rest → Type 0) → (ℕ → Rest) → Rest → Type 0
   Makes StartRow w came row p body ins r = one_row row r
   Makes NoRows w came row p body ins r = (r.rows ≡ []) × ((c : Counter) → r.counts c ≡ 0)
   Makes ShardRows w came row p body ins r = (r.rows ≡ came) × ((c : Counter) → r.counts c ≡ 0)
@@ -126,14 +126,14 @@ abbrev mutual
       × (r.rows ≡ own.rows) × ((c : Counter) → r.counts c ≡ own.counts c + filling.counts c)
 
   -- each tree gives a list over a part that its shard may get
-  pub Fragments : OperatorTrees → World → Row → (ℕ → Rest → Type 0) → (ℕ → Rest) → Type 0
+  pub Fragments : OperatorTrees → Dataset → Row → (ℕ → Rest → Type 0) → (ℕ → Rest) → Type 0
   Fragments no_trees w row parts lists = Unit {0}
   Fragments (tree_then t ts) w row parts lists =
       ((part : Rest) × parts 0 part × ProducesOver t w part.rows row (lists 0))
       × Fragments ts w row (λ k. parts (suc k)) (λ k. lists (suc k))
 
   -- a tree may give this rest from a start row, where these rows came to its shard
-  pub ProducesOver : OperatorTree → World → List Row → Row → Rest → Type 0
+  pub ProducesOver : OperatorTree → Dataset → List Row → Row → Rest → Type 0
   ProducesOver (leaf o) w came row r = Makes o w came row 0 one_row (λ k. no_rest) r
   ProducesOver (over o below) w came row r =
       (ins : ℕ → Rest) × ProducesOver below w came row (ins 0) × Makes o w came row 0 one_row ins r
@@ -141,7 +141,7 @@ abbrev mutual
       × Makes o w came row 0 (ProducesOver body w []) ins r
 
 -- outside fragments no rows came
-abbrev pub Produces : OperatorTree → World → Row → Rest → Type 0
+abbrev pub Produces : OperatorTree → Dataset → Row → Rest → Type 0
 Produces t w row r = ProducesOver t w [] row r
 
 abbrev pub height : OperatorTree → ℕ

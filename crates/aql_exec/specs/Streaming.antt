@@ -3,7 +3,7 @@ use Rattle.std.specs.Prelude.{◌≡◌, ℕ, zero, suc, ◌+◌, ◌≤◌, Lis
 use Rattle.std.proofs.Common.{arith}
 use mathlib.Core.Bool.{false≢true}
 use Rattle.aql_meaning.specs.Row.{Row}
-use Rattle.aql_plan.specs.Runs.{World}
+use Rattle.aql_plan.specs.Runs.{Dataset}
 use Rattle.aql_block.specs.declared.calls.Call.{Call}
 use Rattle.aql_exec.specs.Rests.{Counter, Counts, Rest, Ahead}
 use Rattle.aql_exec.specs.Steps.{IsCall}
@@ -47,7 +47,7 @@ module _ {T W : Type 0} (g : Transform.Ghosts T W) (p : Place.Ghosts W) where
       × g.ready s.transform × (s.done ≡ false) × (s.waiting ≡ false)
   AsksAll s (suc k) ask = ⊥
 
-  pub some_stream : ((t : T) (w : World) (rows : List Row) → g.valid t w → (r : Rest) × g.left t w rows r)
+  pub some_stream : ((t : T) (w : Dataset) (rows : List Row) → g.valid t w → (r : Rest) × g.left t w rows r)
       → (s : Stream T) (w : W) (ins : ℕ → Rest) → stream_valid s w → (r : Rest) × gives_stream s w ins r
   some_stream some s w ins v =
       let own = some s.transform (p.stock w) (ins 0).rows v.0 in (

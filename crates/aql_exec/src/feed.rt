@@ -6,7 +6,7 @@ ghost use Rattle.std.specs.Prelude.{◌≡◌, ℕ, ◌+◌, ◌-◌, ◌*◌, �
 ghost use Rattle.std.specs.Prelude.{length, IfOk, OnOk, Bool, true, false};
 ghost use Rattle.aql_meaning.specs.Row as meaning;
 ghost use Rattle.aql_plan.specs.declared.facts.Facts.{Facts};
-ghost use Rattle.aql_plan.specs.Runs.{World};
+ghost use Rattle.aql_plan.specs.Runs.{Dataset};
 ghost use Rattle.aql_block.specs.declared.calls.Call.{Call};
 ghost use Rattle.aql_block.specs.Rows.{row_of};
 ghost use Rattle.aql_exec.specs.declared.turns.Message.{Message};
@@ -24,7 +24,7 @@ use std::alloc::Global;
 /// The world of the feeds.
 pub trait Place {
     /// the documents, which no feed changes
-    ghost stock: { Self → World };
+    ghost stock: { Self → Dataset };
 
     /// how many links there are
     ghost links: { Self → ℕ };

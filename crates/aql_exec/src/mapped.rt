@@ -4,7 +4,7 @@ ghost use Rattle.std.specs.Prelude.{◌≡◌, ℕ, ◌+◌, ◌≤◌, ◌⊎�
 ghost use Rattle.aql_meaning.specs.Row as meaning;
 ghost use Rattle.aql_plan.specs.Plan.{Node};
 ghost use Rattle.aql_plan.specs.Fits.{Fits};
-ghost use Rattle.aql_plan.specs.Runs.{World};
+ghost use Rattle.aql_plan.specs.Runs.{Dataset};
 ghost use Rattle.aql_block.specs.Tables.{rows_of};
 ghost use Rattle.aql_exec.specs.Counting.{GivesCounting, nothing};
 ghost use Rattle.aql_exec.specs.Operators.{OnRows, is_first};
@@ -31,7 +31,7 @@ pub trait RowMap<W: Place> {
         ensures { IfOk result (λ b. rows_of b ≡ map (image self.now) (rows_of block)) };
 
     /// so its node makes them
-    ghost maps: { (s : Self) (w : World) (start : meaning.Row) (rows : List meaning.Row)
+    ghost maps: { (s : Self) (w : Dataset) (start : meaning.Row) (rows : List meaning.Row)
         → GivesCounting (node s) w start rows (map (image s) rows) nothing };
 }
 

@@ -5,7 +5,7 @@ ghost use Rattle.std.specs.Prelude.{Bool, true, false};
 ghost use Rattle.aql_meaning.specs.Row as meaning;
 ghost use Rattle.aql_plan.specs.Plan.{Node};
 ghost use Rattle.aql_plan.specs.Fits.{Fits};
-ghost use Rattle.aql_plan.specs.Runs.{World};
+ghost use Rattle.aql_plan.specs.Runs.{Dataset};
 ghost use Rattle.aql_block.specs.Rows.{row_of};
 ghost use Rattle.aql_block.specs.Tables.{rows_of};
 ghost use Rattle.aql_exec.specs.Rests.{Counts, Rest, Ahead, Rises};
@@ -25,10 +25,10 @@ pub trait Transform<W: Place> {
 
     /// which rows may come of it still, and what is counted on the way, where these rows are still
     /// to be put in
-    ghost left: { Self → World → List meaning.Row → Rest → Type 0 };
+    ghost left: { Self → Dataset → List meaning.Row → Rest → Type 0 };
 
     /// how many rows may come of what it holds
-    ghost held: { Self → World → ℕ };
+    ghost held: { Self → Dataset → ℕ };
 
     /// the block that was put in last is used up
     ghost ready: { Self → Type 0 };
@@ -36,16 +36,16 @@ pub trait Transform<W: Place> {
     /// all rows were put in
     ghost closed: { Self → Bool };
 
-    ghost valid: { Self → World → Type 0 };
+    ghost valid: { Self → Dataset → Type 0 };
 
     /// Forgets what it holds, and starts from this row.
     fn begin(&mut self, alloc: Global, start: &Row) -> Result<(), OutOfMemory>
         ensures node { node self.new ≡ node self.old }
-        ensures valid { OnOk result ((w : World) → valid self.new w) }
+        ensures valid { OnOk result ((w : Dataset) → valid self.new w) }
         ensures ready { OnOk result (ready self.new) }
         ensures closed { OnOk result (closed self.new ≡ false) }
-        ensures held { OnOk result ((w : World) → held self.new w ≡ 0) }
-        ensures left { OnOk result ((w : World) (rows : List meaning.Row) (r : Rest)
+        ensures held { OnOk result ((w : Dataset) → held self.new w ≡ 0) }
+        ensures left { OnOk result ((w : Dataset) (rows : List meaning.Row) (r : Rest)
             → left self.new w rows r
             → GivesCounting (node self.new) w (row_of start.now) rows r.rows r.counts) };
 
@@ -54,22 +54,22 @@ pub trait Transform<W: Place> {
         requires ready { ready self.old }
         requires closed { closed self.old ≡ false }
         ensures node { node self.new ≡ node self.old }
-        ensures valid { OnOk result ((w : World) → valid self.old w → valid self.new w) }
+        ensures valid { OnOk result ((w : Dataset) → valid self.old w → valid self.new w) }
         ensures closed { OnOk result (closed self.new ≡ false) }
         ensures held { OnOk result
-            ((w : World) → held self.new w ≤ held self.old w
+            ((w : Dataset) → held self.new w ≤ held self.old w
             + charge_of (node self.old) * length (rows_of block)) }
-        ensures left { OnOk result ((w : World) (rows : List meaning.Row) (r : Rest)
+        ensures left { OnOk result ((w : Dataset) (rows : List meaning.Row) (r : Rest)
             → left self.new w rows r → left self.old w (rows_of block ++ rows) r) };
 
     /// Nothing more is put in.
     fn close(&mut self)
         requires closed { closed self.old ≡ false }
         ensures node { node self.new ≡ node self.old }
-        ensures valid { (w : World) → valid self.old w → valid self.new w }
+        ensures valid { (w : Dataset) → valid self.old w → valid self.new w }
         ensures closed { closed self.new ≡ true }
-        ensures held { (w : World) → held self.new w ≤ held self.old w }
-        ensures left { (w : World) (r : Rest) → left self.new w [] r → left self.old w [] r };
+        ensures held { (w : Dataset) → held self.new w ≤ held self.old w }
+        ensures left { (w : Dataset) (r : Rest) → left self.new w [] r → left self.old w [] r };
 
     /// The next rows, at most so many; none where it is used up.
     fn next(
@@ -131,6 +131,6 @@ pub trait Transform<W: Place> {
             → r.rows ≡ [])) };
 
     /// there is always a list
-    ghost some: { (s : Self) (w : World) (rows : List meaning.Row) → valid s w
+    ghost some: { (s : Self) (w : Dataset) (rows : List meaning.Row) → valid s w
         → (r : Rest) × left s w rows r };
 }

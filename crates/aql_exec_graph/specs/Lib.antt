@@ -1,6 +1,6 @@
 pub mod Found
 pub mod Searches
-pub mod Walks
+pub mod PendingPaths
 pub mod Chosen
-pub mod Held
+pub mod InProgress
 pub mod laws

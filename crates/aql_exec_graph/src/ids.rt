@@ -1,4 +1,4 @@
-//! The id where a walk starts.
+//! The id where a traversal starts.
 
 ghost use Rattle.std.specs.Prelude.{◌≡◌, IfOk};
 ghost use Rattle.aql_value.specs.View.{datum_of};

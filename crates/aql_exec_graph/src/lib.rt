@@ -5,12 +5,12 @@ mod batch;
 mod breadth_first;
 mod depth_first;
 mod ids;
+mod lookups;
 mod neighbours;
+mod row_traversal;
 mod rows;
 mod search;
-mod steps;
 mod traversal;
-mod walk;
 
 pub use neighbours::{EdgeList, EdgeStep, Neighbours};
 pub use search::Search;

@@ -1,4 +1,4 @@
-//! What walks read.
+//! What traversals read.
 
 ghost use Rattle.std.specs.Prelude.{◌≡◌, ℕ, IfOk, OnOk, IsPermutation};
 ghost use Rattle.std.specs.List.{AllByRecursion};

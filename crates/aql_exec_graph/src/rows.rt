@@ -13,7 +13,7 @@ use aql_tree::Expr;
 use aql_value::{OutOfMemory, truthy};
 use std::alloc::Global;
 
-// Whether PRUNE stops a walk at a row; where there is none, it goes on.
+// Whether PRUNE stops a traversal at a row; where there is none, it goes on.
 pub(crate) fn stops(alloc: Global, prune: &Option<Expr>, row: &Row) -> Result<bool, OutOfMemory>
     requires { MaybePlain (maybe_tree prune.now) }
     ensures { IfOk result (λ b. b ≡ stops (maybe_tree prune.now) (row_of row.now)) }

@@ -9,7 +9,8 @@ use aql_value::{CollNos, OutOfMemory};
 use std::alloc::Global;
 
 /// Under which variables paths are given, and which paths: how long they are, from which start,
-/// over which edges and which way, after which of them the walk stops, and which rows are kept.
+/// over which edges and which way, after which of them the traversal stops, and which rows are
+/// kept.
 #[derive(Drop)]
 pub struct Search {
     pub vertex: u32,
@@ -19,8 +20,8 @@ pub struct Search {
     pub max: u32,
     pub direction: Direction,
     pub unique_edges: UniqueEdges,
-    /// Whether a vertex may come twice on a path, or in the whole walk from a row: under `Global`
-    /// the walk goes breadth first, and each vertex has one path.
+    /// Whether a vertex may come twice on a path, or in the whole traversal from a row: under
+    /// `Global` the traversal goes breadth first, and each vertex has one path.
     pub unique_vertices: UniqueVertices,
     /// Whether paths are asked for breadth first; they come in any order all the same.
     pub bfs: bool,

@@ -3,7 +3,7 @@ use Rattle.std.proofs.Common.{◌≡◌, ℕ, ◌<◌, List, [], ◌∷◌, ◌+
 use Rattle.std.specs.Prelude.{slice_get, option_map, option_to_list}
 use Rattle.aql_value.specs.declared.values.Value.{Value}
 use Rattle.aql_value.specs.Datum.{Datum}
-use Rattle.aql_value.specs.Parts.{list, elements, is_in}
+use Rattle.aql_value.specs.Contents.{list, elements, is_in}
 use Rattle.aql_value.specs.View.{datum_of, datums_in}
 use Rattle.aql_value.specs.laws.Lists.{datum_list-array_of}
 use Rattle.aql_func.specs.Lists.{add}
@@ -14,8 +14,8 @@ use Rattle.aql_meaning.specs.Row.{Row, value_at}
 use Rattle.aql_meaning.specs.AtRows.{keys_of}
 use Rattle.aql_meaning.specs.Groups.{GroupedRow}
 use Rattle.aql_aggregate.specs.declared.staged.StagedKind.{StagedKind}
-use Rattle.aql_exec_rows.specs.Told.{criteria_vars, criteria_trees, seen_by}
-use Rattle.aql_exec_rows.specs.Kept.{seen, key_of, members_of, AreGroups, Holds, Grows, Takes}
+use Rattle.aql_exec_rows.specs.CollectSettings.{criteria_vars, criteria_trees, seen_by}
+use Rattle.aql_exec_rows.specs.GroupStates.{seen, key_of, members_of, AreGroups, Holds, Grows, Takes}
 use Rattle.aql_exec_rows.specs.laws.Members.{new_key}
 use Rattle.aql_exec_rows.specs.declared.grouping.Grouping.{Grouping}
 use Rattle.aql_exec_rows.specs.declared.group.Group.{Group}

@@ -11,7 +11,7 @@ use Rattle.std.proofs.lemmas.List.Sorted.{IsPermutation-map, IsPermutation-refl,
 use Rattle.std.proofs.lemmas.Simd.{map-map}
 use Rattle.aql_value.specs.declared.values.Value.{Value}
 use Rattle.aql_value.specs.Datum.{Datum, null}
-use Rattle.aql_value.specs.Parts.{list, elements, is_below}
+use Rattle.aql_value.specs.Contents.{list, elements, is_below}
 use Rattle.aql_value.specs.Compare.{compare}
 use Rattle.aql_value.specs.View.{datum_of, datums_in}
 use Rattle.aql_func.specs.Lists.{among, sort_values}
@@ -28,9 +28,9 @@ use Rattle.aql_meaning.specs.Visible.{aggregate_vars, into_var}
 use Rattle.aql_meaning.specs.Stages.{stage_functions}
 use Rattle.aql_block.specs.Rows.{row_of}
 use Rattle.aql_aggregate.specs.declared.staged.StagedKind.{StagedKind}
-use Rattle.aql_exec_rows.specs.Told.{criteria_vars, aggregate_trees, into_of, AreKinds}
-use Rattle.aql_exec_rows.specs.Kept.{IsGroup, result_of_members, taken_of, members_of, keys_seen, AreGroups, Holds, Result, finished_of, finished_in, functions_of, result_of, key_of}
-use Rattle.aql_exec_rows.specs.Framed.{numbered, with_taken, framed, IsFrame}
+use Rattle.aql_exec_rows.specs.CollectSettings.{criteria_vars, aggregate_trees, into_of, AreKinds}
+use Rattle.aql_exec_rows.specs.GroupStates.{IsGroup, result_of_members, into_values_of, members_of, keys_seen, AreGroups, Holds, Result, finished_of, finished_in, functions_of, result_of, key_of}
+use Rattle.aql_exec_rows.specs.Framed.{numbered, with_into_values, framed, IsFrame}
 use Rattle.aql_exec_rows.specs.Collecting.{CollectsBy}
 use Rattle.aql_exec_rows.specs.laws.Members.{functions_are}
 use Rattle.aql_exec_rows.specs.declared.grouping.Grouping.{Grouping}
@@ -80,7 +80,7 @@ some_in None = Num 0
 
 pub with_into : (into : Option Into) (n : Option ℕ) (members : List GroupedRow) (row : Row)
     → option_map (λ n. Num n) n ≡ into_var (into_of into)
-    → WithInto (into_var (into_of into)) members row (with_taken n (taken_of into members) row)
+    → WithInto (into_var (into_of into)) members row (with_into_values n (into_values_of into members) row)
 with_into None None members row e = refl
 with_into None (Some n) members row e = absurd (true≢false (ap is_some e))
 with_into (Some i) None members row e = absurd (true≢false (sym (ap is_some e)))
@@ -117,8 +117,8 @@ module _ (g : Grouping) (kinds : List StagedKind) (rows : List GroupedRow) (fram
       (bind_all (numbered frame.criteria.items) (elements key) (row_of frame.start))) is.aggregates
       ∙ ap₂ (λ vs start. bind_all (aggregate_vars (aggregate_trees g.aggregates)) vs start) values inner in
       let out : framed frame (result_of g.into kinds rows key)
-      ≡ with_taken frame.into (taken_of g.into members) row =
-      ap₂ (λ ms row. with_taken frame.into (taken_of g.into ms) row) (sym same) outer in
+      ≡ with_into_values frame.into (into_values_of g.into members) row =
+      ap₂ (λ ms row. with_into_values frame.into (into_values_of g.into ms) row) (sym same) outer in
       subst (λ out. RowOf (elements key) out) (sym out)
       (with_into g.into frame.into members row is.into_is)
 
@@ -198,7 +198,7 @@ one_finished kinds into rows key keys keys' g gs kept all all' f total k e p is 
     subst (AreGroups kinds into rows (key ∷ keys)) turned
     (subst (λ ks. AreGroups kinds into rows ks (reverse kept)) k both.0) in
     let one : finished_of f ≡ result_of into kinds rows key =
-    is kinds (members_of key rows) (taken_of into (members_of key rows)) groups.2 in
+    is kinds (members_of key rows) (into_values_of into (members_of key rows)) groups.2 in
     let left = map (result_of into kinds rows) keys in (
       groups.3,
       ap (λ fs. finished_in fs ++ left) p ∙ ap (λ rs. rs ++ left) (map-append finished_of all (f ∷ []))

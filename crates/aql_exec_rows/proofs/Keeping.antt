@@ -10,7 +10,7 @@ use Rattle.aql_meaning.specs.Groups.{GroupedRow, aggregate_values}
 use Rattle.aql_aggregate.specs.declared.staged.StagedKind.{StagedKind}
 use Rattle.aql_aggregate.specs.declared.staged.StagedAccumulator.{StagedAccumulator}
 use Rattle.aql_aggregate.specs.Staged.{Staged, staged, made, KeepsIn}
-use Rattle.aql_exec_rows.specs.Kept.{KeptAt, AreKept, arguments_of, functions_of}
+use Rattle.aql_exec_rows.specs.GroupStates.{AccumulatesAt, AllAccumulate, arguments_of, functions_of}
 
 -- ---- one more accumulator
 
@@ -27,47 +27,48 @@ found_push (z ∷ zs) x y (suc n) e = by (found_push zs x y n e)
     by (inr e) = inr (ap suc e.0, e.1)
 
 kept_longer : (accs more : List StagedAccumulator) (n : ℕ) (kind : Staged) (ts : List Datum)
-    → KeptAt accs n kind ts → KeptAt (accs ++ more) n kind ts
+    → AccumulatesAt accs n kind ts → AccumulatesAt (accs ++ more) n kind ts
 kept_longer [] more n kind ts h = absurd h
 kept_longer (a ∷ accs) more zero kind ts h = h
 kept_longer (a ∷ accs) more (suc n) kind ts h = kept_longer accs more n kind ts h
 
 kept_last : (accs : List StagedAccumulator) (a : StagedAccumulator) (kind : Staged) (ts : List Datum)
-    → KeepsIn a kind ts → KeptAt (accs ++ a ∷ []) (length accs) kind ts
+    → KeepsIn a kind ts → AccumulatesAt (accs ++ a ∷ []) (length accs) kind ts
 kept_last [] a kind ts h = h
 kept_last (b ∷ accs) a kind ts h = kept_last accs a kind ts h
 
 pub kept_push : (kinds : List StagedKind) (accs : List StagedAccumulator) (k : StagedKind)
-    (a : StagedAccumulator) → length accs ≡ length kinds → KeepsIn a (staged k) [] → AreKept kinds accs []
-    → AreKept (kinds ++ k ∷ []) (accs ++ a ∷ []) []
+    (a : StagedAccumulator) → length accs ≡ length kinds → KeepsIn a (staged k) []
+    → AllAccumulate kinds accs []
+    → AllAccumulate (kinds ++ k ∷ []) (accs ++ a ∷ []) []
 kept_push kinds accs k a l h kept n kind e = by (found_push kinds k kind n e)
   where
     by : (slice_get kinds n ≡ Some kind) ⊎ ((n ≡ length kinds) × (kind ≡ k))
-        → KeptAt (accs ++ a ∷ []) n (staged kind) []
+        → AccumulatesAt (accs ++ a ∷ []) n (staged kind) []
     by (inl e) = kept_longer accs (a ∷ []) n (staged kind) [] (kept n kind e)
-    by (inr e) = subst (λ n. KeptAt (accs ++ a ∷ []) n (staged kind) []) (l ∙ sym e.0)
-        (subst (λ k. KeptAt (accs ++ a ∷ []) (length accs) (staged k) []) (sym e.1)
+    by (inr e) = subst (λ n. AccumulatesAt (accs ++ a ∷ []) n (staged kind) []) (l ∙ sym e.0)
+        (subst (λ k. AccumulatesAt (accs ++ a ∷ []) (length accs) (staged k) []) (sym e.1)
         (kept_last accs a (staged k) [] h))
 
-pub none_kept : (accs : List StagedAccumulator) → AreKept [] accs []
+pub none_kept : (accs : List StagedAccumulator) → AllAccumulate [] accs []
 none_kept accs n kind e = absurd (cc)
 
 -- ---- one member more
 
 kept_here : (accs : List StagedAccumulator) (i : ℕ) (a : StagedAccumulator) (kind : Staged) (ts : List Datum)
-    → a ≡ get_or accs i a → KeptAt accs i kind ts → KeepsIn a kind ts
+    → a ≡ get_or accs i a → AccumulatesAt accs i kind ts → KeepsIn a kind ts
 kept_here [] i a kind ts e h = absurd h
 kept_here (b ∷ accs) zero a kind ts e h = subst (λ a. KeepsIn a kind ts) (sym e) h
 kept_here (b ∷ accs) (suc i) a kind ts e h = kept_here accs i a kind ts e h
 
 set_here : (accs : List StagedAccumulator) (i : ℕ) (a : StagedAccumulator) (kind : Staged) (ts : List Datum)
-    → i < length accs → KeepsIn a kind ts → KeptAt (set accs i a) i kind ts
+    → i < length accs → KeepsIn a kind ts → AccumulatesAt (set accs i a) i kind ts
 set_here [] i a kind ts l h = absurd (omega (arith, l))
 set_here (b ∷ accs) zero a kind ts l h = h
 set_here (b ∷ accs) (suc i) a kind ts l h = set_here accs i a kind ts (omega (arith, l)) h
 
 set_beside : (accs : List StagedAccumulator) (i n : ℕ) (a : StagedAccumulator) (kind : Staged) (ts : List Datum)
-    → (n ≡ i → ⊥) → KeptAt accs n kind ts → KeptAt (set accs i a) n kind ts
+    → (n ≡ i → ⊥) → AccumulatesAt accs n kind ts → AccumulatesAt (set accs i a) n kind ts
 set_beside [] i n a kind ts d h = absurd h
 set_beside (b ∷ accs) zero zero a kind ts d h = absurd (d refl)
 set_beside (b ∷ accs) zero (suc n) a kind ts d h = h
@@ -90,13 +91,13 @@ abbrev pub with_first : ℕ → List Datum → ℕ → List Datum → List Datum
 with_first i vs n ts = cond (nat_lt n i) (ts ++ argument vs n ∷ []) ts
 
 abbrev pub Taking : ℕ → List Datum → List StagedAccumulator → List StagedAccumulator → Type 0
-Taking i vs before accs = (n : ℕ) (kind : Staged) (ts : List Datum) → KeptAt before n kind ts
-    → KeptAt accs n kind (with_first i vs n ts)
+Taking i vs before accs = (n : ℕ) (kind : Staged) (ts : List Datum) → AccumulatesAt before n kind ts
+    → AccumulatesAt accs n kind (with_first i vs n ts)
 
 pub none_taking : (vs : List Datum) (accs : List StagedAccumulator) → Taking 0 vs accs accs
 none_taking vs accs n kind ts h =
     let e : nat_lt n 0 ≡ false = grind arith in
-    subst (λ b. KeptAt accs n kind (cond b (ts ++ argument vs n ∷ []) ts)) (sym e) h
+    subst (λ b. AccumulatesAt accs n kind (cond b (ts ++ argument vs n ∷ []) ts)) (sym e) h
 
 further : (n i : ℕ) → (n ≡ i → ⊥) → nat_lt n (i + 1) ≡ nat_lt n i
 further n i d = by (nat_lt n i) refl
@@ -111,35 +112,36 @@ pub one_taking : (vs : List Datum) (before accs : List StagedAccumulator) (i : �
     → Taking i vs before accs → Taking (i + 1) vs before (set accs i a')
 one_taking vs before accs i a a' e l add taking n kind ts h = by (same_or_not n i)
   where
-    by : (n ≡ i) ⊎ (n ≡ i → ⊥) → KeptAt (set accs i a') n kind (with_first (i + 1) vs n ts)
+    by : (n ≡ i) ⊎ (n ≡ i → ⊥) → AccumulatesAt (set accs i a') n kind (with_first (i + 1) vs n ts)
     by (inl p) =
         let q : nat_lt n i ≡ false = grind (arith, p) in
         let r : nat_lt n (i + 1) ≡ true = grind (arith, p) in
-        let k : KeptAt accs n kind ts = subst (λ b. KeptAt accs n kind (cond b (ts ++ argument vs n ∷ []) ts))
+        let k : AccumulatesAt accs n kind ts = subst
+        (λ b. AccumulatesAt accs n kind (cond b (ts ++ argument vs n ∷ []) ts))
         q (taking n kind ts h) in
-        let k' : KeptAt (set accs i a') i kind (ts ++ argument vs i ∷ []) =
+        let k' : AccumulatesAt (set accs i a') i kind (ts ++ argument vs i ∷ []) =
         set_here accs i a' kind (ts ++ argument vs i ∷ []) l
-        (add kind ts (kept_here accs i a kind ts e (subst (λ n. KeptAt accs n kind ts) p k))) in
-        subst (λ b. KeptAt (set accs i a') n kind (cond b (ts ++ argument vs n ∷ []) ts)) (sym r)
-        (subst (λ n. KeptAt (set accs i a') n kind (ts ++ argument vs n ∷ [])) (sym p) k')
+        (add kind ts (kept_here accs i a kind ts e (subst (λ n. AccumulatesAt accs n kind ts) p k))) in
+        subst (λ b. AccumulatesAt (set accs i a') n kind (cond b (ts ++ argument vs n ∷ []) ts)) (sym r)
+        (subst (λ n. AccumulatesAt (set accs i a') n kind (ts ++ argument vs n ∷ [])) (sym p) k')
     by (inr d) =
         let q : nat_lt n (i + 1) ≡ nat_lt n i = further n i d in
-        subst (λ b. KeptAt (set accs i a') n kind (cond b (ts ++ argument vs n ∷ []) ts)) (sym q)
+        subst (λ b. AccumulatesAt (set accs i a') n kind (cond b (ts ++ argument vs n ∷ []) ts)) (sym q)
         (set_beside accs i n a' kind (with_first i vs n ts) d (taking n kind ts h))
 
-kept_within : (accs : List StagedAccumulator) (n : ℕ) (kind : Staged) (ts : List Datum) → KeptAt accs n kind ts
+kept_within : (accs : List StagedAccumulator) (n : ℕ) (kind : Staged) (ts : List Datum) → AccumulatesAt accs n kind ts
     → n < length accs
 kept_within [] n kind ts h = absurd h
 kept_within (a ∷ accs) zero kind ts h = omega arith
 kept_within (a ∷ accs) (suc n) kind ts h = (let l = kept_within accs n kind ts h in omega (arith, l))
 
 pub all_taking : (vs : List Datum) (before accs : List StagedAccumulator) (i : ℕ) → length before ≡ i
-    → Taking i vs before accs → (n : ℕ) (kind : Staged) (ts : List Datum) → KeptAt before n kind ts
-    → KeptAt accs n kind (ts ++ argument vs n ∷ [])
+    → Taking i vs before accs → (n : ℕ) (kind : Staged) (ts : List Datum) → AccumulatesAt before n kind ts
+    → AccumulatesAt accs n kind (ts ++ argument vs n ∷ [])
 all_taking vs before accs i l taking n kind ts h =
     let w = kept_within before n kind ts h in
     let e : nat_lt n i ≡ true = grind (arith, w, l) in
-    subst (λ b. KeptAt accs n kind (cond b (ts ++ argument vs n ∷ []) ts)) e (taking n kind ts h)
+    subst (λ b. AccumulatesAt accs n kind (cond b (ts ++ argument vs n ∷ []) ts)) e (taking n kind ts h)
 
 -- ---- values
 
@@ -166,7 +168,7 @@ none_left xs k e = (let n = length-drop k xs in let m = ap length e in omega (ar
 pub value_more : (all : List StagedAccumulator) (values : List Datum) (a : StagedAccumulator) (v : Datum)
     (left : List StagedAccumulator) → drop (length values) all ≡ a ∷ left
     → ((kind : Staged) (ts : List Datum) → KeepsIn a kind ts → v ≡ made kind ts)
-    → (kinds : List StagedKind) (members : List GroupedRow) → AreKept kinds all members
+    → (kinds : List StagedKind) (members : List GroupedRow) → AllAccumulate kinds all members
     → length all ≡ length kinds → Values values kinds members → Values (values ++ v ∷ []) kinds members
 value_more all values a v left e f kinds members kept l h = by (drop (length values) kinds) refl
   where

@@ -23,7 +23,7 @@ use Rattle.aql_plan.specs.Fits.{HasArgument}
 use Rattle.aql_plan.specs.View.{maybe_tree}
 use Rattle.aql_aggregate.specs.declared.staged.StagedKind.{StagedKind}
 use Rattle.aql_aggregate.specs.Staged.{Staged, staged}
-use Rattle.aql_exec_rows.specs.Told.{is_number, criteria_vars, criteria_trees, aggregate_trees, in_stage, seen_by, AreKinds}
+use Rattle.aql_exec_rows.specs.CollectSettings.{is_number, criteria_vars, criteria_trees, aggregate_trees, in_stage, seen_by, AreKinds}
 
 -- the item at a place, with those after it
 pub here : {X : Type 0} (xs : List X) (i : ℕ) (x : X) → x ≡ get_or xs i x → i < length xs

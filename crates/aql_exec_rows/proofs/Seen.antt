@@ -6,7 +6,7 @@ use Rattle.std.proofs.lemmas.List.{append-nil, map-append, length-map}
 use Rattle.std.proofs.lemmas.List.Elements.{filter-append}
 use Rattle.std.proofs.lemmas.List.Folds.{list_any-append}
 use Rattle.aql_value.specs.Datum.{Datum, null}
-use Rattle.aql_value.specs.Parts.{list, elements, same, is_in}
+use Rattle.aql_value.specs.Contents.{list, elements, same, is_in}
 use Rattle.aql_value.specs.declared.values.Value.{Value}
 use Rattle.aql_value.specs.View.{datum_of, datums_in}
 use Rattle.aql_func.specs.Arguments.{argument}
@@ -18,8 +18,8 @@ use Rattle.aql_meaning.specs.Groups.{GroupedRow}
 use Rattle.aql_aggregate.specs.declared.staged.StagedKind.{StagedKind}
 use Rattle.aql_aggregate.specs.declared.staged.StagedAccumulator.{StagedAccumulator}
 use Rattle.aql_aggregate.specs.Staged.{Staged, staged}
-use Rattle.aql_exec_rows.specs.Told.{criteria_vars}
-use Rattle.aql_exec_rows.specs.Kept.{KeptAt, AreKept, arguments_of, taken_of, IsGroup, key_of, members_of, keys_seen, AreGroups, Grows, Takes}
+use Rattle.aql_exec_rows.specs.CollectSettings.{criteria_vars}
+use Rattle.aql_exec_rows.specs.GroupStates.{AccumulatesAt, AllAccumulate, arguments_of, into_values_of, IsGroup, key_of, members_of, keys_seen, AreGroups, Grows, Takes}
 use Rattle.aql_exec_rows.specs.laws.Members.{same_self, either_false}
 use Rattle.aql_exec_rows.specs.declared.group.Group.{Group}
 
@@ -67,7 +67,7 @@ module _ (kinds : List StagedKind) (into : Option Into) where
       let e = same_members key rows row (same_flip key (key_of row) ∙ other.0) in (
         a.0,
         a.1,
-        subst (λ ms. IsGroup kinds ms (taken_of into ms) g) (sym e) a.2,
+        subst (λ ms. IsGroup kinds ms (into_values_of into ms) g) (sym e) a.2,
         others_keep rows row keys gs other.1 a.3,
       )
 
@@ -83,8 +83,8 @@ module _ (kinds : List StagedKind) (into : Option Into) where
   -- the group of the row's key takes it
   pub one_row_more : (rows : List GroupedRow) (row : GroupedRow) (keys : List Datum) (gs : List Group) (i : ℕ)
       (g' : Group) → slice_get keys i ≡ Some (key_of row) → AreGroups kinds into rows keys gs
-      → ((ms : List GroupedRow) → IsGroup kinds ms (taken_of into ms) (get_or gs i g')
-      → IsGroup kinds (ms ++ row ∷ []) (taken_of into (ms ++ row ∷ [])) g')
+      → ((ms : List GroupedRow) → IsGroup kinds ms (into_values_of into ms) (get_or gs i g')
+      → IsGroup kinds (ms ++ row ∷ []) (into_values_of into (ms ++ row ∷ [])) g')
       → AreGroups kinds into (rows ++ row ∷ []) keys (set gs i g')
   one_row_more rows row [] [] i g' e a f = tt
   one_row_more rows row [] (g ∷ gs) i g' e a f = absurd a
@@ -94,14 +94,14 @@ module _ (kinds : List StagedKind) (into : Option Into) where
       let m = one_member_more key rows row (ap (same key) (sym k) ∙ same_self key) in (
         a.0,
         a.1,
-        subst (λ ms. IsGroup kinds ms (taken_of into ms) g') (sym m) (f (members_of key rows) a.2),
+        subst (λ ms. IsGroup kinds ms (into_values_of into ms) g') (sym m) (f (members_of key rows) a.2),
         others_keep rows row keys gs (ap (is_in keys) (sym k) ∙ a.1) a.3,
       )
   one_row_more rows row (key ∷ keys) (g ∷ gs) (suc i) g' e a f =
       let m = same_members key rows row (differs_at key (key_of row) keys i e a.1) in (
         a.0,
         a.1,
-        subst (λ ms. IsGroup kinds ms (taken_of into ms) g) (sym m) a.2,
+        subst (λ ms. IsGroup kinds ms (into_values_of into ms) g) (sym m) a.2,
         one_row_more rows row keys gs i g' e a.3 f,
       )
 
@@ -110,10 +110,15 @@ module _ (kinds : List StagedKind) (into : Option Into) where
       → members_of k rows ≡ [] → IsGroup kinds [] [] fresh → (keys : List Datum) (gs : List Group)
       → is_in keys k ≡ false → AreGroups kinds into rows keys gs
       → AreGroups kinds into rows (keys ++ k ∷ []) (gs ++ fresh ∷ [])
-  one_key_more rows k fresh l none is [] [] h a =
-      (l, refl, subst (λ ms. IsGroup kinds ms (taken_of into ms) fresh) (sym none) (none_taken into is), tt)
+  one_key_more rows k fresh l none is [] [] h a = (
+    l,
+    refl,
+    subst (λ ms. IsGroup kinds ms (into_values_of into ms) fresh) (sym none)
+        (none_taken into is),
+    tt,
+  )
     where
-      none_taken : (into : Option Into) → IsGroup kinds [] [] fresh → IsGroup kinds [] (taken_of into []) fresh
+      none_taken : (into : Option Into) → IsGroup kinds [] [] fresh → IsGroup kinds [] (into_values_of into []) fresh
       none_taken None is = is
       none_taken (Some i) is = is
   one_key_more rows k fresh l none is [] (g ∷ gs) h a = absurd a
@@ -160,7 +165,7 @@ listed None = refl
 
 pub taken_more : (into : Option Into) (ms : List GroupedRow) (row : GroupedRow) (v : Option Value)
     → option_map datum_of v ≡ option_map (λ _. row.into_value) into
-    → taken_of into ms ++ map datum_of (option_to_list v) ≡ taken_of into (ms ++ row ∷ [])
+    → into_values_of into ms ++ map datum_of (option_to_list v) ≡ into_values_of into (ms ++ row ∷ [])
 taken_more None ms row v e = listed v ∙ ap option_to_list e
 taken_more (Some i) ms row v e =
     ap (λ ts. map (λ (row : GroupedRow). row.into_value) ms ++ ts) (listed v ∙ ap option_to_list e)
@@ -168,11 +173,11 @@ taken_more (Some i) ms row v e =
 
 pub member_more : (kinds : List StagedKind) (into : Option Into) (ms : List GroupedRow) (row : GroupedRow)
     (v : Option Value) (g g' : Group) → option_map datum_of v ≡ option_map (λ _. row.into_value) into
-    → Takes row.arguments (map datum_of (option_to_list v)) g g' → IsGroup kinds ms (taken_of into ms) g
-    → IsGroup kinds (ms ++ row ∷ []) (taken_of into (ms ++ row ∷ [])) g'
+    → Takes row.arguments (map datum_of (option_to_list v)) g g' → IsGroup kinds ms (into_values_of into ms) g
+    → IsGroup kinds (ms ++ row ∷ []) (into_values_of into (ms ++ row ∷ [])) g'
 member_more kinds into ms row v g g' e t h = record {
   count = t.count ∙ h.count;
-  kept = λ n kind s. subst (KeptAt g'.accumulators.items n (staged kind))
+  kept = λ n kind s. subst (AccumulatesAt g'.accumulators.items n (staged kind))
       (sym (map-append (λ (row : GroupedRow). argument row.arguments n) ms (row ∷ [])))
       (t.kept n (staged kind) (arguments_of n ms) (h.kept n kind s));
   taken_is = t.taken_is ∙ ap (λ ts. ts ++ map datum_of (option_to_list v)) h.taken_is ∙ taken_more into ms row v e;

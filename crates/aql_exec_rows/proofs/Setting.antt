@@ -6,14 +6,14 @@ use Rattle.std.proofs.lemmas.List.{reverse-append, map-append, take-append-drop,
 use Rattle.aql_value.specs.declared.values.Value.{Value}
 use Rattle.aql_value.specs.Datum.{Datum, null}
 use Rattle.aql_value.specs.View.{datum_of, datums_in}
-use Rattle.aql_value.specs.Parts.{list, elements}
+use Rattle.aql_value.specs.Contents.{list, elements}
 use Rattle.aql_func.specs.Arguments.{argument}
 use Rattle.aql_tree.specs.declared.syntax.Ident.{Ident}
 use Rattle.aql_tree.specs.declared.syntax.Ident.TheVariants.{Num}
 use Rattle.aql_meaning.specs.Row.{Row, same_ident, bind, bind_all}
 use Rattle.aql_block.specs.Rows.{row_of, HasAll, only, is_among}
-use Rattle.aql_exec_rows.specs.Kept.{Result, finished_of, finished_in}
-use Rattle.aql_exec_rows.specs.Framed.{numbered, with_taken, framed, FitsFrame}
+use Rattle.aql_exec_rows.specs.GroupStates.{Result, finished_of, finished_in}
+use Rattle.aql_exec_rows.specs.Framed.{numbered, with_into_values, framed, FitsFrame}
 use Rattle.aql_exec_rows.specs.declared.frame.Frame.{Frame}
 use Rattle.aql_exec_rows.specs.declared.group.Finished.{Finished}
 
@@ -49,7 +49,7 @@ all_same (x ∷ xs) (v ∷ vs) (w ∷ ws) row other h =
     all_same xs vs ws (bind x row v) (bind x other w) (bind_same x v w row other h)
 
 taken_same : (n : Option ℕ) (ts us : List Datum) (row other : Row) → HaveSame row other
-    → HaveSame (with_taken n ts row) (with_taken n us other)
+    → HaveSame (with_into_values n ts row) (with_into_values n us other)
 taken_same None ts us row other h = h
 taken_same (Some n) ts us row other h = bind_same (Num n) (list ts) (list us) row other h
 

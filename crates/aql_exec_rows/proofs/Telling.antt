@@ -14,8 +14,8 @@ use Rattle.aql_exec.specs.Counting.{nothing}
 use Rattle.aql_exec.proofs.Handing.{same_rows, same_counts, none_owed}
 use Rattle.aql_exec.proofs.Telling.{led_none}
 use Rattle.aql_aggregate.specs.declared.staged.StagedKind.{StagedKind}
-use Rattle.aql_exec_rows.specs.Told.{AreKinds}
-use Rattle.aql_exec_rows.specs.Kept.{seen, Holds, Result, finished_of, finished_in, result_of}
+use Rattle.aql_exec_rows.specs.CollectSettings.{AreKinds}
+use Rattle.aql_exec_rows.specs.GroupStates.{seen, Holds, Result, finished_of, finished_in, result_of}
 use Rattle.aql_exec_rows.specs.Framed.{framed, IsFrame}
 use Rattle.aql_exec_rows.specs.Collecting.{CollectsBy, Leaves, GivesOver}
 use Rattle.aql_exec_rows.specs.declared.grouping.Grouping.{Grouping}

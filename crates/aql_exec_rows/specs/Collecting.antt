@@ -7,8 +7,8 @@ use Rattle.aql_meaning.specs.Stages.{stage_functions}
 use Rattle.aql_block.specs.declared.calls.Call.{Call}
 use Rattle.aql_block.specs.Rows.{row_of}
 use Rattle.aql_exec.specs.Rests.{Counter, Rest}
-use Rattle.aql_exec_rows.specs.Told.{criteria_vars, aggregate_trees, into_of, AreKinds}
-use Rattle.aql_exec_rows.specs.Kept.{seen, Holds, finished_in}
+use Rattle.aql_exec_rows.specs.CollectSettings.{criteria_vars, aggregate_trees, into_of, AreKinds}
+use Rattle.aql_exec_rows.specs.GroupStates.{seen, Holds, finished_in}
 use Rattle.aql_exec_rows.specs.Framed.{framed, IsFrame}
 use Rattle.aql_exec_rows.specs.declared.grouping.Grouping.{Grouping}
 use Rattle.aql_aggregate.specs.declared.staged.StagedKind.{StagedKind}

@@ -2,7 +2,7 @@ pub mod Keys
 pub mod Sorting
 pub mod Subqueries
 pub mod laws
-pub mod Told
-pub mod Kept
+pub mod CollectSettings
+pub mod GroupStates
 pub mod Framed
 pub mod Collecting

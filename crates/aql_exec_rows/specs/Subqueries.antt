@@ -2,13 +2,13 @@
 -- body gave for the row at hand.
 use Rattle.std.specs.Prelude.{◌≡◌, ℕ, zero, suc, ◌+◌, ◌-◌, ◌*◌, ◌<◌, ◌≤◌, ◌++◌, List, [], ◌∷◌, length, drop, map, Bool, true, false, cond}
 use Rattle.aql_value.specs.Datum.{Datum}
-use Rattle.aql_value.specs.Parts.{list}
+use Rattle.aql_value.specs.Contents.{list}
 use Rattle.aql_value.specs.View.{datums_in}
 use Rattle.aql_tree.specs.declared.syntax.Ident.{Ident}
 use Rattle.aql_tree.specs.declared.syntax.Ident.TheVariants.{Num}
 use Rattle.aql_meaning.specs.Row.{Row, bind}
 use Rattle.aql_meaning.specs.Clauses.{with_values}
-use Rattle.aql_plan.specs.Runs.{World, result_of}
+use Rattle.aql_plan.specs.Runs.{Dataset, result_of}
 use Rattle.aql_block.specs.declared.calls.Call.{Call}
 use Rattle.aql_block.specs.Tables.{rows_of}
 use Rattle.aql_exec.specs.Rests.{Counter, Counts, Rest}
@@ -33,7 +33,7 @@ Leaves inside begun body x held values results below more r = (outs : List Row) 
     × (r.rows ≡ with_values x held values ++ outs)
     × ((c : Counter) → r.counts c ≡ below.counts c + (cond begun (more.counts c) 0 + d c))
 
-abbrev pub gives_subquery : Subquery → World → OperatorTree → (ℕ → Rest) → Rest → Type 0
+abbrev pub gives_subquery : Subquery → Dataset → OperatorTree → (ℕ → Rest) → Rest → Type 0
 gives_subquery s w body ins r = Leaves s.inside s.begun (Produces body w) (Num s.var) (rows_of s.held)
     (datums_in s.values.items) s.results (ins 0) (ins 1) r
 

@@ -9,9 +9,9 @@ ghost use Rattle.aql_block.specs.Tables.{rows_of};
 ghost use Rattle.aql_exec.specs.Steps.{IsCall, InCall, given, told};
 ghost use Rattle.aql_exec.specs.Operators.{OnRows};
 ghost use Rattle.aql_meaning.specs.declared.grouping.Stage.TheVariants.{Whole};
-ghost use Rattle.aql_exec_rows.specs.Told.{node_of, node_at};
+ghost use Rattle.aql_exec_rows.specs.CollectSettings.{node_of, node_at};
 ghost use Rattle.aql_exec_rows.specs.Framed.{FitsFrame, framed};
-ghost use Rattle.aql_exec_rows.specs.Kept.{finished_in};
+ghost use Rattle.aql_exec_rows.specs.GroupStates.{finished_in};
 
 use crate::frame::Frame;
 use crate::group::Finished;

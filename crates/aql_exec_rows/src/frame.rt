@@ -3,16 +3,16 @@
 ghost use Rattle.std.specs.Prelude.{◌≡◌, ◌≤◌, ◌<◌, ◌+◌, ◌++◌, length, map, drop, option_map, option_to_list, reverse, true, IfOk, OnOk};
 ghost use Rattle.std.specs.List.{list_all};
 ghost use Rattle.aql_value.specs.View.{datum_of, datums_in};
-ghost use Rattle.aql_value.specs.Parts.{elements};
+ghost use Rattle.aql_value.specs.Contents.{elements};
 ghost use Rattle.aql_func.specs.Arguments.{argument};
 ghost use Rattle.aql_tree.specs.declared.syntax.Ident.TheVariants.{Num};
 ghost use Rattle.aql_meaning.specs.Row.{bind_all};
 ghost use Rattle.aql_meaning.specs.Visible.{aggregate_vars, into_var};
 ghost use Rattle.aql_block.specs.Rows.{row_of};
 ghost use Rattle.aql_block.specs.Tables.{rows_of};
-ghost use Rattle.aql_exec_rows.specs.Told.{is_number, criteria_vars, aggregate_trees, into_of};
+ghost use Rattle.aql_exec_rows.specs.CollectSettings.{is_number, criteria_vars, aggregate_trees, into_of};
 ghost use Rattle.aql_exec_rows.specs.Framed.{numbered, IsFrame, framed, FitsFrame};
-ghost use Rattle.aql_exec_rows.specs.Kept.{finished_of, finished_in};
+ghost use Rattle.aql_exec_rows.specs.GroupStates.{finished_of, finished_in};
 
 use crate::group::Finished;
 use crate::grouping::{Grouping, number_of};

@@ -8,7 +8,7 @@ ghost use Rattle.aql_func.specs.Arguments.{argument};
 ghost use Rattle.aql_meaning.specs.Groups.{GroupedRow};
 ghost use Rattle.aql_aggregate.specs.Staged.{Staged};
 ghost use Rattle.aql_aggregate.specs.declared.staged.StagedKind.{StagedKind};
-ghost use Rattle.aql_exec_rows.specs.Kept.{KeptAt, IsGroup, Takes, finished_of, result_of_members};
+ghost use Rattle.aql_exec_rows.specs.GroupStates.{AccumulatesAt, IsGroup, Takes, finished_of, result_of_members};
 ghost use Rattle.aql_exec_rows.specs.declared.group.Group.{Group};
 
 use aql_aggregate::{StagedAccumulator, StagedKind};
@@ -108,8 +108,8 @@ fn add_all(
 ) -> Result<(), OutOfMemory>
     requires { length arguments.now ≡ length accumulators.old }
     ensures kept { OnOk result ((n : ℕ) (kind : Staged) (ts : List Datum)
-        → KeptAt accumulators.old n kind ts
-        → KeptAt accumulators.new n kind (ts ++ argument (datums_in arguments.now) n ∷ [])) }
+        → AccumulatesAt accumulators.old n kind ts
+        → AccumulatesAt accumulators.new n kind (ts ++ argument (datums_in arguments.now) n ∷ [])) }
     ensures count { length accumulators.new ≡ length accumulators.old }
 {
     for (at, argument) in arguments.iter().enumerate() {

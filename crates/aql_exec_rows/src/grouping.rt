@@ -3,7 +3,7 @@
 ghost use Rattle.std.specs.Prelude.{◌≡◌, List, length, map, option_map, true, IfOk};
 ghost use Rattle.std.specs.List.{list_all};
 ghost use Rattle.aql_value.specs.Datum.{null};
-ghost use Rattle.aql_value.specs.Parts.{list};
+ghost use Rattle.aql_value.specs.Contents.{list};
 ghost use Rattle.aql_value.specs.View.{datum_of, datums_in};
 ghost use Rattle.aql_func.specs.Aggregates.{aggregate_named};
 ghost use Rattle.aql_tree.specs.declared.syntax.Ident.TheVariants.{Num};
@@ -17,9 +17,9 @@ ghost use Rattle.aql_meaning.specs.Visible.{aggregate_vars};
 ghost use Rattle.aql_plan.specs.Fits.{AllKnown};
 ghost use Rattle.aql_plan.specs.Needs.{sets};
 ghost use Rattle.aql_plan.specs.View.{maybe_tree};
-ghost use Rattle.aql_exec_rows.specs.Told.{is_number, criteria_vars, criteria_trees};
-ghost use Rattle.aql_exec_rows.specs.Told.{aggregate_trees, into_of, seen_by};
-ghost use Rattle.aql_exec_rows.specs.Told.{node_of, AreKinds};
+ghost use Rattle.aql_exec_rows.specs.CollectSettings.{is_number, criteria_vars, criteria_trees};
+ghost use Rattle.aql_exec_rows.specs.CollectSettings.{aggregate_trees, into_of, seen_by};
+ghost use Rattle.aql_exec_rows.specs.CollectSettings.{node_of, AreKinds};
 
 use aql_aggregate::{StagedKind, aggregate_kind};
 use aql_expr::{RowView, eval};
@@ -82,7 +82,7 @@ fn argument<R: RowView>(alloc: Global, arg: &Option<Expr>, row: &R) -> Result<Va
 }
 
 // A copy of the value of a variable; null where the row has no such variable.
-fn found<R: RowView>(alloc: Global, var: &Ident, row: &R) -> Result<Value, OutOfMemory>
+fn value_in_row<R: RowView>(alloc: Global, var: &Ident, row: &R) -> Result<Value, OutOfMemory>
     ensures { IfOk result (λ v. datum_of v ≡ value_at (R.vars row.now) var.now) }
 {
     match var {
@@ -112,7 +112,7 @@ fn criteria_values<R: RowView>(
 }
 
 // What a row has under the variables of the criteria.
-fn criteria_found<R: RowView>(
+fn criteria_in_row<R: RowView>(
     alloc: Global,
     criteria: &[Let],
     row: &R,
@@ -122,7 +122,7 @@ fn criteria_found<R: RowView>(
 {
     let mut values = Items::new(alloc);
     for item in criteria {
-        values.push(found(alloc, &item.var, row)?)?;
+        values.push(value_in_row(alloc, &item.var, row)?)?;
     }
     Ok(values)
 }
@@ -145,7 +145,7 @@ fn argument_values<R: RowView>(
 }
 
 // What a row has under the variables of the aggregates.
-fn arguments_found<R: RowView>(
+fn arguments_in_row<R: RowView>(
     alloc: Global,
     aggregates: &[AggregateItem],
     row: &R,
@@ -155,7 +155,7 @@ fn arguments_found<R: RowView>(
 {
     let mut values = Vec::with_capacity(alloc, aggregates.len())?;
     for item in aggregates {
-        values.push(found(alloc, &item.var, row)?)?;
+        values.push(value_in_row(alloc, &item.var, row)?)?;
     }
     Ok(values)
 }
@@ -170,7 +170,7 @@ impl Grouping {
     {
         let criteria = self.criteria.as_slice();
         let values = match self.stage {
-            Stage::Final => criteria_found(alloc, criteria, row)?,
+            Stage::Final => criteria_in_row(alloc, criteria, row)?,
             Stage::Whole | Stage::Partial => criteria_values(alloc, criteria, row)?,
         };
         Ok(Value::List(values))
@@ -189,13 +189,13 @@ impl Grouping {
     {
         let aggregates = self.aggregates.as_slice();
         match self.stage {
-            Stage::Final => arguments_found(alloc, aggregates, row),
+            Stage::Final => arguments_in_row(alloc, aggregates, row),
             Stage::Whole | Stage::Partial => argument_values(alloc, aggregates, row),
         }
     }
 
     /// What INTO takes of a row; `None` exactly where there is no INTO.
-    pub(crate) fn taken<R: RowView>(
+    pub(crate) fn into_value<R: RowView>(
         &self,
         alloc: Global,
         row: &R,

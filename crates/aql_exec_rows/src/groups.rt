@@ -3,7 +3,7 @@
 ghost use Rattle.std.specs.Prelude.{◌≡◌, List, [], ◌∷◌, ◌++◌, ◌+◌, ◌≤◌, length, map, slice_get, true, Some, IfOk, OnOk};
 ghost use Rattle.aql_value.specs.View.{datum_of, datums_in};
 ghost use Rattle.aql_value.specs.Datum.{Datum};
-ghost use Rattle.aql_value.specs.Parts.{is_in};
+ghost use Rattle.aql_value.specs.Contents.{is_in};
 ghost use Rattle.aql_func.specs.Lists.{add, sort_values};
 ghost use Rattle.aql_meaning.specs.Plain.{AllPlain};
 ghost use Rattle.aql_meaning.specs.Lifted.{IntoPlain};
@@ -12,9 +12,9 @@ ghost use Rattle.aql_plan.specs.Fits.{AllKnown};
 ghost use Rattle.aql_block.specs.Rows.{row_of};
 ghost use Rattle.aql_block.specs.Tables.{rows_of};
 ghost use Rattle.aql_aggregate.specs.declared.staged.StagedKind.{StagedKind};
-ghost use Rattle.aql_exec_rows.specs.Told.{criteria_trees, aggregate_trees, into_of, AreKinds};
+ghost use Rattle.aql_exec_rows.specs.CollectSettings.{criteria_trees, aggregate_trees, into_of, AreKinds};
 ghost use Rattle.aql_exec_rows.specs.declared.grouping.Grouping.{Grouping};
-ghost use Rattle.aql_exec_rows.specs.Kept.{Result, seen, Holds, Grows, finished_in, result_of};
+ghost use Rattle.aql_exec_rows.specs.GroupStates.{Result, seen, Holds, Grows, finished_in, result_of};
 
 use crate::group::{Finished, Group, add_member};
 use crate::grouping::Grouping;
@@ -44,7 +44,7 @@ impl Groups {
     {
         let mut groups = Groups::none(alloc);
         if grouping.criteria.len() == 0 {
-            groups.place(alloc, Value::List(Items::new(alloc)), kinds)?;
+            groups.group_index(alloc, Value::List(Items::new(alloc)), kinds)?;
         }
         Ok(groups)
     }
@@ -108,15 +108,15 @@ impl Groups {
         ensures count { OnOk result (length self.new.kept.items ≤ length self.old.kept.items + 1) }
     {
         let arguments = grouping.arguments(alloc, row)?;
-        let taken = grouping.taken(alloc, row)?;
+        let taken = grouping.into_value(alloc, row)?;
         let key = grouping.key(alloc, row)?;
-        let at = self.place(alloc, key, kinds)?;
+        let at = self.group_index(alloc, key, kinds)?;
         add_member(alloc, &mut self.kept, at, &arguments, taken)?;
         Ok(())
     }
 
     // The place of the group of a key. A new key gets a group without members.
-    fn place(
+    fn group_index(
         &mut self,
         alloc: Global,
         key: Value,

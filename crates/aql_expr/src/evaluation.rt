@@ -16,7 +16,7 @@ ghost use Rattle.aql_meaning.specs.Row.{value_at};
 ghost use Rattle.aql_meaning.specs.Value as spec;
 
 use crate::RowView;
-use crate::parts::{access, attribute, elements, value_or};
+use crate::contents::{access, attribute, elements, value_or};
 use crate::quantifiers::quantify;
 use crate::rows::{copy_of, value_of};
 use aql_func::{BinOp, arity, binary, call, lookup, range, unary};

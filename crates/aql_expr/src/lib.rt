@@ -1,8 +1,8 @@
 //! The value of an expression at a row of variables.
 #![tactic(auto)]
 
+mod contents;
 mod evaluation;
-mod parts;
 mod paths;
 mod quantifiers;
 mod rows;

@@ -8,7 +8,7 @@ ghost use Rattle.aql_meaning.specs.Value as spec;
 ghost use Rattle.aql_expr.specs.Paths.{are_names, is_path};
 
 use crate::RowView;
-use crate::parts::attribute;
+use crate::contents::attribute;
 use crate::rows::value_of;
 use aql_tree::{Expr, Step};
 use aql_value::Value;

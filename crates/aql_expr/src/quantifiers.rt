@@ -5,7 +5,7 @@ ghost use Rattle.aql_value.specs.View.{datum_of, datums_in};
 ghost use Rattle.aql_func.specs.Operators as operators;
 ghost use Rattle.aql_meaning.specs.Expressions as spec;
 
-use crate::parts::elements;
+use crate::contents::elements;
 use aql_func::{BinOp, binary};
 use aql_tree::QuantKind;
 use aql_value::{OutOfMemory, Value, truthy};

@@ -13,7 +13,7 @@ use Rattle.aql_value.specs.declared.values.Value.{Value}
 use Rattle.aql_value.specs.Datum.{Datum}
 use Rattle.aql_value.specs.View.{datum_of, datums_in}
 use Rattle.aql_value.specs.Compare.{compare}
-use Rattle.aql_value.specs.Parts.{same, is_in}
+use Rattle.aql_value.specs.Contents.{same, is_in}
 use Rattle.aql_value.specs.laws.Keyed.{same_from_equal}
 use Rattle.aql_value.specs.laws.Strict.{compare_total}
 use Rattle.aql_func.specs.Lists.{firsts, add}

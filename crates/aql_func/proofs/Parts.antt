@@ -3,7 +3,7 @@ use Rattle.std.proofs.Common.{◌≡◌, ℕ, ℤ, pos, negsuc, zero, suc, ◌+�
 use Rattle.aql_value.specs.declared.values.Value.{Value}
 use Rattle.aql_value.specs.View.{datum_of, datums_in}
 use Rattle.aql_func.specs.Lists.{up_to}
-use Rattle.aql_func.specs.Places.{up_to_place}
+use Rattle.aql_func.specs.Prefixes.{prefix_length}
 
 pub trees_taken : (n : ℕ) (vs : List Value) → datums_in (take n vs) ≡ take n (datums_in vs)
 trees_taken zero vs = refl
@@ -19,7 +19,7 @@ pub trees_counted : (vs : List Value) → length (datums_in vs) ≡ length vs
 trees_counted [] = refl
 trees_counted (v ∷ vs) = ap suc (trees_counted vs)
 
-pub kept_up_to : (k : ℤ) (vs : List Value) → datums_in (take (up_to_place (length vs) k) vs)
+pub kept_up_to : (k : ℤ) (vs : List Value) → datums_in (take (prefix_length (length vs) k) vs)
     ≡ up_to k (datums_in vs)
 kept_up_to (pos k) vs = trees_taken k vs
 kept_up_to (negsuc k) vs = trees_taken (length vs - (k + 1)) vs

@@ -3,7 +3,7 @@ use Rattle.std.proofs.Common.{◌≡◌, List, [], ◌∷◌, ◌++◌, Bool, tr
 use Rattle.std.specs.Prelude.{flat_map}
 use Rattle.std.specs.List.{list_all, list_any}
 use Rattle.aql_value.specs.Datum.{Datum}
-use Rattle.aql_value.specs.Parts.{is_in}
+use Rattle.aql_value.specs.Contents.{is_in}
 use Rattle.aql_func.specs.Lists.{firsts, in_all, in_none}
 use Rattle.aql_func.specs.Sieves.{sift, sieve}
 use Rattle.aql_func.proofs.Firsts.{in_firsts}

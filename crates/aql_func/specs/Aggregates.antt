@@ -6,7 +6,7 @@ use Rattle.std.specs.Int.{int_div_euclid, int_rem_euclid}
 use Rattle.std.specs.List.{list_any}
 use Rattle.std.specs.Str.{str_eq_ignore_ascii_case}
 use Rattle.aql_value.specs.Datum.{Datum, null, boolean, number}
-use Rattle.aql_value.specs.Parts.{list, elements, at_place, is_below}
+use Rattle.aql_value.specs.Contents.{list, elements, at_index, is_below}
 use Rattle.aql_value.specs.Convert.{number_or_null, to_number}
 use Rattle.aql_value.specs.Truth.{truth}
 use Rattle.aql_func.specs.Lists.{distinct}
@@ -107,7 +107,7 @@ join_counts ts = cond (list_any is_null ts) null (number_or_null (exact_sum ts))
 
 -- the part of a state of SUM at a place
 abbrev pub part_at : ℤ → Datum → Datum
-part_at place state = at_place (elements state) place
+part_at place state = at_index (elements state) place
 
 -- the number high * 2 ^ 63 + low of a state of SUM
 abbrev pub state_sum : Datum → ℤ

@@ -3,7 +3,7 @@
 use Rattle.std.specs.Prelude.{ℕ, List, [], ◌∷◌, Bool, true, false, cond, map, unwrap_or, slice_get}
 use Rattle.std.specs.List.{list_all}
 use Rattle.aql_value.specs.Datum.{Datum, null, array, object}
-use Rattle.aql_value.specs.Parts.{elements, attributes}
+use Rattle.aql_value.specs.Contents.{elements, attributes}
 
 -- the argument at a place, null where it was left out
 abbrev pub argument : List Datum → ℕ → Datum

@@ -1,7 +1,7 @@
 -- The attributes that are named, or the others; for private clauses.
 use Rattle.std.specs.Prelude.{ℕ, List, Bool, cond, not, filter}
 use Rattle.aql_value.specs.Datum.{Datum, text}
-use Rattle.aql_value.specs.Parts.{is_in}
+use Rattle.aql_value.specs.Contents.{is_in}
 
 abbrev pub is_chosen : Bool → List Datum → List ℕ → Bool
 is_chosen present names name = cond present (is_in names (text name)) (not (is_in names (text name)))

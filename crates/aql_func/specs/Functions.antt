@@ -3,7 +3,7 @@
 -- wanted, everything else gives null.
 use Rattle.std.specs.Prelude.{ℕ, pos, negsuc, List, [], ◌∷◌, Bool, cond, flat_map, map, length, take, drop, reverse, codes, None, Some, max as larger, false, chars, bytes_eq, unsigned_abs, is_some}
 use Rattle.aql_value.specs.Datum.{Datum, null, boolean, number, text, array, object}
-use Rattle.aql_value.specs.Parts.{list, record_of, elements, attributes, at_place, is_in}
+use Rattle.aql_value.specs.Contents.{list, record_of, elements, attributes, at_index, is_in}
 use Rattle.aql_value.specs.Attributes.{attribute}
 use Rattle.aql_value.specs.Convert.{number_or_null, to_number, to_text}
 use Rattle.aql_value.specs.Truth.{truth}
@@ -101,7 +101,7 @@ call StartsWith (value ∷ prefix ∷ []) = boolean (begins_with (to_text value)
 call Split (value ∷ separator ∷ []) = list (map (λ s. text s) (parts_of (to_text separator) (to_text value)))
 call Reverse (value ∷ []) = reverse_value value
 call First (any_array ∷ []) = of_list any_array (λ ts. nth ts (pos 0))
-call Last (any_array ∷ []) = of_list any_array (λ ts. at_place ts (negsuc 0))
+call Last (any_array ∷ []) = of_list any_array (λ ts. at_index ts (negsuc 0))
 call Nth (any_array ∷ place ∷ []) = of_list any_array (λ ts. nth ts (to_number place))
 call Position (any_array ∷ sought ∷ []) = of_list any_array (λ ts. boolean (is_in ts sought))
 call Push (any_array ∷ value ∷ []) = append_to any_array false (value ∷ [])

@@ -11,7 +11,7 @@ pub mod Objects
 pub mod Signatures
 pub mod Optional
 pub mod Sieves
-pub mod Places
+pub mod Prefixes
 pub mod Joins
 pub mod Pieces
 pub mod Choices

@@ -3,7 +3,7 @@
 use Rattle.std.specs.Prelude.{ℕ, zero, suc, ℤ, pos, negsuc, ◌+◌, ◌-◌, List, [], ◌∷◌, ◌++◌, Bool, cond, not, ◌&&◌, filter, flat_map, fold, length, take, drop, Option, None, Some, unwrap_or, slice_get}
 use Rattle.std.specs.List.{list_any, list_all}
 use Rattle.aql_value.specs.Datum.{Datum, null, array}
-use Rattle.aql_value.specs.Parts.{is_below, is_in, same, datum_list}
+use Rattle.aql_value.specs.Contents.{is_below, is_in, same, datum_list}
 use Rattle.aql_value.specs.Convert.{to_number}
 
 -- t in its place among ascending values
@@ -48,9 +48,9 @@ abbrev pub add_all : Bool → List Datum → List Datum → List Datum
 add_all once ts us = fold (add once) ts us
 
 -- where a number points in a list of this size: a negative one counts from the end, and not past the front
-abbrev pub place_from : ℕ → ℤ → ℕ
-place_from size (pos n) = n
-place_from size (negsuc n) = size - (n + 1)
+abbrev pub index_from : ℕ → ℤ → ℕ
+index_from size (pos n) = n
+index_from size (negsuc n) = size - (n + 1)
 
 -- how many a number asks for: a negative one none
 abbrev pub how_many : ℤ → ℕ
@@ -73,8 +73,8 @@ up_to (negsuc k) ts = take (length ts - (k + 1)) ts
 
 -- the list from a place on, up to a number of elements where it is given
 abbrev pub slice : ℤ → Option Datum → List Datum → List Datum
-slice start None ts = drop (place_from (length ts) start) ts
-slice start (Some k) ts = up_to (to_number k) (drop (place_from (length ts) start) ts)
+slice start None ts = drop (index_from (length ts) start) ts
+slice start (Some k) ts = up_to (to_number k) (drop (index_from (length ts) start) ts)
 
 -- the element at a place, null where there is none
 abbrev pub nth : List Datum → ℤ → Datum

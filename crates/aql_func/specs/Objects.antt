@@ -3,7 +3,7 @@
 use Rattle.std.specs.Prelude.{ℕ, List, [], ◌∷◌, Bool, cond, not, ◌&&◌, ◌==◌, filter, flat_map, fold, length, codes, Option, None, Some, unwrap_or, option_map}
 use Rattle.std.specs.List.{list_any, list_all, before_first, after_first}
 use Rattle.aql_value.specs.Datum.{Datum, null, text, object}
-use Rattle.aql_value.specs.Parts.{record_of, attributes, at_name, is_in}
+use Rattle.aql_value.specs.Contents.{record_of, attributes, at_name, is_in}
 use Rattle.aql_value.specs.Attributes.{with_attribute}
 use Rattle.aql_func.specs.Arguments.{is_object, elements_or_self}
 

@@ -3,7 +3,7 @@
 use Rattle.std.specs.Prelude.{ℕ, zero, suc, ℤ, pos, negsuc, ◌+ℤ◌, ◌-ℤ◌, ◌*ℤ◌, neg_ℤ, int_div, int_rem, int_le, unsigned_abs, ◌+◌, List, [], ◌∷◌, cond, not, nat_le}
 use Rattle.std.specs.Ordering.{int_eq}
 use Rattle.aql_value.specs.Datum.{Datum, null, boolean, number}
-use Rattle.aql_value.specs.Parts.{list, elements, same, is_below, is_in}
+use Rattle.aql_value.specs.Contents.{list, elements, same, is_below, is_in}
 use Rattle.aql_value.specs.Convert.{number_or_null, to_number}
 use Rattle.aql_value.specs.Truth.{truth}
 use Rattle.aql_value.specs.declared.operators.BinOp.{BinOp}

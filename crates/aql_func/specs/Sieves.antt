@@ -1,7 +1,7 @@
 -- One step of an intersection or a difference, for private clauses.
 use Rattle.std.specs.Prelude.{List, [], ◌∷◌, Bool, cond, not, filter}
 use Rattle.aql_value.specs.Datum.{Datum}
-use Rattle.aql_value.specs.Parts.{is_in}
+use Rattle.aql_value.specs.Contents.{is_in}
 
 -- the values that are in `other` where `present` says so, and else those that are not
 abbrev pub sift : Bool → List Datum → List Datum → List Datum

@@ -4,7 +4,7 @@ use Rattle.std.specs.Prelude.{ℕ, zero, suc, ℤ, List, [], ◌∷◌, ◌++◌
 use Rattle.std.specs.List.{list_any, starts_with}
 use Rattle.std.specs.Bool.{nat_eq}
 use Rattle.aql_value.specs.Datum.{Datum}
-use Rattle.aql_func.specs.Lists.{at_most, place_from}
+use Rattle.aql_func.specs.Lists.{at_most, index_from}
 
 -- the text of what f makes of a text's characters
 abbrev pub by_characters : (List ℕ → List ℕ) → List ℕ → List ℕ
@@ -12,7 +12,7 @@ by_characters f s = encode_utf8_all (f (chars s))
 
 -- from a place on, at most so many characters where a number is given
 abbrev pub substring : ℤ → Option Datum → List ℕ → List ℕ
-substring start count s = by_characters (λ cs. at_most count (drop (place_from (length cs) start) cs)) s
+substring start count s = by_characters (λ cs. at_most count (drop (index_from (length cs) start) cs)) s
 
 -- what is left of the list after each of its starts, the list itself first
 abbrev pub suffixes : List ℕ → List (List ℕ)

@@ -1,6 +1,6 @@
 // What a function asks of an argument: its kind, its elements, its attributes.
 ghost use Rattle.std.specs.Prelude.{[], ◌≡◌, IfOk, is_some, option_map, unwrap_or};
-ghost use Rattle.aql_value.specs.Parts.{attributes, elements};
+ghost use Rattle.aql_value.specs.Contents.{attributes, elements};
 ghost use Rattle.aql_value.specs.View.{datum_of, datums_in};
 ghost use Rattle.aql_func.specs.Aggregates as spec;
 ghost use Rattle.aql_func.specs.Arguments as given_args;

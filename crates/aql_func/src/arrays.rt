@@ -1,8 +1,8 @@
 // Functions of one array.
 ghost use Rattle.std.specs.Prelude.{[], ◌≡◌, IfOk, is_some, negsuc, option_map, unwrap_or};
 ghost use Rattle.aql_value.specs.Convert as convert;
-ghost use Rattle.aql_value.specs.Parts as parts;
-ghost use Rattle.aql_value.specs.Parts.{at_place, elements, list};
+ghost use Rattle.aql_value.specs.Contents as contents;
+ghost use Rattle.aql_value.specs.Contents.{at_index, elements, list};
 ghost use Rattle.aql_value.specs.View.{datum_of, datums_in};
 ghost use Rattle.aql_func.specs.Arguments.{is_array, of_list};
 ghost use Rattle.aql_func.specs.Functions as functions;
@@ -46,7 +46,7 @@ pub(crate) fn last(alloc: Global, args: &Items) -> Result<Value, OutOfMemory>
 }
 
 fn last_element(alloc: Global, list: &Items) -> Result<Value, OutOfMemory>
-    ensures { IfOk result (λ v. datum_of v ≡ at_place list.now (negsuc 0)) }
+    ensures { IfOk result (λ v. datum_of v ≡ at_index list.now (negsuc 0)) }
 {
     match list.len().checked_sub(1) {
         Some(place) => value_at(alloc, list, place),
@@ -77,7 +77,7 @@ fn element(alloc: Global, list: &Items, place: i64) -> Result<Value, OutOfMemory
 
 // Whether a value is one of these.
 pub(crate) fn is_in(values: &[Value], value: &Value) -> bool
-    ensures { result ≡ parts.is_in (datums_in values.now) (datum_of value.now) }
+    ensures { result ≡ contents.is_in (datums_in values.now) (datum_of value.now) }
 {
     values.contains(value)
 }

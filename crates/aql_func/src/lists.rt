@@ -1,9 +1,9 @@
 // Lists of values: copies, parts, order and distinct values.
 ghost use Rattle.std.specs.Prelude.{[], ◌++◌, ◌∷◌, ◌≡◌, cond, drop, false, IfOk, not, OnOk, take, true};
-ghost use Rattle.aql_value.specs.Parts.{is_in};
+ghost use Rattle.aql_value.specs.Contents.{is_in};
 ghost use Rattle.aql_value.specs.View.{datum_of, datums_in};
 ghost use Rattle.aql_func.specs.Lists as spec;
-ghost use Rattle.aql_func.specs.Places.{up_to_place};
+ghost use Rattle.aql_func.specs.Prefixes.{prefix_length};
 ghost use Rattle.aql_func.specs.Optional.{optional_datum};
 ghost use Rattle.aql_func.specs.Sieves.{sift};
 
@@ -136,8 +136,8 @@ fn sift_by(
 }
 
 // Where a number points in a list of this size.
-pub(crate) fn place_from(size: usize, number: i64) -> usize
-    ensures { result ≡ spec.place_from size number }
+pub(crate) fn index_from(size: usize, number: i64) -> usize
+    ensures { result ≡ spec.index_from size number }
 {
     match usize::try_from(number) {
         Ok(place) => place,
@@ -193,11 +193,11 @@ pub(crate) fn last_of<T>(items: &[T], count: usize) -> &[T]
 fn up_to(values: &[Value], count: i64) -> &[Value]
     ensures { datums_in result.now ≡ spec.up_to count (datums_in values.now) }
 {
-    front(values, places_up_to(values.len(), count))
+    front(values, count_up_to(values.len(), count))
 }
 
-fn places_up_to(size: usize, count: i64) -> usize
-    ensures { result ≡ up_to_place size count }
+fn count_up_to(size: usize, count: i64) -> usize
+    ensures { result ≡ prefix_length size count }
 {
     match usize::try_from(count) {
         Ok(count) => count,
@@ -209,7 +209,7 @@ pub(crate) fn slice<'a>(values: &'a [Value], start: i64, count: Option<&Value>) 
     ensures { datums_in result.now
         ≡ spec.slice start (optional_datum count.entry) (datums_in values.now) }
 {
-    let rest = rest_from(values, place_from(values.len(), start));
+    let rest = rest_from(values, index_from(values.len(), start));
     match count {
         Some(count) => up_to(rest, to_number(count)),
         None => rest,

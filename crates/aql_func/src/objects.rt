@@ -2,7 +2,7 @@
 ghost use Rattle.std.specs.List.{after_first, before_first};
 ghost use Rattle.std.specs.Prelude.{[], ◌∷◌, ◌≡◌, codes, flat_map, IfOk, IfSome, is_some, List, map, OnOk, ℕ};
 ghost use Rattle.aql_value.specs.Attributes.{attribute, with_attribute};
-ghost use Rattle.aql_value.specs.Parts.{is_in, record_of};
+ghost use Rattle.aql_value.specs.Contents.{is_in, record_of};
 ghost use Rattle.aql_value.specs.Datum.{object_of, text, Datum};
 ghost use Rattle.aql_value.specs.View.{datum_of, datums_in};
 ghost use Rattle.aql_value.specs.WellFormed.{FieldsWellFormed};

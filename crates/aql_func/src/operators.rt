@@ -1,5 +1,5 @@
 ghost use Rattle.std.specs.Prelude.{◌≡◌, IfOk, IsOkAnd};
-ghost use Rattle.aql_value.specs.Parts as parts;
+ghost use Rattle.aql_value.specs.Contents as contents;
 ghost use Rattle.aql_value.specs.View.{datum_of};
 ghost use Rattle.aql_func.specs.Operators as spec;
 
@@ -60,7 +60,7 @@ fn either(alloc: Global, a: &Value, b: &Value) -> Result<Value, OutOfMemory>
 }
 
 fn is_among(a: &Value, b: &Value) -> bool
-    ensures { result ≡ parts.is_in (parts.elements (datum_of b.now)) (datum_of a.now) }
+    ensures { result ≡ contents.is_in (contents.elements (datum_of b.now)) (datum_of a.now) }
 {
     match array(b) {
         Some(list) => is_in(list.as_slice(), a),

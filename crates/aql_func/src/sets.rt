@@ -1,8 +1,8 @@
 // Functions of several arrays.
 ghost use Rattle.std.specs.List.{list_all};
 ghost use Rattle.std.specs.Prelude.{◌≡◌, drop, flat_map, IfOk, map};
-ghost use Rattle.aql_value.specs.Parts as parts;
-ghost use Rattle.aql_value.specs.Parts.{list};
+ghost use Rattle.aql_value.specs.Contents as contents;
+ghost use Rattle.aql_value.specs.Contents.{list};
 ghost use Rattle.aql_value.specs.View.{datum_of, datums_in};
 ghost use Rattle.aql_func.specs.Arguments as given_args;
 ghost use Rattle.aql_func.specs.Arguments.{of_lists};
@@ -29,7 +29,7 @@ fn all_arrays(args: &[Value]) -> bool
 
 // The elements of an array; everything else has none.
 fn elements(value: &Value) -> &[Value]
-    ensures { datums_in result.now ≡ parts.elements (datum_of value.now) }
+    ensures { datums_in result.now ≡ contents.elements (datum_of value.now) }
 {
     match array(value) {
         Some(list) => list.as_slice(),
@@ -74,7 +74,7 @@ fn sieve_through(
     present: bool,
 ) -> Result<Vec<Value>, OutOfMemory>
     ensures { IfOk result (λ w. datums_in w.items
-        ≡ sieve present (map parts.elements (datums_in others.now)) (datums_in values.now)) }
+        ≡ sieve present (map contents.elements (datums_in others.now)) (datums_in values.now)) }
 {
     let mut left = Vec::new(alloc);
     append(alloc, &mut left, values)?;
@@ -109,7 +109,7 @@ pub(crate) fn union_distinct(alloc: Global, args: &Items) -> Result<Value, OutOf
 // The elements of all the arrays, in order.
 fn gather(alloc: Global, lists: &[Value]) -> Result<Vec<Value>, OutOfMemory>
     ensures { IfOk result (λ w. datums_in w.items
-        ≡ flat_map (λ ts. ts) (map parts.elements (datums_in lists.now))) }
+        ≡ flat_map (λ ts. ts) (map contents.elements (datums_in lists.now))) }
 {
     let mut out = Vec::new(alloc);
     for list in lists {

@@ -12,7 +12,7 @@ ghost use Rattle.aql_func.specs.Texts.{begins_with, occurs_in, parts_of};
 
 use crate::FuncName;
 use crate::arguments::{array, is_null};
-use crate::lists::{at_most, front, how_many, last_of, place_from, rest_from};
+use crate::lists::{at_most, front, how_many, index_from, last_of, rest_from};
 use aql_value::{Items, OutOfMemory, Text, Value, to_number, to_text};
 use std::alloc::Global;
 
@@ -54,7 +54,7 @@ fn part(
 {
     let text = to_text(alloc, value)?;
     let characters = characters(alloc, text.as_str())?;
-    let start = place_from(characters.len(), to_number(offset));
+    let start = index_from(characters.len(), to_number(offset));
     let part = at_most(rest_from(&characters, start), count);
     text_of(alloc, part).map(Value::Text)
 }

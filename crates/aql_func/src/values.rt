@@ -2,7 +2,7 @@
 ghost use Rattle.std.specs.Prelude.{[], ◌∷◌, ◌≡◌, chars, IfOk, length, pos, reverse};
 ghost use Rattle.aql_value.specs.Convert as convert;
 ghost use Rattle.aql_value.specs.Convert.{number_or_null};
-ghost use Rattle.aql_value.specs.Parts.{list};
+ghost use Rattle.aql_value.specs.Contents.{list};
 ghost use Rattle.aql_value.specs.View.{datum_of, datums_in};
 ghost use Rattle.aql_func.specs.Functions as spec;
 ghost use Rattle.aql_func.specs.Functions.{call};

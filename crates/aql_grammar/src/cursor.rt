@@ -47,7 +47,7 @@ impl<'a> Cursor<'a> {
     }
 
     /// How many tokens are left.
-    pub fn left(&self) -> usize
+    pub fn remaining(&self) -> usize
         ensures { result ≡ length self.now }
     {
         self.rest.len()
@@ -239,7 +239,7 @@ impl<'a> Cursor<'a> {
         ensures { Reads (input.comma_list input.name self.old) result self.new }
     {
         let mut found = Seq::new(alloc);
-        for _turn in 0..self.left() {
+        for _turn in 0..self.remaining() {
             found.push(self.name(alloc)?)?;
             if !self.eat(Symbol::Comma) {
                 return Ok(found);

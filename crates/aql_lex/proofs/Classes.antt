@@ -13,7 +13,7 @@ use Rattle.aql_lex.specs.Vocabulary.{is_word, spelling_of}
 use Rattle.aql_lex.specs.Numbers.{are_digits}
 use Rattle.aql_lex.specs.Tokens.{Separates, IsToken}
 use Rattle.aql_lex.specs.Faults.{Breaks}
-use Rattle.aql_lex.specs.Steps.{begins_comment, is_other}
+use Rattle.aql_lex.specs.Scans.{begins_comment, is_other}
 use Rattle.aql_lex.proofs.Runs.{and_left}
 use Rattle.aql_lex.proofs.Spellings.{symbol_begins}
 

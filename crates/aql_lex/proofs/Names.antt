@@ -14,7 +14,7 @@ use Rattle.aql_lex.specs.Vocabulary.{is_word, spelling_of}
 use Rattle.aql_lex.specs.Tokens.{ClosesFirst, Separates, IsToken}
 use Rattle.aql_lex.specs.Faults.{Breaks, Faults}
 use Rattle.aql_lex.specs.Reading.{NoSeparator, NoFault, IsLongest}
-use Rattle.aql_lex.specs.Steps.{begins_comment, is_other, NoSymbol, IsLongestSymbol}
+use Rattle.aql_lex.specs.Scans.{begins_comment, is_other, NoSymbol, IsLongestSymbol}
 use Rattle.aql_lex.proofs.Runs.{IsRun, run_longest, and_left, and_right, and_both, one_split, no_split}
 use Rattle.aql_lex.proofs.Classes.{letter, tick, other, front, front_begins, digits_front}
 use Rattle.aql_lex.proofs.Classes.{separates_front, class-letter, class-tick, class-quote, class-slash}

@@ -17,7 +17,7 @@ use Rattle.aql_lex.specs.Texts.{Writes, escape, code_unit, second_half, unicode_
 use Rattle.aql_lex.specs.Tokens.{IsToken}
 use Rattle.aql_lex.specs.Faults.{Breaks, Faults}
 use Rattle.aql_lex.specs.Reading.{NoSeparator, NoFault, IsLongest}
-use Rattle.aql_lex.specs.Steps.{EndsInAscii}
+use Rattle.aql_lex.specs.Scans.{EndsInAscii}
 use Rattle.aql_lex.proofs.Classes.{quote, front, digits_front, class-tick, class-quote, class-slash}
 use Rattle.aql_lex.proofs.Classes.{token_front, no_separator}
 use Rattle.aql_lex.proofs.Separators.{no_fault}

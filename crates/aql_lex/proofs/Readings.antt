@@ -20,7 +20,7 @@ use Rattle.aql_lex.specs.Texts.{Writes}
 use Rattle.aql_lex.specs.Tokens.{Separates, IsToken, IsUnsigned}
 use Rattle.aql_lex.specs.Faults.{Breaks, Faults}
 use Rattle.aql_lex.specs.Reading.{NoSeparator, NoFault, IsLongest, Reads, Lexes, Stops}
-use Rattle.aql_lex.specs.Steps.{begins_comment, is_other}
+use Rattle.aql_lex.specs.Scans.{begins_comment, is_other}
 use Rattle.aql_lex.proofs.Runs.{one_split, one_end, one_run}
 use Rattle.aql_lex.proofs.Spellings.{one_keyword, one_symbol, symbol_begins}
 use Rattle.aql_lex.proofs.Classes.{Class, front, digits_front, class-quote, class-tick, comment_front}

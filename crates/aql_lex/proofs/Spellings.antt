@@ -10,7 +10,7 @@ use Rattle.aql_lex.specs.declared.vocabulary.Symbol.{Symbol}
 use Rattle.aql_lex.specs.declared.vocabulary.Symbol.TheVariants as s
 use Rattle.aql_lex.specs.Characters.{begins}
 use Rattle.aql_lex.specs.Vocabulary.{name_of, IsReserved, spelling_of}
-use Rattle.aql_lex.specs.Steps.{is_other}
+use Rattle.aql_lex.specs.Scans.{is_other}
 
 unfoldable every_keyword : List Keyword
 every_keyword =

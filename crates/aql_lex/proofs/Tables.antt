@@ -10,7 +10,7 @@ use denote.Ref.{Bor}
 use Rattle.aql_lex.specs.declared.vocabulary.Keyword.{Keyword}
 use Rattle.aql_lex.specs.declared.vocabulary.Symbol.{Symbol}
 use Rattle.aql_lex.specs.Vocabulary.{name_of, IsReserved, spelling_of}
-use Rattle.aql_lex.specs.Steps.{lines_of, IsTable, longer_first, NoSymbol, IsLongestSymbol}
+use Rattle.aql_lex.specs.Scans.{lines_of, IsTable, longer_first, NoSymbol, IsLongestSymbol}
 use Rattle.aql_lex.proofs.Runs.{and_left, and_right}
 
 -- in a table with the longer spellings first, a later line is no longer

@@ -5,4 +5,4 @@ pub mod Texts
 pub mod Tokens
 pub mod Faults
 pub mod Reading
-pub mod Steps
+pub mod Scans

@@ -5,7 +5,7 @@ mod characters;
 mod faults;
 mod kinds;
 mod reading;
-mod steps;
+mod scans;
 mod texts;
 mod vocabulary;
 

@@ -6,7 +6,7 @@ ghost use Rattle.aql_lex.specs.Tokens.{IsUnsigned};
 ghost use Rattle.aql_lex.specs.Reading.{Lexes, Stops, HasOneReading};
 
 use crate::characters::first_character;
-use crate::steps::{Step, take};
+use crate::scans::{Scan, take};
 use crate::{LexFault, Token, Tokens};
 use aql_value::OutOfMemory;
 use std::alloc::Global;
@@ -34,13 +34,13 @@ pub fn lex(alloc: Global, text: &str) -> Result<Tokens, LexFault>
     while let Some((character, inner)) = first_character(left) {
         let start = (text.len() - left.len()) as u32;
         match take(alloc, left, character, inner) {
-            Ok(Step::Separator(rest)) => left = rest,
-            Ok(Step::Token(kind, rest)) => {
+            Ok(Scan::Separator(rest)) => left = rest,
+            Ok(Scan::Token(kind, rest)) => {
                 let end = (text.len() - rest.len()) as u32;
                 tokens.push(Token { start, end, kind })?;
                 left = rest;
             }
-            Ok(Step::Fault(kind, at)) => {
+            Ok(Scan::Fault(kind, at)) => {
                 let place = (text.len() - at.len()) as u32;
                 return Err(LexFault::At { place, kind });
             }

@@ -4,11 +4,11 @@ ghost use Rattle.std.specs.Char.{digit_value};
 ghost use Rattle.std.specs.Char.Utf16.{is_high_surrogate};
 ghost use Rattle.aql_lex.specs.Characters.{is_quote};
 ghost use Rattle.aql_lex.specs.Texts.{simple_escape, code_unit, second_half, escape, unicode_escape};
-ghost use Rattle.aql_lex.specs.Steps.{Takes, EndsInAscii, Leaves};
+ghost use Rattle.aql_lex.specs.Scans.{Takes, EndsInAscii, Leaves};
 ghost use Rattle.std.specs.Option.{SomeIff};
 
 use crate::characters::first_character;
-use crate::steps::Step;
+use crate::scans::Scan;
 use crate::{LexKind, TokenKind};
 use aql_value::{OutOfMemory, Text};
 use std::alloc::Global;
@@ -113,12 +113,12 @@ fn escape(text: &str) -> Option<(char, &str)>
 }
 
 // The text token or the fault after an opening quote, which `text` begins with.
-pub(crate) fn text_step<'a>(
+pub(crate) fn text_scan<'a>(
     alloc: Global,
     text: &'a str,
     quote: char,
     inner: &'a str,
-) -> Result<Step<'a>, OutOfMemory>
+) -> Result<Scan<'a>, OutOfMemory>
     requires quote { is_quote quote ≡ true }
     requires split { text.now ≡ quote ∷ inner.now }
     ensures takes { IfOk result (λ step. Takes text.now step) }
@@ -128,7 +128,7 @@ pub(crate) fn text_step<'a>(
     let mut left = inner;
     while let Some((character, after)) = first_character(left) {
         if character == quote {
-            return Ok(Step::Token(TokenKind::Text(Text::from(value)), after));
+            return Ok(Scan::Token(TokenKind::Text(Text::from(value)), after));
         }
         if character == '\\' {
             match escape(after) {
@@ -136,12 +136,12 @@ pub(crate) fn text_step<'a>(
                     value.push(meant)?;
                     left = rest;
                 }
-                None => return Ok(Step::Fault(LexKind::BadEscape, left)),
+                None => return Ok(Scan::Fault(LexKind::BadEscape, left)),
             }
         } else {
             value.push(character)?;
             left = after;
         }
     }
-    Ok(Step::Fault(LexKind::OpenString, text))
+    Ok(Scan::Fault(LexKind::OpenString, text))
 }

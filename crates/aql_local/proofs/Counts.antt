@@ -8,7 +8,7 @@ use Rattle.aql_tree.specs.declared.syntax.Direction.{Direction}
 use Rattle.aql_meaning.specs.Paths.{EdgeStep, steps_from}
 use Rattle.aql_block.specs.declared.tally.Tally.{Tally}
 use Rattle.aql_exec_graph.specs.Found.{times_found, edges_found, found_more}
-use Rattle.aql_shard.specs.Held.{more_found}
+use Rattle.aql_shard.specs.Datasets.{more_found}
 
 stays : (a b m : ℕ) → min (a + min b m) m ≡ min (a + b) m
 stays a b m = omega arith

@@ -5,7 +5,7 @@ use Rattle.std.proofs.Math.Seq.{drop-cons}
 use Rattle.std.proofs.lemmas.Bool.{eqb-true, eq-eqb}
 use Rattle.aql_exec.specs.declared.turns.Message.{Message}
 use Rattle.aql_local.specs.declared.world.Sent.{Sent}
-use Rattle.aql_local.specs.Worlds.{messages_on}
+use Rattle.aql_local.specs.Messages.{messages_on}
 
 to_false : (b : Bool) → (b ≡ true → ⊥) → b ≡ false
 to_false true h = absurd (h refl)

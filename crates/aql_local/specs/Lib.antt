@@ -1,4 +1,4 @@
 pub mod Building
-pub mod Worlds
-pub mod Steps
+pub mod Messages
+pub mod EdgeSteps
 pub mod laws

@@ -5,10 +5,10 @@ ghost use Rattle.aql_value.specs.View.{datum_of};
 ghost use Rattle.aql_meaning.specs.Paths.{steps_from, vertex_of};
 ghost use Rattle.aql_plan.specs.Runs.{edges_in};
 ghost use Rattle.aql_exec_graph.specs.Found.{numbers, steps_in, found_more, edges_found, vertices_found};
-ghost use Rattle.aql_shard.specs.Held.{stock};
+ghost use Rattle.aql_shard.specs.Datasets.{stock};
 
 use crate::documents::find_document;
-use crate::steps::{count_steps, find_steps};
+use crate::edge_steps::{count_steps, find_steps};
 use aql_block::Tally;
 use aql_exec_graph::EdgeList;
 use aql_shard::Servers;

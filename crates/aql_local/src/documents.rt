@@ -4,10 +4,10 @@ ghost use Rattle.std.specs.Prelude.{◌≡◌, option_map, find, flat_map, codes
 ghost use Rattle.aql_value.specs.Datum.{text};
 ghost use Rattle.aql_value.specs.Database.{Collection};
 ghost use Rattle.aql_value.specs.Attributes.{attribute as find_attribute};
-ghost use Rattle.aql_value.specs.Parts.{at_name, attributes, same};
+ghost use Rattle.aql_value.specs.Contents.{at_name, attributes, same};
 ghost use Rattle.aql_value.specs.View.{datum_of, datums_in};
 ghost use Rattle.aql_doc.specs.Held.{documents_at};
-ghost use Rattle.aql_shard.specs.Held.{stock};
+ghost use Rattle.aql_shard.specs.Datasets.{stock};
 
 use aql_shard::Servers;
 use aql_value::{CollNo, Text, Value};

@@ -8,11 +8,11 @@
 mod building;
 mod counted;
 mod documents;
+mod edge_steps;
 mod local;
 mod nodes;
 mod plans;
 mod results;
-mod steps;
 mod world;
 
 pub use building::{PlanExecutor, tree_of};

@@ -3,7 +3,7 @@
 ghost use Rattle.std.specs.Prelude.{◌≡◌, ◌≤◌, IfOk};
 ghost use Rattle.aql_plan.specs.View.{plan_tree};
 ghost use Rattle.aql_engine.specs.OperatorsOf.{operators_of};
-ghost use Rattle.aql_shard.specs.Held.{stock};
+ghost use Rattle.aql_shard.specs.Datasets.{stock};
 ghost use Rattle.aql_engine.specs.Engine.{CanRun, IsRunOver};
 
 use crate::World;

@@ -3,8 +3,8 @@
 ghost use Rattle.std.specs.Prelude.{◌≡◌, ℕ, ◌<◌, ◌≤◌, List, length};
 ghost use Rattle.aql_plan.specs.Runs as documents;
 ghost use Rattle.aql_exec.specs.Links.{Taken};
-ghost use Rattle.aql_shard.specs.Held as held;
-ghost use Rattle.aql_local.specs.Worlds.{messages_on};
+ghost use Rattle.aql_shard.specs.Datasets as datasets;
+ghost use Rattle.aql_local.specs.Messages.{messages_on};
 
 use crate::{document_of, edges_at};
 use aql_block::Tally;
@@ -48,7 +48,7 @@ impl Net {
     fn take(&mut self, place: u64) -> Delivered
         requires { place < length self.old.flying.items }
         ensures left { self.new.left < self.old.left }
-        ensures taken { (w : documents.World) → Taken w w self.old.links self.new.links
+        ensures taken { (w : documents.Dataset) → Taken w w self.old.links self.new.links
             (λ l. messages_on l self.old.flying.items) (λ l. messages_on l self.new.flying.items)
             result.link result.message }
     {
@@ -86,7 +86,7 @@ impl World {
 }
 
 impl Place for World {
-    ghost stock = { λ s. held.stock s.servers };
+    ghost stock = { λ s. datasets.stock s.servers };
 
     ghost links = { λ s. s.net.links };
 
@@ -96,7 +96,7 @@ impl Place for World {
 }
 
 impl Mail for World {
-    ghost use Rattle.aql_local.specs.Worlds.{some_on};
+    ghost use Rattle.aql_local.specs.Messages.{some_on};
 
     ghost flying = { λ s. length s.net.flying.items };
 

@@ -2,7 +2,7 @@
 use Rattle.std.proofs.Common.{◌≡◌, ◌∙◌, refl, sym, ap, inl, inr, List, [], ◌∷◌, Bool, true, false, true≢false, ◌||◌}
 use Rattle.std.specs.List.{list_any}
 use Rattle.aql_value.specs.Datum.{Datum}
-use Rattle.aql_value.specs.Parts.{same}
+use Rattle.aql_value.specs.Contents.{same}
 use Rattle.aql_meaning.specs.Paths.{IsIn}
 
 pub differ : (t u : Datum) → same t t ≡ true → same t u ≡ false → t ≡ u → ⊥

@@ -2,7 +2,7 @@
 use Rattle.std.proofs.Common.{refl, List, [], ◌∷◌, false, true}
 use Rattle.std.specs.Prelude.{codes}
 use Rattle.aql_value.specs.Datum.{Datum}
-use Rattle.aql_value.specs.Parts.{list}
+use Rattle.aql_value.specs.Contents.{list}
 use Rattle.aql_tree.specs.declared.syntax.Ident.TheVariants.{Name}
 use Rattle.aql_tree.specs.Tree.{subquery, limit, range_of}
 use Rattle.aql_tree.specs.View.{clauses, sort, at}

@@ -6,7 +6,7 @@ use Rattle.std.proofs.lemmas.List.{length-map}
 use Rattle.std.proofs.lemmas.List.Sorted.{IsPermutation-sym, length_permutation}
 use Rattle.std.proofs.lemmas.Slice.Zip.{AllZip-long}
 use Rattle.aql_value.specs.Datum.{Datum, null}
-use Rattle.aql_value.specs.Parts.{list, same}
+use Rattle.aql_value.specs.Contents.{list, same}
 use Rattle.aql_value.specs.Convert.{number_or_null}
 use Rattle.aql_value.specs.Database.{Database}
 use Rattle.aql_value.specs.laws.Lists.{datum_list-array_of}

@@ -4,7 +4,7 @@ use Rattle.std.specs.Prelude.{Option, None, codes, nat_le, bytes_eq}
 use Rattle.std.proofs.lemmas.List.Sorted.{IsPermutation-sym}
 use Rattle.std.proofs.lemmas.Slice.Eq.{bytes_eq-Decides}
 use Rattle.aql_value.specs.Datum.{Datum, null, text}
-use Rattle.aql_value.specs.Parts.{same}
+use Rattle.aql_value.specs.Contents.{same}
 use Rattle.aql_value.specs.Database.{Database}
 use Rattle.aql_tree.specs.declared.syntax.Direction.TheVariants.{Outbound}
 use Rattle.aql_tree.specs.Tree.{ExprTree, TraversalShape}

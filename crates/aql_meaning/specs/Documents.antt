@@ -5,7 +5,7 @@ use Rattle.std.specs.Prelude.{ℕ, ◌≡◌, List, [], ◌∷◌, map, filter, 
 use Rattle.std.specs.List.{list_any, AllZip}
 use Rattle.std.specs.Ordering.{is_lt}
 use Rattle.aql_value.specs.Datum.{Datum}
-use Rattle.aql_value.specs.Parts.{record_of, elements, attributes, at_name, same, is_below, is_in}
+use Rattle.aql_value.specs.Contents.{record_of, elements, attributes, at_name, same, is_below, is_in}
 use Rattle.aql_tree.specs.declared.syntax.Ident.{Ident}
 use Rattle.aql_meaning.specs.Row.{Row, bind}
 use Rattle.aql_meaning.specs.Clauses.{keys_cmp, with_each}

@@ -5,7 +5,7 @@ use Rattle.std.specs.Prelude.{ℕ, ◌≡◌, List, [], map, Bool, not, ◌&&◌
 use Rattle.std.specs.Bool.{MatchBool}
 use Rattle.std.specs.List.{list_any, list_all}
 use Rattle.aql_value.specs.Datum.{Datum, boolean}
-use Rattle.aql_value.specs.Parts.{record_of, elements}
+use Rattle.aql_value.specs.Contents.{record_of, elements}
 use Rattle.aql_value.specs.Truth.{truth}
 use Rattle.aql_value.specs.declared.operators.BinOp.{BinOp}
 use Rattle.aql_value.specs.declared.operators.BinOp.TheVariants.{And, Or}

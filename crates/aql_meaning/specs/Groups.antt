@@ -3,7 +3,7 @@
 use Rattle.std.specs.Prelude.{ℕ, ◌≡◌, List, [], ◌∷◌, map, filter, reverse, ◌+◌, Option, Some, None, unwrap_or, option_map, IsPermutation}
 use Rattle.std.specs.List.{AllZip}
 use Rattle.aql_value.specs.Datum.{Datum, null}
-use Rattle.aql_value.specs.Parts.{list, elements, same}
+use Rattle.aql_value.specs.Contents.{list, elements, same}
 use Rattle.aql_func.specs.Lists.{distinct}
 use Rattle.aql_func.specs.Aggregates.{aggregate, aggregate_named}
 use Rattle.aql_func.specs.Arguments.{argument}

@@ -16,7 +16,7 @@ pub mod Plain
 pub mod Uses
 pub mod Lifted
 pub mod Numbered
-pub mod Places
+pub mod Substitution
 pub mod Theorems
 pub mod laws
 pub mod worked

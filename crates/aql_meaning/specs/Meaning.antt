@@ -5,7 +5,7 @@ use Rattle.std.specs.Prelude.{ℕ, ◌≡◌, List, [], ◌∷◌, true, IsPermu
 use Rattle.std.specs.Bool.{MatchBool}
 use Rattle.std.specs.List.{AllZip}
 use Rattle.aql_value.specs.Datum.{Datum, null, boolean}
-use Rattle.aql_value.specs.Parts.{list, elements, at_name, at_value}
+use Rattle.aql_value.specs.Contents.{list, elements, at_name, at_value}
 use Rattle.aql_value.specs.Convert.{to_number, to_text}
 use Rattle.aql_value.specs.Database.{Database, documents_named}
 use Rattle.aql_value.specs.Truth.{truth}

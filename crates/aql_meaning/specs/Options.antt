@@ -4,7 +4,7 @@
 -- order.
 use Rattle.std.specs.Prelude.{ℕ, List, Bool, true, cond, bytes_eq, codes}
 use Rattle.aql_value.specs.Datum.{Datum, text, boolean}
-use Rattle.aql_value.specs.Parts.{same}
+use Rattle.aql_value.specs.Contents.{same}
 use Rattle.aql_tree.specs.declared.syntax.UniqueEdges.{UniqueEdges}
 use Rattle.aql_tree.specs.declared.syntax.UniqueEdges.TheVariants as edges
 use Rattle.aql_tree.specs.declared.syntax.UniqueVertices.{UniqueVertices}

@@ -10,7 +10,7 @@ use Rattle.aql_meaning.specs.Visible.{collection_meant}
 use Rattle.aql_meaning.specs.Plain.{IsPlain}
 use Rattle.aql_meaning.specs.Uses.{uses, Agree}
 use Rattle.aql_meaning.specs.Meaning.{Evaluates, Changes, IsAnswer}
-use Rattle.aql_meaning.specs.Places.{put, put_query, StandsFor}
+use Rattle.aql_meaning.specs.Substitution.{put, put_query, StandsFor}
 
 -- every query has an answer from every row, also from one that lacks outer variables
 abbrev pub EveryQueryHasAnAnswer : Type 0

@@ -3,7 +3,7 @@
 -- of this attribute. Two rows agree in what is used where it has the same values in both.
 use Rattle.std.specs.Prelude.{ℕ, ◌≡◌, List, [], ◌∷◌, ◌++◌, Bool}
 use Rattle.std.specs.List.{list_any}
-use Rattle.aql_value.specs.Parts.{at_name}
+use Rattle.aql_value.specs.Contents.{at_name}
 use Rattle.aql_tree.specs.declared.syntax.Ident.{Ident}
 use Rattle.aql_tree.specs.Tree.{ExprTree, literal, variable, current, array_literal, object_literal, access, function_call, unary_of, chain, array_comparison, ternary, range_of, subquery, ExprTrees, no_exprs, expr_then, MaybeExpr, no_expr, one_expr, MemberTrees, no_members, named_then, computed_then, StepTrees, no_steps, name_then, at_then, inline_then, LinkTrees, no_links, link_then, AggregateTrees, no_aggregates, aggregate_then, IntoTree, no_into, into}
 use Rattle.aql_meaning.specs.Row.{Row, same_ident, value_at}
@@ -11,14 +11,14 @@ use Rattle.aql_meaning.specs.Row.{Row, same_ident, value_at}
 -- a variable as a whole, or only its attribute of a name
 pub data Use : Type 0 where
   Whole : Ident → Use
-  Part : Ident → List ℕ → Use
+  Attribute : Ident → List ℕ → Use
 
 abbrev pub Uses : Type 0
 Uses = List Use
 
 abbrev pub used_variable : Use → Ident
 used_variable (Whole x) = x
-used_variable (Part x name) = x
+used_variable (Attribute x name) = x
 
 abbrev pub is_used : Ident → Uses → Bool
 is_used x us = list_any (λ u. same_ident x (used_variable u)) us
@@ -31,7 +31,7 @@ abbrev mutual
   uses current = []
   uses (array_literal es) = all_uses es
   uses (object_literal ms) = member_uses ms
-  uses (access (variable x) (name_then name ss)) = Part x name ∷ step_uses ss
+  uses (access (variable x) (name_then name ss)) = Attribute x name ∷ step_uses ss
   uses (access e ss) = uses e ++ step_uses ss
   uses (function_call name es) = all_uses es
   uses (unary_of op e) = uses e
@@ -75,7 +75,7 @@ into_uses (into x what keep) = maybe_uses what
 
 abbrev pub AgreeAt : Use → Row → Row → Type 0
 AgreeAt (Whole x) r s = value_at r x ≡ value_at s x
-AgreeAt (Part x name) r s = at_name (value_at r x) name ≡ at_name (value_at s x) name
+AgreeAt (Attribute x name) r s = at_name (value_at r x) name ≡ at_name (value_at s x) name
 
 -- rows that agree in all that is used
 abbrev pub Agree : Uses → Row → Row → Type 0

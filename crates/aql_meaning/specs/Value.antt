@@ -3,7 +3,7 @@
 -- forms come in the order of AQL fundamentals, Operators; `cur` is the value of CURRENT.
 use Rattle.std.specs.Prelude.{ℕ, List, [], ◌∷◌, map, true, cond}
 use Rattle.aql_value.specs.Datum.{Datum, null, boolean}
-use Rattle.aql_value.specs.Parts.{list, elements, at_name, at_value}
+use Rattle.aql_value.specs.Contents.{list, elements, at_name, at_value}
 use Rattle.aql_value.specs.Convert.{to_number, to_text}
 use Rattle.aql_value.specs.Truth.{truth}
 use Rattle.aql_func.specs.Named.{call_named}

@@ -7,9 +7,9 @@ use Rattle.std.proofs.lemmas.Bool.{eqb-true, eq-eqb}
 use Rattle.std.proofs.lemmas.Nat.Bits.{bit_at-zero, bit_at_or, bit_at-pow_same, bit_at-pow_other}
 use Rattle.aql_plan.specs.declared.rules.RuleName.{RuleName}
 use Rattle.aql_plan.specs.declared.rules.RuleName.TheVariants as rule
-use Rattle.aql_opt.specs.RuleSets.{place}
+use Rattle.aql_opt.specs.RuleSets.{bit_of}
 
-pub all_have : (r : RuleName) → bit_at 67108863 (place r) ≡ 1
+pub all_have : (r : RuleName) → bit_at 67108863 (bit_of r) ≡ 1
 all_have rule.SimplifyConditions = refl
 all_have rule.InlineSubqueries = refl
 all_have rule.InterchangeAdjacentEnumerations = refl
@@ -37,13 +37,13 @@ all_have rule.RemoveUnnecessaryRemoteScatter = refl
 all_have rule.CollectInCluster = refl
 all_have rule.DistributeSortToCluster = refl
 
-pub none_has : (r : RuleName) → bit_at 0 (place r) ≡ 1 → ⊥
-none_has r h = let none = bit_at-zero (place r) in cc
+pub none_has : (r : RuleName) → bit_at 0 (bit_of r) ≡ 1 → ⊥
+none_has r h = let none = bit_at-zero (bit_of r) in cc
 
 in_order : List RuleName
 in_order = rule.SimplifyConditions ∷ rule.InlineSubqueries ∷ rule.InterchangeAdjacentEnumerations ∷ rule.MoveCalculationsUp ∷ rule.MoveFiltersUp ∷ rule.RemoveRedundantCalculations ∷ rule.RemoveUnnecessaryFilters ∷ rule.RemoveUnnecessaryCalculations ∷ rule.RemoveRedundantSorts ∷ rule.RemoveCollectVariables ∷ rule.ReplaceOrWithIn ∷ rule.FuseFilters ∷ rule.OptimizeTraversals ∷ rule.UseIndexes ∷ rule.RemoveFilterCoveredByIndex ∷ rule.UseIndexForSort ∷ rule.SortLimit ∷ rule.MoveFiltersIntoEnumerate ∷ rule.ReduceExtractionToProjection ∷ rule.ScatterInCluster ∷ rule.DistributeInCluster ∷ rule.RestrictToSingleShard ∷ rule.DistributeFiltercalcToCluster ∷ rule.RemoveUnnecessaryRemoteScatter ∷ rule.CollectInCluster ∷ rule.DistributeSortToCluster ∷ []
 
-placed : (r : RuleName) → slice_get in_order (place r) ≡ Some r
+placed : (r : RuleName) → slice_get in_order (bit_of r) ≡ Some r
 unfolding in_order
 placed rule.SimplifyConditions = refl
 placed rule.InlineSubqueries = refl
@@ -72,7 +72,7 @@ placed rule.RemoveUnnecessaryRemoteScatter = refl
 placed rule.CollectInCluster = refl
 placed rule.DistributeSortToCluster = refl
 
-same_place : (r s : RuleName) → place r ≡ place s → r ≡ s
+same_place : (r s : RuleName) → bit_of r ≡ bit_of s → r ≡ s
 same_place r s e =
     let both = sym (placed r) ∙ ap (slice_get in_order) e ∙ placed s in cc
 
@@ -87,28 +87,28 @@ one_or_none n = omega arith
 
 -- a bit of a set with one more rule
 pub one_more : (bits : ℕ) (new r : RuleName)
-    → (bit_at (bit_or bits (2 ^ place new)) (place r) ≡ 1) ↔ ((r ≡ new) ⊎ (bit_at bits (place r) ≡ 1))
-one_more bits new r = by (nat_eq (place r) (place new)) refl
+    → (bit_at (bit_or bits (2 ^ bit_of new)) (bit_of r) ≡ 1) ↔ ((r ≡ new) ⊎ (bit_at bits (bit_of r) ≡ 1))
+one_more bits new r = by (nat_eq (bit_of r) (bit_of new)) refl
   where
-    by : (b : Bool) → nat_eq (place r) (place new) ≡ b
-        → (bit_at (bit_or bits (2 ^ place new)) (place r) ≡ 1) ↔ ((r ≡ new) ⊎ (bit_at bits (place r) ≡ 1))
+    by : (b : Bool) → nat_eq (bit_of r) (bit_of new) ≡ b
+        → (bit_at (bit_or bits (2 ^ bit_of new)) (bit_of r) ≡ 1) ↔ ((r ≡ new) ⊎ (bit_at bits (bit_of r) ≡ 1))
     by true e =
-        let same : place r ≡ place new = eqb-true (place r) (place new) e in
-        let here : bit_at (2 ^ place new) (place r) ≡ 1 =
-        subst (λ (n : ℕ). bit_at (2 ^ place new) n ≡ 1) (sym same) (bit_at-pow_same (place new)) in
-        let has = greatest_one (bit_at bits (place r)) (bit_at (2 ^ place new) (place r)) _
-        (bit_at_or bits (2 ^ place new) (place r)) here (one_or_none (bits / 2 ^ place r)) in
+        let same : bit_of r ≡ bit_of new = eqb-true (bit_of r) (bit_of new) e in
+        let here : bit_at (2 ^ bit_of new) (bit_of r) ≡ 1 =
+        subst (λ (n : ℕ). bit_at (2 ^ bit_of new) n ≡ 1) (sym same) (bit_at-pow_same (bit_of new)) in
+        let has = greatest_one (bit_at bits (bit_of r)) (bit_at (2 ^ bit_of new) (bit_of r)) _
+        (bit_at_or bits (2 ^ bit_of new) (bit_of r)) here (one_or_none (bits / 2 ^ bit_of r)) in
         (λ _. inl (same_place r new same), λ _. has)
     by false e =
-        let other : place r ≡ place new → ⊥ =
-        λ f. true≢false (sym (eq-eqb (place r) (place new) f) ∙ e) in
-        let old = greatest_other (bit_at bits (place r)) (bit_at (2 ^ place new) (place r)) _
-        (bit_at_or bits (2 ^ place new) (place r)) (bit_at-pow_other (place new) (place r) other) in (
+        let other : bit_of r ≡ bit_of new → ⊥ =
+        λ f. true≢false (sym (eq-eqb (bit_of r) (bit_of new) f) ∙ e) in
+        let old = greatest_other (bit_at bits (bit_of r)) (bit_at (2 ^ bit_of new) (bit_of r)) _
+        (bit_at_or bits (2 ^ bit_of new) (bit_of r)) (bit_at-pow_other (bit_of new) (bit_of r) other) in (
           λ h. inr (sym old ∙ h),
-          λ h. elim h [ inl f ↦ absurd (other (ap place f)) | inr k ↦ old ∙ k ],
+          λ h. elim h [ inl f ↦ absurd (other (ap bit_of f)) | inr k ↦ old ∙ k ],
         )
 
-power_fits : (r : RuleName) → 1 * 2 ^ place r % 4294967296 ≡ 2 ^ place r
+power_fits : (r : RuleName) → 1 * 2 ^ bit_of r % 4294967296 ≡ 2 ^ bit_of r
 power_fits rule.SimplifyConditions = refl
 power_fits rule.InlineSubqueries = refl
 power_fits rule.InterchangeAdjacentEnumerations = refl
@@ -137,10 +137,10 @@ power_fits rule.CollectInCluster = refl
 power_fits rule.DistributeSortToCluster = refl
 
 -- the same of the number that the program joins
-pub with_one : (bits n : ℕ) (new r : RuleName) → n ≡ place new
-    → (bit_at (bit_or bits (1 * 2 ^ n % 4294967296)) (place r) ≡ 1)
-    ↔ ((r ≡ new) ⊎ (bit_at bits (place r) ≡ 1))
+pub with_one : (bits n : ℕ) (new r : RuleName) → n ≡ bit_of new
+    → (bit_at (bit_or bits (1 * 2 ^ n % 4294967296)) (bit_of r) ≡ 1)
+    ↔ ((r ≡ new) ⊎ (bit_at bits (bit_of r) ≡ 1))
 with_one bits n new r e =
     let same = ap (λ (k : ℕ). 1 * 2 ^ k % 4294967296) e ∙ power_fits new in
-    subst (λ (m : ℕ). (bit_at (bit_or bits m) (place r) ≡ 1) ↔ ((r ≡ new) ⊎ (bit_at bits (place r) ≡ 1)))
+    subst (λ (m : ℕ). (bit_at (bit_or bits m) (bit_of r) ≡ 1) ↔ ((r ≡ new) ⊎ (bit_at bits (bit_of r) ≡ 1)))
     (sym same) (one_more bits new r)

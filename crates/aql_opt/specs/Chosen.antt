@@ -2,7 +2,7 @@
 -- rules run in their order, each once; those that are switched off are left out. After the first passes there
 -- may be several candidates, the orders of a run of loops. Each of them goes through the later passes, and
 -- the cheapest one is chosen, of equally cheap ones the first. The names of the rules whose passes changed
--- the chosen plan are told, in the order of the passes.
+-- the chosen plan are listed, in the order of the passes.
 use Rattle.std.specs.Prelude.{ℕ, ◌≡◌, ◌<◌, ◌≤◌, List, [], ◌∷◌, ◌++◌, true, false}
 use Rattle.std.specs.List.{AllZip, AllByRecursion}
 use Rattle.aql_plan.specs.declared.facts.Facts.{Facts}
@@ -30,21 +30,23 @@ later_rules = rule.MoveCalculationsUp ∷ rule.MoveFiltersUp ∷ rule.RemoveRedu
     ∷ rule.DistributeInCluster ∷ rule.RestrictToSingleShard ∷ rule.DistributeFiltercalcToCluster
     ∷ rule.RemoveUnnecessaryRemoteScatter ∷ rule.CollectInCluster ∷ rule.DistributeSortToCluster ∷ []
 
--- one rule's turn, by the plan and the names that are told before it and after it
+-- the run of one rule, by the plan and the rules that changed it, before it and after it
 pub data RunsRule (facts : Facts) (rules : Rules) (r : RuleName)
     : Plan → List RuleName → Plan → List RuleName → Type 0 where
-  switched_off : {q : Plan} {told : List RuleName} → (Has rules r → ⊥) → RunsRule facts rules r q told q told
-  unchanged : {q s : Plan} {told : List RuleName} → Has rules r → IsPassOf r facts q s false
-      → RunsRule facts rules r q told s told
-  changed : {q s : Plan} {told : List RuleName} → Has rules r → IsPassOf r facts q s true
-      → RunsRule facts rules r q told s (told ++ r ∷ [])
+  switched_off : {q : Plan} {applied : List RuleName} → (Has rules r → ⊥)
+      → RunsRule facts rules r q applied q applied
+  unchanged : {q s : Plan} {applied : List RuleName} → Has rules r → IsPassOf r facts q s false
+      → RunsRule facts rules r q applied s applied
+  changed : {q s : Plan} {applied : List RuleName} → Has rules r → IsPassOf r facts q s true
+      → RunsRule facts rules r q applied s (applied ++ r ∷ [])
 
--- the turns of these rules, one after another, make q of p, and these names are told
+-- these rules, run one after another, make q of p, and these of them changed it
 pub data AfterRules (facts : Facts) (rules : Rules) (p : Plan)
     : List RuleName → Plan → List RuleName → Type 0 where
   at_first : AfterRules facts rules p [] p []
-  and_then : {rs told more : List RuleName} {r : RuleName} {q s : Plan} → AfterRules facts rules p rs q told
-      → RunsRule facts rules r q told s more → AfterRules facts rules p (rs ++ r ∷ []) s more
+  and_then : {rs applied more : List RuleName} {r : RuleName} {q s : Plan}
+      → AfterRules facts rules p rs q applied
+      → RunsRule facts rules r q applied s more → AfterRules facts rules p (rs ++ r ∷ []) s more
 
 -- ---- candidates
 
@@ -54,10 +56,10 @@ pub data CandidatesBy (rules : Rules) (p : Plan) : List Plan → Type 0 where
   interchanged : {cs : List Plan} → Has rules rule.InterchangeAdjacentEnumerations → Candidates p cs
       → CandidatesBy rules p cs
 
--- what the later passes make of a candidate, and the names that they tell
+-- what the later passes make of a candidate, and which of them changed it
 pub record Ended : Type 0 where
   pub plan : Plan
-  pub told : List RuleName
+  pub applied : List RuleName
 
 -- the estimate of what a plan costs
 abbrev pub cost_of : Facts → Plan → ℕ
@@ -65,7 +67,7 @@ cost_of facts p = (estimate facts p).cost
 
 module _ (facts : Facts) (rules : Rules) where
   abbrev pub EndsAs : Plan → Ended → Type 0
-  EndsAs c e = AfterRules facts rules c later_rules e.plan e.told
+  EndsAs c e = AfterRules facts rules c later_rules e.plan e.applied
 
   -- of the candidates this one is chosen: those before it end dearer, and those after it no cheaper
   pub record IsCheapest (candidates : List Plan) (before : List Ended) (chosen : Ended)
@@ -74,15 +76,15 @@ module _ (facts : Facts) (rules : Rules) where
     pub dearer : AllByRecursion (λ (e : Ended). cost_of facts chosen.plan < cost_of facts e.plan) before
     pub no_cheaper : AllByRecursion (λ (e : Ended). cost_of facts chosen.plan ≤ cost_of facts e.plan) after
 
--- the candidates' rule is told where the chosen one is not the first candidate
-abbrev pub told_by_order : List Ended → List RuleName
-told_by_order [] = []
-told_by_order (e ∷ es) = rule.InterchangeAdjacentEnumerations ∷ []
+-- the candidates' rule is one of them where the chosen one is not the first candidate
+abbrev pub applied_by_order : List Ended → List RuleName
+applied_by_order [] = []
+applied_by_order (e ∷ es) = rule.InterchangeAdjacentEnumerations ∷ []
 
--- q is the plan that is chosen for p, and these names are told
-pub record Chosen (facts : Facts) (rules : Rules) (p q : Plan) (told : List RuleName) : Type 0 where
+-- q is the plan that is chosen for p, and these rules changed it
+pub record Chosen (facts : Facts) (rules : Rules) (p q : Plan) (applied : List RuleName) : Type 0 where
   pub first : Ended
-  pub ran_first : AfterRules facts rules p first_rules first.plan first.told
+  pub ran_first : AfterRules facts rules p first_rules first.plan first.applied
   pub candidates : List Plan
   pub are : CandidatesBy rules first.plan candidates
   pub before : List Ended
@@ -90,4 +92,4 @@ pub record Chosen (facts : Facts) (rules : Rules) (p q : Plan) (told : List Rule
   pub chosen : Ended
   pub cheapest : IsCheapest facts rules candidates before chosen after
   pub plan : q ≡ chosen.plan
-  pub names : told ≡ first.told ++ (told_by_order before ++ chosen.told)
+  pub names : applied ≡ first.applied ++ (applied_by_order before ++ chosen.applied)

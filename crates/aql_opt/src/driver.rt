@@ -75,7 +75,7 @@ struct Candidate {
     reordered: bool,
 }
 
-// The turn of one rule.
+// Runs one rule.
 fn run_rule(
     alloc: Global,
     rule: RuleName,
@@ -109,7 +109,7 @@ fn run_rule(
     })
 }
 
-// The turns of these rules, one after another.
+// Runs these rules, one after another.
 fn run_rules(
     alloc: Global,
     order: &[RuleName],
@@ -235,7 +235,7 @@ fn cheapest(
     }
 }
 
-// The names of the first rules, with that of the candidates' rule where it is told.
+// The names of the first rules, with that of the candidates' rule where it changed the plan.
 fn with_order(applied: RuleNames, reordered: bool) -> Result<RuleNames, OutOfMemory>
     ensures { IfOk result (λ names. names ≡ applied ++ order_names reordered) }
 {

@@ -165,7 +165,7 @@ fn cost_after(input: Cost, rows: u64, more: u64) -> Cost
     }
 }
 
-fn rows_kept(filter: &Option<Expr>, rows: u64) -> u64
+fn rows_after_filter(filter: &Option<Expr>, rows: u64) -> u64
     ensures { result ≡ filtered (maybe (option_map tree filter.now)) rows }
 {
     match filter {
@@ -209,7 +209,7 @@ fn node_estimate(node: &Node, input: Cost, facts: &Facts) -> Cost
     match node {
         Node::EnumerateCollection { coll, filter, .. } => {
             let read = rows.saturating_mul(documents(*coll, facts));
-            cost_after(input, rows_kept(filter, read), read)
+            cost_after(input, rows_after_filter(filter, read), read)
         }
         Node::Index {
             coll,
@@ -222,7 +222,7 @@ fn node_estimate(node: &Node, input: Cost, facts: &Facts) -> Cost
             let found = guess_for(*coll, *index, equal.as_slice(), last, facts);
             let read = rows.saturating_mul(found);
             let more = rows.saturating_mul(found.saturating_add(1));
-            cost_after(input, rows_kept(filter, read), more)
+            cost_after(input, rows_after_filter(filter, read), more)
         }
         Node::EnumerateList { list, .. } => {
             let read = rows.saturating_mul(elements(list, 100));

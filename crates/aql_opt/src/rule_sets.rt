@@ -2,7 +2,7 @@
 
 ghost use Rattle.std.specs.Prelude.{◌≡◌, ◌⊎◌, ◌↔◌, IsTrue};
 ghost use Rattle.aql_plan.specs.declared.rules.RuleName.{RuleName};
-ghost use Rattle.aql_opt.specs.RuleSets.{place, Has};
+ghost use Rattle.aql_opt.specs.RuleSets.{bit_of, Has};
 
 use aql_plan::RuleName;
 
@@ -12,8 +12,8 @@ pub struct Rules {
     bits: u32,
 }
 
-fn place(rule: RuleName) -> u32
-    ensures { result ≡ place rule }
+fn bit_of(rule: RuleName) -> u32
+    ensures { result ≡ bit_of rule }
 {
     rule as u32
 }
@@ -38,7 +38,7 @@ impl Rules {
         ensures { (r : RuleName) → Has result r ↔ ((r ≡ rule) ⊎ Has self r) }
     {
         Rules {
-            bits: self.bits | 1 << place(rule),
+            bits: self.bits | 1 << bit_of(rule),
         }
     }
 
@@ -46,6 +46,6 @@ impl Rules {
     pub fn has(&self, rule: RuleName) -> bool
         ensures { IsTrue result ↔ Has self.now rule }
     {
-        (self.bits >> place(rule)) & 1 == 1
+        (self.bits >> bit_of(rule)) & 1 == 1
     }
 }

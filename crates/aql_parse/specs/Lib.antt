@@ -1,5 +1,5 @@
 pub mod Parses
 pub mod Within
 pub mod Deeper
-pub mod Parts
+pub mod Phrases
 pub mod Shapes

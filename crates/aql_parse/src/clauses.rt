@@ -57,7 +57,7 @@ impl<F: Fn(Global, &mut Cursor<'_>, usize, bool) -> Result<Expr, ParseFault>> Pa
         ensures { ReadsAs (map clause_tree) (comma_list_onto (reader.let_clause (reader.expr
             self.now.depth) self.now.inside) (map clause_tree found) tokens.old) result tokens.new }
     {
-        for _turn in 0..tokens.left() {
+        for _turn in 0..tokens.remaining() {
             found.push(self.let_clause(tokens)?)?;
             if !tokens.eat(Symbol::Comma) {
                 return Ok(found);
@@ -87,7 +87,7 @@ impl<F: Fn(Global, &mut Cursor<'_>, usize, bool) -> Result<Expr, ParseFault>> Pa
             self.now.inside) tokens.old) result tokens.new }
     {
         let mut found = Seq::new(self.alloc);
-        for _turn in 0..tokens.left() {
+        for _turn in 0..tokens.remaining() {
             found.push(self.sort_key(tokens)?)?;
             if !tokens.eat(Symbol::Comma) {
                 return Ok(found);
@@ -147,7 +147,7 @@ impl<F: Fn(Global, &mut Cursor<'_>, usize, bool) -> Result<Expr, ParseFault>> Pa
             self.now.inside tokens.old) result tokens.new }
     {
         let mut found = Seq::new(self.alloc);
-        for _turn in 0..tokens.left() {
+        for _turn in 0..tokens.remaining() {
             if !begins_clause(tokens.peek()) {
                 return Ok(found);
             }

@@ -56,7 +56,7 @@ impl<F: Fn(Global, &mut Cursor<'_>, usize, bool) -> Result<Expr, ParseFault>> Pa
             self.now.inside) tokens.old) result tokens.new }
     {
         let mut found = Seq::new(self.alloc);
-        for _turn in 0..tokens.left() {
+        for _turn in 0..tokens.remaining() {
             found.push(self.assignment(tokens)?)?;
             if !tokens.eat(Symbol::Comma) {
                 return Ok(found);
@@ -111,7 +111,7 @@ impl<F: Fn(Global, &mut Cursor<'_>, usize, bool) -> Result<Expr, ParseFault>> Pa
             self.now.depth) self.now.inside) tokens.old) result tokens.new }
     {
         let mut found = Seq::new(self.alloc);
-        for _turn in 0..tokens.left() {
+        for _turn in 0..tokens.remaining() {
             found.push(self.aggregate(tokens)?)?;
             if !tokens.eat(Symbol::Comma) {
                 return Ok(found);

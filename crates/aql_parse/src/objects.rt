@@ -93,7 +93,7 @@ impl<F: Fn(Global, &mut Cursor<'_>, usize, bool) -> Result<Expr, ParseFault>> Pa
             self.now.inside tokens.old) result tokens.new }
     {
         let mut found = Seq::new(self.alloc);
-        for _turn in 0..tokens.left() {
+        for _turn in 0..tokens.remaining() {
             if tokens.eat(Symbol::CloseBrace) {
                 return Ok(found);
             }
@@ -113,7 +113,7 @@ impl<F: Fn(Global, &mut Cursor<'_>, usize, bool) -> Result<Expr, ParseFault>> Pa
             self.now.inside) tokens.old) result tokens.new }
     {
         let mut found = Seq::new(self.alloc);
-        for _turn in 0..tokens.left() {
+        for _turn in 0..tokens.remaining() {
             if tokens.eat(Symbol::CloseBracket) {
                 return Ok(found);
             }

@@ -50,7 +50,7 @@ impl<F: Fn(Global, &mut Cursor<'_>, usize, bool) -> Result<Expr, ParseFault>> Pa
         ensures { ReadsAs tree (reader.unary (reader.expr self.now.depth) self.now.inside
             tokens.old) result tokens.new }
     {
-        let turns = tokens.left();
+        let turns = tokens.remaining();
         self.unary_from(tokens, turns)
     }
 
@@ -75,7 +75,7 @@ impl<F: Fn(Global, &mut Cursor<'_>, usize, bool) -> Result<Expr, ParseFault>> Pa
             result tokens.new }
     {
         let mut found = Seq::new(self.alloc);
-        for _turn in 0..tokens.left() {
+        for _turn in 0..tokens.remaining() {
             if !tokens.sees_operator(precedence) {
                 return Ok(found);
             }
@@ -126,7 +126,7 @@ impl<F: Fn(Global, &mut Cursor<'_>, usize, bool) -> Result<Expr, ParseFault>> Pa
         let kind = tokens.quantifier()?;
         let op = tokens.comparison()?;
         let right = self.operand(tokens, Precedence::ArrayComparison)?;
-        Ok(Expr::quantified(self.alloc, left, kind, op, right)?)
+        Ok(Expr::array_comparison(self.alloc, left, kind, op, right)?)
     }
 
     // An expression whose operators have this precedence or a tighter one.

@@ -2,7 +2,7 @@
 
 ghost use Rattle.aql_grammar.specs.Input.{ReadsAs};
 ghost use Rattle.aql_parse.specs.Deeper.{ReadsDeeper};
-ghost use Rattle.aql_parse.specs.Parts.{up_to, value};
+ghost use Rattle.aql_parse.specs.Phrases.{up_to, value};
 ghost use Rattle.aql_tree.specs.View.{tree};
 ghost use Rattle.std.specs.Prelude.{true};
 ghost use Rattle.aql_grammar.specs.Reader as reader;

@@ -70,9 +70,9 @@ fn whole_query(alloc: Global, tokens: &Tokens) -> Result<Query, ParseFault>
     ensures { ReadsWhole (reader.whole_query (kinds_of tokens.now)) result }
 {
     let mut cursor = Cursor::new(tokens.as_slice());
-    let depth = cursor.left();
+    let depth = cursor.remaining();
     let query = query_after_with(alloc, &mut cursor, depth)?;
-    if cursor.left() == 0 {
+    if cursor.remaining() == 0 {
         Ok(query)
     } else {
         Err(ParseFault::NotInGrammar)

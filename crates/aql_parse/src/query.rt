@@ -2,7 +2,7 @@
 
 ghost use Rattle.aql_grammar.specs.Input.{ReadsAs};
 ghost use Rattle.aql_parse.specs.Deeper.{ReadsDeeper};
-ghost use Rattle.aql_parse.specs.Parts.{return_part};
+ghost use Rattle.aql_parse.specs.Phrases.{return_part};
 ghost use Rattle.aql_tree.specs.View.{tree, query_tree};
 ghost use Rattle.aql_grammar.specs.Reader as reader;
 

@@ -81,7 +81,7 @@ impl<F: Fn(Global, &mut Cursor<'_>, usize, bool) -> Result<Expr, ParseFault>> Pa
             (reader.expr self.now.depth) self.now.inside) tokens.old) result tokens.new }
     {
         let mut found = Seq::new(self.alloc);
-        for _turn in 0..tokens.left() {
+        for _turn in 0..tokens.remaining() {
             if !begins_step(tokens.peek()) {
                 return Ok(found);
             }

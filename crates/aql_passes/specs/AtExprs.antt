@@ -4,7 +4,7 @@
 use Rattle.std.specs.Prelude.{◌≡◌, List, Option, Some, None}
 use Rattle.aql_tree.specs.Tree.{ExprTree}
 use Rattle.aql_plan.specs.Plan.{Plan, Singleton, Over}
-use Rattle.aql_rewrite.specs.FirstPart.{FirstOf}
+use Rattle.aql_rewrite.specs.FirstInExpr.{FirstOf}
 use Rattle.aql_rewrite.specs.declared.swap.Rename.{Rename}
 use Rattle.aql_rewrite.specs.NodeExprs.{node_exprs, over_exprs}
 use Rattle.aql_rewrite.specs.Places.{Rewriting}

@@ -7,7 +7,7 @@ use Rattle.aql_plan.specs.Plan.{Plan, Singleton, Over, Node, Subquery}
 use Rattle.aql_plan.specs.Shapes.{HasNoFragment}
 use Rattle.aql_rewrite.specs.Places.{Rewriting}
 use Rattle.aql_rewrite.specs.Exchanged.{goes_below}
-use Rattle.aql_rewrite.specs.Steps.{Steps, PlanStep}
+use Rattle.aql_rewrite.specs.Applications.{Applications, Application}
 
 module _ (swaps : Node → Node → Bool) where
   abbrev mutual
@@ -26,7 +26,7 @@ module _ (R : Rewriting) where
   -- q is p after applications until there is no place, whatever is used above; two flags tell whether there
   -- was one before, and whether there is one by then
   pub record Settles (swaps : Node → Node → Bool) (p q : Plan) (x y : Bool) : Type 0 where
-    pub reached : (us : Uses) → Steps Plan (PlanStep R us) p q x y
+    pub reached : (us : Uses) → Applications Plan (Application R us) p q x y
     pub settled : Settled swaps q
     pub lone : HasNoFragment q
     pub nodes : weight q ≡ weight p

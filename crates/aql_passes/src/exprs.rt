@@ -6,7 +6,7 @@ ghost use Rattle.aql_tree.specs.View.{tree};
 ghost use Rattle.aql_rewrite.specs.ExprView.{lent};
 ghost use Rattle.aql_passes.specs.Ends.{Ends, AllEnd};
 
-use aql_rewrite::{ExprRule, over_parts, parts};
+use aql_rewrite::{ExprRule, children, over_children};
 use aql_tree::Expr;
 use aql_value::OutOfMemory;
 use std::alloc::Global;
@@ -24,9 +24,9 @@ fn to_end<R: ExprRule>(
     ensures { IfOk result (λ e. Ends (R.rewrites rule.now) (tree expr.now) (tree e)
         changed.old changed.new) }
 {
-    let all = parts(alloc, expr)?;
+    let all = children(alloc, expr)?;
     let new = all_to_end(alloc, rule, &all, changed)?;
-    let whole = over_parts(alloc, expr, new)?;
+    let whole = over_children(alloc, expr, new)?;
     match rule.at(alloc, &whole)? {
         None => Ok(whole),
         Some(next) => {

@@ -1,5 +1,6 @@
-//! The pass of a rule that takes nodes away and renames above: the plan from its lowest node up. All
-//! that is renamed below a node is renamed in it, where it stands, before the rule is tried at it.
+//! The pass of a rule that takes nodes away and renames above: the plan from its lowest node up.
+//! All that is renamed below a node is renamed in it, where it stands, before the rule is tried at
+//! it.
 
 ghost use Rattle.std.specs.Prelude.{◌≡◌, false, [], Some, None, IfOk};
 ghost use Rattle.aql_plan.specs.Plan.{top};
@@ -62,7 +63,7 @@ fn settle<R: RemovingRule>(
     let below = replace_below(&mut node, Plan::Singleton);
     let below = settle(alloc, rule, below, facts, renames, changed)?;
     let part = renamed_over(alloc, node, below, renames.as_slice())?;
-    match rule.removed(&part, facts) {
+    match rule.removal(&part, facts) {
         None => settle_body(alloc, rule, part, facts, changed),
         Some(rename) => {
             *changed = true;

@@ -7,12 +7,12 @@ use Rattle.aql_plan.specs.declared.uses.Use.TheVariants as code
 
 abbrev pub use_tree : Use → uses.Use
 use_tree (code.Whole x) = uses.Whole x
-use_tree (code.Part x name) = uses.Part x name
+use_tree (code.Attribute x name) = uses.Attribute x name
 
 abbrev pub uses_tree : List Use → uses.Uses
 uses_tree us = map use_tree us
 
 -- the attribute that an access looks at, where it looks at one of a variable
 abbrev pub attribute_used : ExprTree → StepTrees → Option uses.Use
-attribute_used (variable x) (name_then name ss) = Some (uses.Part x name)
+attribute_used (variable x) (name_then name ss) = Some (uses.Attribute x name)
 attribute_used e ss = None

@@ -1,5 +1,5 @@
-//! Plans of queries: the tree of a plan, what it means, what its nodes use, and what is known of the
-//! collections when a query is planned.
+//! Plans of queries: the tree of a plan, what it means, what its nodes use, and what is known of
+//! the collections when a query is planned.
 #![tactic(auto)]
 
 mod conditions;

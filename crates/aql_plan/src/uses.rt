@@ -14,13 +14,13 @@ pub enum Use {
     /// All of it.
     Whole(Ident),
     /// Its attribute of a name alone.
-    Part(Ident, Text),
+    Attribute(Ident, Text),
 }
 
 impl Drop for Use {
     fn drop(self) {
         match self {
-            Use::Whole(_) | Use::Part(_, _) => {}
+            Use::Whole(_) | Use::Attribute(_, _) => {}
         }
     }
 }
@@ -35,7 +35,7 @@ impl Use {
     {
         match self {
             Use::Whole(var) => var,
-            Use::Part(var, _) => var,
+            Use::Attribute(var, _) => var,
         }
     }
 }
@@ -48,7 +48,7 @@ fn attribute_of(of: &Expr, all: &[Step], alloc: Global) -> Result<Option<Use>, O
         Expr::Var(var) => match all.split_first() {
             Some((Step::Name(name), _)) => {
                 let var = copy_ident(alloc, var)?;
-                Ok(Some(Use::Part(var, name.copy(alloc)?)))
+                Ok(Some(Use::Attribute(var, name.copy(alloc)?)))
             }
             _ => Ok(None),
         },

@@ -9,25 +9,25 @@ mod equality;
 mod fits;
 mod found;
 mod plain;
+mod plan_shape;
 mod rows;
 mod sets;
 mod shapes;
 mod standing;
 mod uses;
-mod walk;
 
 ghost use Rattle.std.specs.Prelude.{[], ◌↔◌, IfOk, IsTrue};
 ghost use Rattle.aql_plan.specs.View.{plan_tree};
 ghost use Rattle.aql_plan.specs.WellFormed.{IsWellFormed};
 
-use crate::sets::{distinct, sets_numbers};
+use crate::sets::{no_duplicates, sets_numbers};
 use crate::uses::result_finds;
 use aql_plan::{Facts, Plan};
 use aql_value::OutOfMemory;
 pub use collections::collections_fit;
 use indexmap::IndexSet;
+pub use plan_shape::has_result;
 use std::alloc::Global;
-pub use walk::has_result;
 
 /// Whether a query's plan is well formed where this is known of the collections.
 pub fn well_formed(alloc: Global, plan: &Plan, facts: &Facts) -> Result<bool, OutOfMemory>
@@ -44,7 +44,7 @@ pub fn well_formed(alloc: Global, plan: &Plan, facts: &Facts) -> Result<bool, Ou
         return Ok(false);
     }
     let vars = plan.vars_set(alloc)?;
-    if !distinct(alloc, vars.as_slice())? {
+    if !no_duplicates(alloc, vars.as_slice())? {
         return Ok(false);
     }
     result_finds(plan, &mut IndexSet::new(alloc))

@@ -137,7 +137,7 @@ pub(crate) fn sets_numbers(plan: &Plan) -> bool
 }
 
 /// Whether no variable is twice in a list.
-pub(crate) fn distinct(alloc: Global, vars: &[u32]) -> Result<bool, OutOfMemory>
+pub(crate) fn no_duplicates(alloc: Global, vars: &[u32]) -> Result<bool, OutOfMemory>
     ensures { IfOk result (λ answer. answer ≡ are_distinct (variables vars.now)) }
 {
     let mut seen = IndexSet::new(alloc);

@@ -3,7 +3,7 @@ use Rattle.std.proofs.Common.{◌≡◌, ◌∙◌, ℕ, suc, List, [], ◌∷�
 use Rattle.std.specs.Prelude.{Option, None, MatchOption, filter, flat_map, bytes_eq, IsPermutation, ◌&&◌}
 use Rattle.std.specs.List.{AllZip}
 use Rattle.aql_value.specs.Datum.{Datum, null}
-use Rattle.aql_value.specs.Parts.{list}
+use Rattle.aql_value.specs.Contents.{list}
 use Rattle.aql_value.specs.Truth.{truth}
 use Rattle.aql_value.specs.Database.{Database, documents_named, documents_of}
 use Rattle.aql_value.specs.declared.operators.BinOp.TheVariants.{And}
@@ -28,10 +28,10 @@ use Rattle.aql_plan.specs.declared.facts.Facts.{Facts}
 use Rattle.aql_plan.specs.declared.facts.CollFact.{CollFact}
 use Rattle.aql_plan.specs.Facts.{MeetsCollection, Meets}
 use Rattle.aql_plan.specs.Plan.{Plan, Singleton, Over, Filter}
-use Rattle.aql_plan.specs.Runs.{World, Outside, edges_in, result_row, result_of, Runs}
+use Rattle.aql_plan.specs.Runs.{Dataset, Outside, edges_in, result_row, result_of, Runs}
 use Rattle.aql_meaning.specs.AtRows.{values_of, keys_of, passes, stops}
-use Rattle.aql_plan.specs.Refines.{world, Answers}
-use Rattle.aql_plan.specs.FirstPlan.{place_of, coll_number, all_and, right_sides, parts, filters, after_clause, after_clauses, first_plan}
+use Rattle.aql_plan.specs.Refines.{dataset, Answers}
+use Rattle.aql_plan.specs.FirstPlan.{number_among, coll_number, all_and, right_sides, conjuncts, filters, after_clause, after_clauses, first_plan}
 
 -- ---- words of clauses and of nodes
 
@@ -53,16 +53,16 @@ documents_read x documents rows =
 
 -- the documents of a name are those of its number
 pub documents_found : (fs : List CollFact) (db : Database) → AllZip MeetsCollection fs db → (name : List ℕ)
-    → documents_of db (place_of fs name) ≡ documents_named db name
+    → documents_of db (number_among fs name) ≡ documents_named db name
 documents_found [] [] h name = refl
 documents_found [] (c ∷ db) h name = absurd h
 documents_found (f ∷ fs) [] h name = absurd h
 documents_found (f ∷ fs) (c ∷ db) h name =
-    ap (λ (n : List ℕ). documents_of (c ∷ db) (cond (bytes_eq n name) 0 (suc (place_of fs name)))) h.0.0
+    ap (λ (n : List ℕ). documents_of (c ∷ db) (cond (bytes_eq n name) 0 (suc (number_among fs name)))) h.0.0
     ∙ by (bytes_eq c.name name) (documents_found fs db h.1 name)
   where
-    by : (b : Bool) → documents_of db (place_of fs name) ≡ documents_named db name
-        → documents_of (c ∷ db) (cond b 0 (suc (place_of fs name)))
+    by : (b : Bool) → documents_of db (number_among fs name) ≡ documents_named db name
+        → documents_of (c ∷ db) (cond b 0 (suc (number_among fs name)))
         ≡ cond b c.documents (documents_named db name)
     by true e = refl
     by false e = e
@@ -101,7 +101,7 @@ same_filter p q h [] = refl
 same_filter p q h (row ∷ rows) =
     ap₂ (λ b rest. cond b (row ∷ rest) rest) (h row) (same_filter p q h rows)
 
-filters_run : (w : World) (es : List ExprTree) (b : Plan) (start : Row) (out : List Row)
+filters_run : (w : Dataset) (es : List ExprTree) (b : Plan) (start : Row) (out : List Row)
     → Runs (filters b es) w Outside start out
     → (rows : List Row) × Runs b w Outside start rows × (out ≡ filter (all_hold es) rows)
 filters_run w [] b start out g = (out, g, sym (all_pass out))
@@ -138,7 +138,7 @@ linked_truth (link_then And e ls) h row a =
     ∙ and_grouped (truth a) (truth (value e null row)) (all_hold (right_sides ls) row)
 linked_truth (link_then op e ls) h row a = absurd (true≢false (sym h))
 
-parts_hold : (e : ExprTree) (row : Row) → truth (value e null row) ≡ all_hold (parts e) row
+parts_hold : (e : ExprTree) (row : Row) → truth (value e null row) ≡ all_hold (conjuncts e) row
 parts_hold (chain e ls) row = by (all_and ls) refl
   where
     by : (b : Bool) → all_and ls ≡ b
@@ -209,10 +209,10 @@ module _ (facts : Facts) (db : Database) (meets : Meets facts db) where
 
   -- the values of a subquery, where each list of its plan is an answer
   bodies : (x : Ident) (q : QueryTree)
-      → ((row : Row) (results : List Row) → Runs (first_plan facts q) (world facts db) Outside row results
+      → ((row : Row) (results : List Row) → Runs (first_plan facts q) (dataset facts db) Outside row results
       → IsAnswer db q row (map result_of results)) → (rows out : List Row)
       → AllZip (λ row given. (results : List Row)
-      × Runs (first_plan facts q) (world facts db) Outside row results
+      × Runs (first_plan facts q) (dataset facts db) Outside row results
       × (given ≡ bind x row (list (map result_of results)))) rows out
       → (vs : List Datum) × AllZip (Evaluates db (subquery q) null) rows vs × (out ≡ with_values x rows vs)
   bodies x q f [] [] h = ([], tt, refl)
@@ -226,17 +226,17 @@ module _ (facts : Facts) (db : Database) (meets : Meets facts db) where
       )
 
   calculated : (x : Ident) (e : ExprTree) → IsPlain e → (b : Plan) (start : Row) (out : List Row)
-      → ((rows : List Row) × Runs b (world facts db) Outside start rows
+      → ((rows : List Row) × Runs b (dataset facts db) Outside start rows
       × (out ≡ with_values x rows (values_of e rows)))
-      → (rows : List Row) × Runs b (world facts db) Outside start rows
+      → (rows : List Row) × Runs b (dataset facts db) Outside start rows
       × ((vs : List Datum) × AllZip (Evaluates db e null) rows vs × (out ≡ with_values x rows vs))
   calculated x e h b start out g = (g.0, g.1, (values_of e g.0, plain_values e h g.0, g.2))
 
   mutual
     clause_law : (c : ClauseTree) → ClauseLifted c
         → (b : Plan) (start : Row) (vars : List Ident) (out : List Row)
-        → Runs (after_clause facts b c) (world facts db) Outside start out
-        → (rows : List Row) × Runs b (world facts db) Outside start rows × Changes db c start vars rows out
+        → Runs (after_clause facts b c) (dataset facts db) Outside start out
+        → (rows : List Row) × Runs b (dataset facts db) Outside start rows × Changes db c start vars rows out
     clause_law (for_each x e) h b start vars out g = (
       g.0,
       g.1,
@@ -267,13 +267,13 @@ module _ (facts : Facts) (db : Database) (meets : Meets facts db) where
     clause_law (traversal w e names prune (named_then n m ms)) h b start vars out g = absurd h.2
     clause_law (traversal w e names prune (computed_then n m ms)) h b start vars out g = absurd h.2
     clause_law (filter_by e) h b start vars out g =
-        let k = filters_run (world facts db) (parts e) b start out g in (
+        let k = filters_run (dataset facts db) (conjuncts e) b start out g in (
           k.0,
           k.1,
           (
             values_of e k.0,
             plain_values e h k.0,
-            k.2 ∙ same_filter (all_hold (parts e)) (λ row. truth (value e null row))
+            k.2 ∙ same_filter (all_hold (conjuncts e)) (λ row. truth (value e null row))
                 (λ row. sym (parts_hold e row)) k.0
                 ∙ sym (kept_of e k.0),
           ),
@@ -299,8 +299,8 @@ module _ (facts : Facts) (db : Database) (meets : Meets facts db) where
 
     clauses_law : (cs : ClauseTrees) → ClausesLifted cs
         → (b : Plan) (start : Row) (vars : List Ident) (out : List Row)
-        → Runs (after_clauses facts b cs) (world facts db) Outside start out
-        → (rows : List Row) × Runs b (world facts db) Outside start rows × Through db cs start vars rows out
+        → Runs (after_clauses facts b cs) (dataset facts db) Outside start out
+        → (rows : List Row) × Runs b (dataset facts db) Outside start rows × Through db cs start vars rows out
     clauses_law no_clauses h b start vars out g = (out, g, refl)
     clauses_law (clause_then c cs) h b start vars out g =
         let more = clauses_law cs h.1 (after_clause facts b c) start (vars_after c vars) out g in
@@ -308,7 +308,7 @@ module _ (facts : Facts) (db : Database) (meets : Meets facts db) where
         (one.0, one.1, (more.0, one.2, more.2))
 
     pub query_law : (q : QueryTree) → IsLifted q → (start : Row) (rows : List Row)
-        → Runs (first_plan facts q) (world facts db) Outside start rows
+        → Runs (first_plan facts q) (dataset facts db) Outside start rows
         → IsAnswer db q start (map result_of rows)
     query_law (query with cs distinct e) h start rows g =
         let through = clauses_law cs h.0 Singleton start [] g.0 g.1 in (
@@ -321,6 +321,6 @@ module _ (facts : Facts) (db : Database) (meets : Meets facts db) where
 
 pub first_answers : (facts : Facts) (db : Database) → Meets facts db → (q : QueryTree) → IsLifted q
     → (start : Row)
-    → (vs : List Datum) → Answers (first_plan facts q) (world facts db) start vs → IsAnswer db q start vs
+    → (vs : List Datum) → Answers (first_plan facts q) (dataset facts db) start vs → IsAnswer db q start vs
 first_answers facts db meets q h start vs g =
     subst (λ (ts : List Datum). IsAnswer db q start ts) (sym g.2) (query_law facts db meets q h start g.0 g.1)

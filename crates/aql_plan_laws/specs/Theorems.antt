@@ -15,9 +15,9 @@ use Rattle.aql_meaning.specs.Lifted.{IsLifted}
 use Rattle.aql_plan.specs.declared.facts.Facts.{Facts}
 use Rattle.aql_plan.specs.Facts.{Meets}
 use Rattle.aql_plan.specs.Plan.{Plan, Over, Node, Subquery}
-use Rattle.aql_plan.specs.Runs.{World, Place, Outside, Runs}
+use Rattle.aql_plan.specs.Runs.{Dataset, Site, Outside, Runs}
 use Rattle.aql_plan.specs.Needs.{result_uses, under, needs}
-use Rattle.aql_plan.specs.Refines.{world, Refines, RefinesFor, Answers}
+use Rattle.aql_plan.specs.Refines.{dataset, Refines, RefinesFor, Answers}
 use Rattle.aql_plan.specs.Above.{raised, input_inside, stands_inside, uses_above}
 use Rattle.aql_plan.specs.Renaming.{NodeSets, IsOther, renamed_node, RefinesRenamed, IsGoneAfter}
 use Rattle.aql_plan.specs.FirstPlan.{first_plan}
@@ -25,11 +25,11 @@ use Rattle.aql_plan.specs.FirstPlan.{first_plan}
 -- every plan gives a list from every row, well formed or not
 abbrev pub EveryPlanHasAList : Type 0
 EveryPlanHasAList =
-    (p : Plan) (w : World) (place : Place) (start : Row) → (out : List Row) × Runs p w place start out
+    (p : Plan) (w : Dataset) (place : Site) (start : Row) → (out : List Row) × Runs p w place start out
 
 -- from rows that agree in what a plan needs it gives lists that agree in what is used of them
 abbrev pub PlanNeedsOnlyWhatIsUsed : Type 0
-PlanNeedsOnlyWhatIsUsed = (p : Plan) (us : Uses) (w : World) (start other : Row) (out : List Row)
+PlanNeedsOnlyWhatIsUsed = (p : Plan) (us : Uses) (w : Dataset) (start other : Row) (out : List Row)
     → Agree (needs p us) start other → Runs p w Outside start out
     → (more : List Row) × Runs p w Outside other more × AllZip (Agree us) out more
 
@@ -64,7 +64,7 @@ RenamedResultsAreValues = (x y : Ident) → IsOther x y (Num 0) → (facts : Fac
 -- each list of the first plan of a scoped query is an answer
 abbrev pub FirstPlanAnswers : Type 0
 FirstPlanAnswers = (facts : Facts) (db : Database) → Meets facts db → (q : QueryTree) → IsLifted q
-    → (start : Row) (vs : List Datum) → Answers (first_plan facts q) (world facts db) start vs
+    → (start : Row) (vs : List Datum) → Answers (first_plan facts q) (dataset facts db) start vs
     → IsAnswer db q start vs
 
 -- where no shard's list descends, what a Gather makes of them does not descend

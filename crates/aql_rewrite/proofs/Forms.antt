@@ -10,9 +10,9 @@ use Rattle.aql_tree.specs.declared.syntax.Expr as code
 use Rattle.aql_tree.specs.View.{tree, trees, members, MemberPart, named, computed, member_part}
 use Rattle.aql_tree.specs.View.{steps, StepPart, name, at, inline, step_part, links, LinkPart, link_part}
 use Rattle.aql_tree.specs.View.{maybe}
-use Rattle.aql_rewrite.specs.Parts.{parts, list_parts, member_parts, step_parts, link_parts, maybe_parts}
-use Rattle.aql_rewrite.specs.OverParts.{first_or, after_first, over_list, over_maybe, after_maybe}
-use Rattle.aql_rewrite.specs.OverParts.{over_members, over_steps, over_links, over_parts}
+use Rattle.aql_rewrite.specs.Children.{children, list_children, member_children, step_children, link_children, maybe_children}
+use Rattle.aql_rewrite.specs.OverChildren.{first_or, after_first, over_list, over_maybe, after_maybe}
+use Rattle.aql_rewrite.specs.OverChildren.{over_members, over_steps, over_links, over_children}
 use Rattle.aql_rewrite.specs.ExprView.{each_over, option_over, after_option}
 use Rattle.aql_rewrite.specs.ExprView.{members_over, steps_over, links_over}
 
@@ -69,42 +69,43 @@ range_form e a b h =
 
 -- ---- the parts
 
-trees_parts : (es : List ExprTree) → list_parts (trees es) ≡ es
+trees_parts : (es : List ExprTree) → list_children (trees es) ≡ es
 trees_parts [] = refl
 trees_parts (e ∷ es) = ap (λ xs. e ∷ xs) (trees_parts es)
 
-pub list_has : (e : Expr) (es : _) → e ≡ code.List es → parts (tree e) ≡ map tree es
-list_has e es h = ap parts (list_form e es h) ∙ trees_parts (map tree es)
+pub list_has : (e : Expr) (es : _) → e ≡ code.List es → children (tree e) ≡ map tree es
+list_has e es h = ap children (list_form e es h) ∙ trees_parts (map tree es)
 
 pub object_has : (e : Expr) (fs : _) → e ≡ code.Object fs
-    → parts (tree e) ≡ member_parts (members (map member_part fs))
-object_has e fs h = ap parts (object_form e fs h)
+    → children (tree e) ≡ member_children (members (map member_part fs))
+object_has e fs h = ap children (object_form e fs h)
 
 pub access_has : (e : Expr) (a ss : _) → e ≡ code.Access a ss
-    → parts (tree e) ≡ tree a.value ∷ step_parts (steps (map step_part ss))
-access_has e a ss h = ap parts (access_form e a ss h)
+    → children (tree e) ≡ tree a.value ∷ step_children (steps (map step_part ss))
+access_has e a ss h = ap children (access_form e a ss h)
 
-pub call_has : (e : Expr) (n es : _) → e ≡ code.Call n es → parts (tree e) ≡ map tree es
-call_has e n es h = ap parts (call_form e n es h) ∙ trees_parts (map tree es)
+pub call_has : (e : Expr) (n es : _) → e ≡ code.Call n es → children (tree e) ≡ map tree es
+call_has e n es h = ap children (call_form e n es h) ∙ trees_parts (map tree es)
 
-pub unary_has : (e : Expr) (op a : _) → e ≡ code.Unary op a → parts (tree e) ≡ tree a.value ∷ []
-unary_has e op a h = ap parts (unary_form e op a h)
+pub unary_has : (e : Expr) (op a : _) → e ≡ code.Unary op a → children (tree e) ≡ tree a.value ∷ []
+unary_has e op a h = ap children (unary_form e op a h)
 
 pub chain_has : (e : Expr) (a ls : _) → e ≡ code.Chain a ls
-    → parts (tree e) ≡ tree a.value ∷ link_parts (links (map link_part ls))
-chain_has e a ls h = ap parts (chain_form e a ls h)
+    → children (tree e) ≡ tree a.value ∷ link_children (links (map link_part ls))
+chain_has e a ls h = ap children (chain_form e a ls h)
 
 pub quant_has : (e : Expr) (a k op b : _) → e ≡ code.Quant a k op b
-    → parts (tree e) ≡ tree a.value ∷ tree b.value ∷ []
-quant_has e a k op b h = ap parts (quant_form e a k op b h)
+    → children (tree e) ≡ tree a.value ∷ tree b.value ∷ []
+quant_has e a k op b h = ap children (quant_form e a k op b h)
 
 pub cond_has : (e : Expr) (t m o : _) → e ≡ code.Cond t m o
-    → parts (tree e) ≡ tree t.value
-    ∷ (maybe_parts (maybe (option_map (λ b. tree b.value) m)) ++ tree o.value ∷ [])
-cond_has e t m o h = ap parts (cond_form e t m o h)
+    → children (tree e) ≡ tree t.value
+    ∷ (maybe_children (maybe (option_map (λ b. tree b.value) m)) ++ tree o.value ∷ [])
+cond_has e t m o h = ap children (cond_form e t m o h)
 
-pub range_has : (e : Expr) (a b : _) → e ≡ code.Range a b → parts (tree e) ≡ tree a.value ∷ tree b.value ∷ []
-range_has e a b h = ap parts (range_form e a b h)
+pub range_has : (e : Expr) (a b : _) → e ≡ code.Range a b
+    → children (tree e) ≡ tree a.value ∷ tree b.value ∷ []
+range_has e a b h = ap children (range_form e a b h)
 
 -- ---- over other parts
 
@@ -147,49 +148,50 @@ all_links_over (l ∷ ls) ps =
 
 module _ (ps : List ExprTree) where
   pub over_a_list : (e : Expr) (es : _) → e ≡ code.List es
-      → over_parts (tree e) ps ≡ array_literal (trees (each_over (map tree es) ps))
-  over_a_list e es h = ap (λ t. over_parts t ps) (list_form e es h) ∙ ap array_literal (list_over (map tree es) ps)
+      → over_children (tree e) ps ≡ array_literal (trees (each_over (map tree es) ps))
+  over_a_list e es h = ap (λ t. over_children t ps) (list_form e es h) ∙ ap array_literal (list_over (map tree es) ps)
 
   pub over_an_object : (e : Expr) (fs : _) → e ≡ code.Object fs
-      → over_parts (tree e) ps ≡ object_literal (members (members_over (map member_part fs) ps))
+      → over_children (tree e) ps ≡ object_literal (members (members_over (map member_part fs) ps))
   over_an_object e fs h =
-      ap (λ t. over_parts t ps) (object_form e fs h) ∙ ap object_literal (fields_over (map member_part fs) ps)
+      ap (λ t. over_children t ps) (object_form e fs h)
+      ∙ ap object_literal (fields_over (map member_part fs) ps)
 
-  pub over_an_access : (e : Expr) (a ss : _) → e ≡ code.Access a ss → over_parts (tree e) ps
+  pub over_an_access : (e : Expr) (a ss : _) → e ≡ code.Access a ss → over_children (tree e) ps
       ≡ access (first_or (tree a.value) ps) (steps (steps_over (map step_part ss) (after_first ps)))
-  over_an_access e a ss h = ap (λ t. over_parts t ps) (access_form e a ss h)
+  over_an_access e a ss h = ap (λ t. over_children t ps) (access_form e a ss h)
       ∙ ap (access (first_or (tree a.value) ps)) (all_steps_over (map step_part ss) (after_first ps))
 
   pub over_a_call : (e : Expr) (n es : _) → e ≡ code.Call n es
-      → over_parts (tree e) ps ≡ function_call n (trees (each_over (map tree es) ps))
+      → over_children (tree e) ps ≡ function_call n (trees (each_over (map tree es) ps))
   over_a_call e n es h =
-      ap (λ t. over_parts t ps) (call_form e n es h) ∙ ap (function_call n) (list_over (map tree es) ps)
+      ap (λ t. over_children t ps) (call_form e n es h) ∙ ap (function_call n) (list_over (map tree es) ps)
 
   pub over_a_unary : (e : Expr) (op a : _) → e ≡ code.Unary op a
-      → over_parts (tree e) ps ≡ unary_of op (first_or (tree a.value) ps)
-  over_a_unary e op a h = ap (λ t. over_parts t ps) (unary_form e op a h)
+      → over_children (tree e) ps ≡ unary_of op (first_or (tree a.value) ps)
+  over_a_unary e op a h = ap (λ t. over_children t ps) (unary_form e op a h)
 
-  pub over_a_chain : (e : Expr) (a ls : _) → e ≡ code.Chain a ls → over_parts (tree e) ps
+  pub over_a_chain : (e : Expr) (a ls : _) → e ≡ code.Chain a ls → over_children (tree e) ps
       ≡ chain (first_or (tree a.value) ps) (links (links_over (map link_part ls) (after_first ps)))
-  over_a_chain e a ls h = ap (λ t. over_parts t ps) (chain_form e a ls h)
+  over_a_chain e a ls h = ap (λ t. over_children t ps) (chain_form e a ls h)
       ∙ ap (chain (first_or (tree a.value) ps)) (all_links_over (map link_part ls) (after_first ps))
 
-  pub over_a_quant : (e : Expr) (a k op b : _) → e ≡ code.Quant a k op b → over_parts (tree e) ps
+  pub over_a_quant : (e : Expr) (a k op b : _) → e ≡ code.Quant a k op b → over_children (tree e) ps
       ≡ array_comparison (first_or (tree a.value) ps) k op (first_or (tree b.value) (after_first ps))
-  over_a_quant e a k op b h = ap (λ t. over_parts t ps) (quant_form e a k op b h)
+  over_a_quant e a k op b h = ap (λ t. over_children t ps) (quant_form e a k op b h)
 
-  pub over_a_cond : (e : Expr) (t m o : _) → e ≡ code.Cond t m o → over_parts (tree e) ps
+  pub over_a_cond : (e : Expr) (t m o : _) → e ≡ code.Cond t m o → over_children (tree e) ps
       ≡ ternary (first_or (tree t.value) ps) (maybe (option_over (option_map (λ b. tree b.value) m) (after_first ps)))
       (first_or (tree o.value) (after_option (option_map (λ b. tree b.value) m) (after_first ps)))
   over_a_cond e t m o h =
       let middle = option_map (λ b. tree b.value) m in
-      ap (λ t. over_parts t ps) (cond_form e t m o h)
+      ap (λ t. over_children t ps) (cond_form e t m o h)
       ∙ ap₂ (λ x qs. ternary (first_or (tree t.value) ps) x (first_or (tree o.value) qs))
       (maybe_over middle (after_first ps)) (after_over middle (after_first ps))
 
-  pub over_a_range : (e : Expr) (a b : _) → e ≡ code.Range a b → over_parts (tree e) ps
+  pub over_a_range : (e : Expr) (a b : _) → e ≡ code.Range a b → over_children (tree e) ps
       ≡ range_of (first_or (tree a.value) ps) (first_or (tree b.value) (after_first ps))
-  over_a_range e a b h = ap (λ t. over_parts t ps) (range_form e a b h)
+  over_a_range e a b h = ap (λ t. over_children t ps) (range_form e a b h)
 
 -- ---- what is built
 

@@ -8,10 +8,10 @@ use Rattle.std.proofs.lemmas.List.{take_more, take-append-drop, map-append}
 use Rattle.aql_tree.specs.declared.syntax.Expr.{Expr}
 use Rattle.aql_tree.specs.Tree.{ExprTree}
 use Rattle.aql_tree.specs.View.{tree}
-use Rattle.aql_rewrite.specs.Parts.{parts}
-use Rattle.aql_rewrite.specs.OverParts.{over_parts}
-use Rattle.aql_rewrite.specs.FirstPart.{Stays, NoneIn, none_in, NoneInAll, none_left, none_then}
-use Rattle.aql_rewrite.specs.FirstPart.{FirstIn, in_part, at_whole, FirstOf, first, later}
+use Rattle.aql_rewrite.specs.Children.{children}
+use Rattle.aql_rewrite.specs.OverChildren.{over_children}
+use Rattle.aql_rewrite.specs.FirstInExpr.{Stays, NoneIn, none_in, NoneInAll, none_left, none_then}
+use Rattle.aql_rewrite.specs.FirstInExpr.{FirstIn, in_child, at_whole, FirstOf, first, later}
 use Rattle.aql_rewrite.specs.Constant.{is_open, IsConstant, constant, AreConstant, no_more}
 use Rattle.aql_rewrite.specs.Constant.{constant_then}
 use Rattle.aql_rewrite.specs.Size.{size, size_all}
@@ -67,15 +67,15 @@ module _ (R : ExprTree → ExprTree → Type 0) where
       subst₂ (λ (es ds : List ExprTree). FirstOf R es ds) (sym (trees_split all i e within here)) (sym k)
       (first_after (map lent (drop (i + 1) all)) h f)
 
-  pub found_in : (ps new : List ExprTree) (e q : ExprTree) → ps ≡ parts e → FirstOf R ps new
-      → q ≡ over_parts e new → FirstIn R e q
+  pub found_in : (ps new : List ExprTree) (e q : ExprTree) → ps ≡ children e → FirstOf R ps new
+      → q ≡ over_children e new → FirstIn R e q
   found_in ps new e q h f k = subst (λ (x : ExprTree). FirstIn R e x) (sym k)
-      (in_part (subst (λ (x : List ExprTree). FirstOf R x new) h f))
+      (in_child (subst (λ (x : List ExprTree). FirstOf R x new) h f))
 
-  pub found_whole : (ps : List ExprTree) (e q : ExprTree) → ps ≡ parts e → NoneInAll R ps → R e q → FirstIn R e q
+  pub found_whole : (ps : List ExprTree) (e q : ExprTree) → ps ≡ children e → NoneInAll R ps → R e q → FirstIn R e q
   found_whole ps e q h n k = at_whole (subst (λ (x : List ExprTree). NoneInAll R x) h n) k
 
-  pub none_whole : (ps : List ExprTree) (e : ExprTree) → ps ≡ parts e → NoneInAll R ps → Stays R e → NoneIn R e
+  pub none_whole : (ps : List ExprTree) (e : ExprTree) → ps ≡ children e → NoneInAll R ps → Stays R e → NoneIn R e
   none_whole ps e h n k = none_in (subst (λ (x : List ExprTree). NoneInAll R x) h n) k
 
 -- ---- constants
@@ -99,10 +99,10 @@ pub constant_at : (all : List (Bor Expr)) (i : ℕ) (e : Bor Expr) → i < lengt
 constant_at all i e within here h = constant_among (map lent (take i all)) (lent e) (map lent (drop (i + 1) all))
     (subst (λ (es : List ExprTree). AreConstant es) (trees_split all i e within here) h)
 
-opened : (e : ExprTree) → IsConstant e → (is_open e ≡ false) × AreConstant (parts e)
+opened : (e : ExprTree) → IsConstant e → (is_open e ≡ false) × AreConstant (children e)
 opened e (constant f h) = (f, h)
 
-pub whole_constant : (ps : List ExprTree) (e : ExprTree) → ps ≡ parts e → is_open e ≡ false
+pub whole_constant : (ps : List ExprTree) (e : ExprTree) → ps ≡ children e → is_open e ≡ false
     → (answer : Bool) → (IsTrue answer ↔ AreConstant ps) → (IsTrue answer ↔ IsConstant e)
 whole_constant ps e h o answer k = (
   (λ a. constant o (subst (λ (x : List ExprTree). AreConstant x) h (k.0 a))),

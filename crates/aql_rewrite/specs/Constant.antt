@@ -4,7 +4,7 @@ use Rattle.aql_value.specs.Datum.{Datum}
 use Rattle.aql_tree.specs.Tree.{ExprTree, variable, current, subquery}
 use Rattle.aql_meaning.specs.Row.{Row}
 use Rattle.aql_meaning.specs.Value.{value}
-use Rattle.aql_rewrite.specs.Parts.{parts}
+use Rattle.aql_rewrite.specs.Children.{children}
 
 -- a variable, CURRENT or a subquery
 abbrev pub is_open : ExprTree → Bool
@@ -15,7 +15,7 @@ is_open e = false
 
 mutual
   pub data IsConstant : ExprTree → Type 0 where
-    constant : {e : ExprTree} → is_open e ≡ false → AreConstant (parts e) → IsConstant e
+    constant : {e : ExprTree} → is_open e ≡ false → AreConstant (children e) → IsConstant e
 
   pub data AreConstant : List ExprTree → Type 0 where
     no_more : AreConstant []

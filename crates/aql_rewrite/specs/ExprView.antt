@@ -1,4 +1,4 @@
--- What the program's lists of parts stand for, and the lists of an expression over other parts, as the
+-- What the program's lists of children stand for, and the lists of an expression over other children, as the
 -- program holds them.
 use Rattle.std.specs.Prelude.{List, [], ◌∷◌, ◌++◌, Option, Some, None}
 use Rattle.std.specs.Borrow.{Bor}
@@ -6,25 +6,25 @@ use Rattle.aql_tree.specs.declared.syntax.Expr.{Expr}
 use Rattle.aql_tree.specs.Tree.{ExprTree}
 use Rattle.aql_tree.specs.View.{tree, maybe, MemberPart, named, computed, StepPart, name, at, inline}
 use Rattle.aql_tree.specs.View.{LinkPart}
-use Rattle.aql_rewrite.specs.Parts.{maybe_parts}
-use Rattle.aql_rewrite.specs.OverParts.{first_or, after_first}
+use Rattle.aql_rewrite.specs.Children.{maybe_children}
+use Rattle.aql_rewrite.specs.OverChildren.{first_or, after_first}
 
 -- an expression that is lent
 abbrev pub lent : Bor Expr → ExprTree
 lent e = tree e.now
 
--- ---- the parts of one member and of one step
+-- ---- the children of one member and of one step
 
-abbrev pub one_member_parts : MemberPart → List ExprTree
-one_member_parts (named n e) = e ∷ []
-one_member_parts (computed n e) = n ∷ e ∷ []
+abbrev pub one_member_children : MemberPart → List ExprTree
+one_member_children (named n e) = e ∷ []
+one_member_children (computed n e) = n ∷ e ∷ []
 
-abbrev pub one_step_parts : StepPart → List ExprTree
-one_step_parts (name n) = []
-one_step_parts (at e) = e ∷ []
-one_step_parts (inline f g) = maybe_parts (maybe f) ++ maybe_parts (maybe g)
+abbrev pub one_step_children : StepPart → List ExprTree
+one_step_children (name n) = []
+one_step_children (at e) = e ∷ []
+one_step_children (inline f g) = maybe_children (maybe f) ++ maybe_children (maybe g)
 
--- ---- over other parts: what stands there, and which new parts are left after it
+-- ---- over other children: what stands there, and which new children are left after it
 
 abbrev pub each_over : List ExprTree → List ExprTree → List ExprTree
 each_over [] ps = []

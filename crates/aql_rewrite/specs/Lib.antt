@@ -1,6 +1,6 @@
-pub mod Parts
-pub mod OverParts
-pub mod FirstPart
+pub mod Children
+pub mod OverChildren
+pub mod FirstInExpr
 pub mod Keeps
 pub mod Size
 pub mod ExprView
@@ -16,10 +16,10 @@ pub mod NodeExprs
 pub mod NodeViews
 pub mod Plain
 pub mod View
-pub mod Walks
+pub mod InputPlaces
 pub mod Exchanged
 pub mod Sums
 pub mod Removed
 pub mod Changed
 pub mod Apart
-pub mod Steps
+pub mod Applications

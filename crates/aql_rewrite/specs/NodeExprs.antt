@@ -6,8 +6,8 @@ use Rattle.aql_tree.specs.Tree.{AggregateTrees, no_aggregates, aggregate_then, I
 use Rattle.aql_meaning.specs.Documents.{End, Last, no_last, one_of, between}
 use Rattle.aql_plan.specs.Plan.{Reading, Node, EnumerateCollection, Index, EnumerateList, Traversal}
 use Rattle.aql_plan.specs.Plan.{Calculation, Filter, Sort, Collect, Return, Distribute, Gather}
-use Rattle.aql_rewrite.specs.Parts.{list_parts, maybe_parts}
-use Rattle.aql_rewrite.specs.OverParts.{first_or, after_first, over_list, over_maybe, after_maybe}
+use Rattle.aql_rewrite.specs.Children.{list_children, maybe_children}
+use Rattle.aql_rewrite.specs.OverChildren.{first_or, after_first, over_list, over_maybe, after_maybe}
 
 -- ---- which there are
 
@@ -22,25 +22,25 @@ last_exprs (between low high) = end_exprs low ++ end_exprs high
 
 abbrev pub aggregate_exprs : AggregateTrees → List ExprTree
 aggregate_exprs no_aggregates = []
-aggregate_exprs (aggregate_then x name e rest) = maybe_parts e ++ aggregate_exprs rest
+aggregate_exprs (aggregate_then x name e rest) = maybe_children e ++ aggregate_exprs rest
 
 abbrev pub into_exprs : IntoTree → List ExprTree
 into_exprs no_into = []
-into_exprs (into x what keep) = maybe_parts what
+into_exprs (into x what keep) = maybe_children what
 
 abbrev pub node_exprs : Node → List ExprTree
-node_exprs (EnumerateCollection x) = maybe_parts x.filter
+node_exprs (EnumerateCollection x) = maybe_children x.filter
 node_exprs (Index x index equal last ordered) =
-    list_parts equal ++ (last_exprs last ++ maybe_parts x.filter)
+    list_children equal ++ (last_exprs last ++ maybe_children x.filter)
 node_exprs (EnumerateList x e) = e ∷ []
-node_exprs (Traversal w e colls prune keep) = e ∷ (maybe_parts prune ++ maybe_parts keep)
+node_exprs (Traversal w e colls prune keep) = e ∷ (maybe_children prune ++ maybe_children keep)
 node_exprs (Calculation x e) = e ∷ []
 node_exprs (Filter e) = e ∷ []
-node_exprs (Sort directions es n) = list_parts es
-node_exprs (Collect xs es gs i s) = list_parts es ++ (aggregate_exprs gs ++ into_exprs i)
+node_exprs (Sort directions es n) = list_children es
+node_exprs (Collect xs es gs i s) = list_children es ++ (aggregate_exprs gs ++ into_exprs i)
 node_exprs (Return distinct e) = e ∷ []
-node_exprs (Distribute coll es) = list_parts es
-node_exprs (Gather directions es) = list_parts es
+node_exprs (Distribute coll es) = list_children es
+node_exprs (Gather directions es) = list_children es
 node_exprs n = []
 
 -- ---- over others, and which of these are left

@@ -2,7 +2,7 @@
 use Rattle.std.specs.Prelude.{Bool, List, [], ◌∷◌, Option, Some, None}
 use Rattle.aql_tree.specs.Tree.{ExprTree}
 use Rattle.aql_tree.specs.View.{KeyPart, LetPart, AggregatePart, IntoPart}
-use Rattle.aql_rewrite.specs.OverParts.{first_or, after_first}
+use Rattle.aql_rewrite.specs.OverChildren.{first_or, after_first}
 use Rattle.aql_rewrite.specs.ExprView.{option_over, after_option}
 
 -- what is left of new expressions after one for each of a list

@@ -1,5 +1,5 @@
--- What the walk asks of nodes: what each uses of its input by itself, whether anything of its input's rows is
--- left in its own, and the node over another input with a variable renamed.
+-- What the search asks of nodes: what each uses of its input by itself, whether anything of its input's rows
+-- is left in its own, and the node over another input with a variable renamed.
 use Rattle.std.specs.Prelude.{Bool, true, false, Option}
 use Rattle.aql_meaning.specs.Uses.{Uses}
 use Rattle.aql_plan.specs.Plan.{Plan, Singleton, Over, Node, Subquery, Collect, Return}

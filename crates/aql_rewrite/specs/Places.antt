@@ -52,9 +52,9 @@ module _ (R : Rewriting) where
         → First false result_uses s t r → First false us (Over b (Subquery x s)) (Over b (Subquery x t)) None
 
   -- one application to a whole plan, or none where there is no place
-  abbrev pub Stepped : Plan → Plan → Bool → Type 0
-  Stepped p q true = (r : Option Rename) × First false result_uses p q r
-  Stepped p q false = NoPlace false result_uses p × (q ≡ p)
+  abbrev pub AppliesOnce : Plan → Plan → Bool → Type 0
+  AppliesOnce p q true = (r : Option Rename) × First false result_uses p q r
+  AppliesOnce p q false = NoPlace false result_uses p × (q ≡ p)
 
   -- applications one after another, each at the first place, and whether there was one
   pub data Reaches : Plan → Plan → Bool → Type 0 where

@@ -2,7 +2,7 @@
 use Rattle.std.specs.Prelude.{List, [], ◌∷◌, Some}
 use Rattle.aql_tree.specs.declared.syntax.Ident.TheVariants.{Num}
 use Rattle.aql_tree.specs.Tree.{ExprTree, variable}
-use Rattle.aql_meaning.specs.Places.{put}
+use Rattle.aql_meaning.specs.Substitution.{put}
 use Rattle.aql_plan.specs.Plan.{Plan, Singleton, Over, Node}
 use Rattle.aql_rewrite.specs.declared.swap.Rename.{Rename}
 use Rattle.aql_rewrite.specs.Places.{renamed_by}

@@ -1,7 +1,7 @@
 -- Whether two expressions without a subquery are the same, form by form: for the contracts of private
 -- functions. The public one says it without this.
 use Rattle.std.specs.Prelude.{ℕ, Bool, true, false, ◌&&◌, ◌==◌, bytes_eq}
-use Rattle.aql_value.specs.Parts.{same}
+use Rattle.aql_value.specs.Contents.{same}
 use Rattle.aql_value.specs.declared.operators.BinOp.{BinOp}
 use Rattle.aql_value.specs.declared.operators.BinOp.TheVariants.{And, Or, Eq, Ne, Lt, Le, Gt, Ge, IsIn, NotIn}
 use Rattle.aql_value.specs.declared.operators.BinOp.TheVariants.{Like, NotLike, Add, Sub, Mul, Div, Rem}

@@ -29,8 +29,8 @@ goes_by None x = x
 goes_by (Some r) x = cond (same_ident (Num r.from) x) (Num r.to) x
 
 -- each variable that is used and was there is there, by its name in the nodes above
-abbrev pub Kept : Option Rename → Uses → List Ident → List Ident → Type 0
-Kept r us xs ys = (x : Ident) → is_used x us ≡ true → list_any (same_ident x) xs ≡ true
+abbrev pub KeepsVariables : Option Rename → Uses → List Ident → List Ident → Type 0
+KeepsVariables r us xs ys = (x : Ident) → is_used x us ≡ true → list_any (same_ident x) xs ≡ true
     → list_any (same_ident (goes_by r x)) ys ≡ true
 
 -- q sets each variable at most as often as p
@@ -43,5 +43,5 @@ pub record KeepsPlaced (fragments inside : Bool) (facts : Facts) (outer : List I
   pub suits : Suits fragments facts q
   pub shape : KeepsShape inside facts q p
   pub found : FindsAll outer q
-  pub vars : Kept r us (vars_of outer p) (vars_of outer q)
+  pub vars : KeepsVariables r us (vars_of outer p) (vars_of outer q)
   pub fewer : SetsNoMore p q

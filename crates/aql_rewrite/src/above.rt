@@ -72,9 +72,9 @@ fn copy_use(used: &Use, alloc: Global) -> Result<Use, OutOfMemory>
 {
     match used {
         Use::Whole(var) => Ok(Use::Whole(copy_ident(alloc, var)?)),
-        Use::Part(var, name) => {
+        Use::Attribute(var, name) => {
             let var = copy_ident(alloc, var)?;
-            Ok(Use::Part(var, name.copy(alloc)?))
+            Ok(Use::Attribute(var, name.copy(alloc)?))
         }
     }
 }

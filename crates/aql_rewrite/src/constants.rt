@@ -8,7 +8,7 @@ ghost use Rattle.aql_rewrite.specs.Constant.{IsConstant, AreConstant, HasOneValu
 ghost use Rattle.aql_rewrite.specs.Keeps.{variables};
 ghost use Rattle.aql_rewrite.specs.ExprView.{lent};
 
-use crate::looking::parts;
+use crate::looking::children;
 use aql_tree::Expr;
 use aql_value::OutOfMemory;
 use std::alloc::Global;
@@ -29,7 +29,7 @@ fn is_closed(alloc: Global, expr: &Expr) -> Result<bool, OutOfMemory>
     if is_open(expr) {
         return Ok(false);
     }
-    let all = parts(alloc, expr)?;
+    let all = children(alloc, expr)?;
     are_closed(alloc, &all)
 }
 

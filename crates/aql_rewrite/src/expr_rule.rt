@@ -3,7 +3,7 @@
 ghost use Rattle.std.specs.Prelude.{◌≡◌, ◌<◌, IfOk, MatchOption};
 ghost use Rattle.aql_tree.specs.Tree.{ExprTree};
 ghost use Rattle.aql_tree.specs.View.{tree};
-ghost use Rattle.aql_rewrite.specs.FirstPart.{Stays};
+ghost use Rattle.aql_rewrite.specs.FirstInExpr.{Stays};
 ghost use Rattle.aql_rewrite.specs.Keeps.{Keeps};
 ghost use Rattle.aql_rewrite.specs.Size.{size};
 
@@ -11,13 +11,13 @@ use aql_tree::Expr;
 use aql_value::OutOfMemory;
 use std::alloc::Global;
 
-/// A rule that rewrites expressions part by part. `first_part` finds its first place.
+/// A rule that rewrites expressions part by part. `first_in_expr` finds its first place.
 pub trait ExprRule {
     /// What may stand in place of an expression.
     ghost rewrites: { Self → ExprTree → ExprTree → Type 0 };
 
     /// What stands in place of the whole expression, or `None` exactly where the rule doesn't apply
-    /// to it. Its parts are not looked through.
+    /// to it. Its children are not looked through.
     fn at(&self, alloc: Global, expr: &Expr) -> Result<Option<Expr>, OutOfMemory>
         ensures { IfOk result (λ found. MatchOption found
             (Stays (rewrites self.now) (tree expr.now))

@@ -7,8 +7,8 @@ ghost use Rattle.aql_tree.specs.View.{into_part, aggregates as aggregate_trees, 
 ghost use Rattle.aql_meaning.specs.View.{end_tree, last_tree};
 ghost use Rattle.aql_plan.specs.Plan as spec;
 ghost use Rattle.aql_plan.specs.View.{node_tree, plan_tree};
-ghost use Rattle.aql_rewrite.specs.Parts.{list_parts};
-ghost use Rattle.aql_rewrite.specs.OverParts.{first_or, after_first};
+ghost use Rattle.aql_rewrite.specs.Children.{list_children};
+ghost use Rattle.aql_rewrite.specs.OverChildren.{first_or, after_first};
 ghost use Rattle.aql_rewrite.specs.ExprView.{lent, each_over, option_over, after_option};
 ghost use Rattle.aql_rewrite.specs.NodeExprs.{end_exprs, last_exprs, aggregate_exprs, into_exprs};
 ghost use Rattle.aql_rewrite.specs.NodeExprs.{node_exprs as spec_node_exprs, over_end as spec_over_end};
@@ -27,7 +27,7 @@ use std::mem;
 
 fn add_exprs<'a>(to: &mut Vec<&'a Expr>, all: &'a [Expr]) -> Result<(), OutOfMemory>
     ensures { OnOk result (map lent to.new.items
-        ≡ map lent to.old.items ++ list_parts (trees (map tree all.now))) }
+        ≡ map lent to.old.items ++ list_children (trees (map tree all.now))) }
 {
     for expr in all {
         to.push(expr)?;
@@ -37,7 +37,7 @@ fn add_exprs<'a>(to: &mut Vec<&'a Expr>, all: &'a [Expr]) -> Result<(), OutOfMem
 
 fn add_keys<'a>(to: &mut Vec<&'a Expr>, keys: &'a [Key]) -> Result<(), OutOfMemory>
     ensures { OnOk result (map lent to.new.items ≡ map lent to.old.items
-        ++ list_parts (trees (map (λ k. k.0) (map key_part keys.now)))) }
+        ++ list_children (trees (map (λ k. k.0) (map key_part keys.now)))) }
 {
     for key in keys {
         to.push(&key.expr)?;
@@ -47,7 +47,7 @@ fn add_keys<'a>(to: &mut Vec<&'a Expr>, keys: &'a [Key]) -> Result<(), OutOfMemo
 
 fn add_groups<'a>(to: &mut Vec<&'a Expr>, groups: &'a [Let]) -> Result<(), OutOfMemory>
     ensures { OnOk result (map lent to.new.items ≡ map lent to.old.items
-        ++ list_parts (trees (map (λ l. l.1) (map let_part groups.now)))) }
+        ++ list_children (trees (map (λ l. l.1) (map let_part groups.now)))) }
 {
     for group in groups {
         to.push(&group.expr)?;

@@ -1,5 +1,5 @@
-//! What a rule of the optimiser is: its trait, on expressions and on plans, the first place where it
-//! applies, and the kinds of rules that have a pass of their own, with what these passes share.
+//! What a rule of the optimiser is: its trait, on expressions and on plans, the first place where
+//! it applies, and the kinds of rules that have a pass of their own, with what these passes share.
 #![tactic(auto)]
 
 mod above;
@@ -9,8 +9,9 @@ mod constants;
 mod equality;
 mod exchange;
 mod expr_rule;
-mod expr_walk;
 mod exprs;
+mod first_in_expr;
+mod first_swap;
 mod looking;
 mod nodes;
 mod part;
@@ -20,7 +21,6 @@ mod removing;
 mod renaming;
 mod rule;
 mod swap;
-mod walk;
 
 pub use above::{is_used, only, result_uses};
 pub use apart::{has_body, is_start, replace_below, replace_body, with_below, with_body};
@@ -29,13 +29,13 @@ pub use constants::is_constant;
 pub use equality::{same_expr, same_variable};
 pub use exchange::ExchangeRule;
 pub use expr_rule::ExprRule;
-pub use expr_walk::{first_of, first_part};
 pub use exprs::{exprs_of, node_exprs, set_exprs};
-pub use looking::{add_maybe, parts};
+pub use first_in_expr::{first_in_expr, first_of};
+pub use looking::{add_maybe, children};
 pub use nodes::{gives_new_rows, is_collect, uses_of};
 pub use part::PartRule;
 pub use pass::{first_place, run_pass};
-pub use rebuilding::{next_part, over_maybe, over_parts};
+pub use rebuilding::{next_child, over_children, over_maybe};
 pub use removing::RemovingRule;
 pub use renaming::rename_top;
 pub use rule::Rule;

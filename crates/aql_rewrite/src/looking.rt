@@ -1,11 +1,11 @@
-//! The parts of an expression, by reference.
+//! The children of an expression, by reference.
 
 ghost use Rattle.std.specs.Prelude.{◌≡◌, ◌++◌, OnOk, IfOk, map, option_map};
 ghost use Rattle.aql_tree.specs.View.{tree, maybe, steps, step_part, members, member_part};
 ghost use Rattle.aql_tree.specs.View.{links, link_part};
-ghost use Rattle.aql_rewrite.specs.Parts.{maybe_parts, member_parts, step_parts, link_parts};
-ghost use Rattle.aql_rewrite.specs.Parts.{parts as spec_parts};
-ghost use Rattle.aql_rewrite.specs.ExprView.{lent, one_member_parts, one_step_parts};
+ghost use Rattle.aql_rewrite.specs.Children.{maybe_children, member_children, step_children, link_children};
+ghost use Rattle.aql_rewrite.specs.Children.{children as spec_children};
+ghost use Rattle.aql_rewrite.specs.ExprView.{lent, one_member_children, one_step_children};
 
 use aql_tree::{Expr, Field, Link, Step};
 use aql_value::OutOfMemory;
@@ -23,7 +23,7 @@ fn add_exprs<'a>(to: &mut Vec<&'a Expr>, all: &'a [Expr]) -> Result<(), OutOfMem
 /// Puts the expression, where there is one, after the others.
 pub fn add_maybe<'a>(to: &mut Vec<&'a Expr>, expr: &'a Option<Expr>) -> Result<(), OutOfMemory>
     ensures { OnOk result (map lent to.new.items ≡ map lent to.old.items
-        ++ maybe_parts (maybe (option_map tree expr.now))) }
+        ++ maybe_children (maybe (option_map tree expr.now))) }
 {
     match expr {
         Some(expr) => {
@@ -39,7 +39,7 @@ fn add_maybe_boxed<'a>(
     expr: &'a Option<Box<Expr>>,
 ) -> Result<(), OutOfMemory>
     ensures { OnOk result (map lent to.new.items ≡ map lent to.old.items
-        ++ maybe_parts (maybe (option_map (λ b. tree b.value) expr.now))) }
+        ++ maybe_children (maybe (option_map (λ b. tree b.value) expr.now))) }
 {
     match expr {
         Some(expr) => {
@@ -52,7 +52,7 @@ fn add_maybe_boxed<'a>(
 
 fn add_field<'a>(to: &mut Vec<&'a Expr>, field: &'a Field) -> Result<(), OutOfMemory>
     ensures { OnOk result (map lent to.new.items ≡ map lent to.old.items
-        ++ one_member_parts (member_part field.now)) }
+        ++ one_member_children (member_part field.now)) }
 {
     match field {
         Field::Named { value, .. } => {
@@ -69,7 +69,7 @@ fn add_field<'a>(to: &mut Vec<&'a Expr>, field: &'a Field) -> Result<(), OutOfMe
 
 fn add_fields<'a>(to: &mut Vec<&'a Expr>, fields: &'a [Field]) -> Result<(), OutOfMemory>
     ensures { OnOk result (map lent to.new.items ≡ map lent to.old.items
-        ++ member_parts (members (map member_part fields.now))) }
+        ++ member_children (members (map member_part fields.now))) }
 {
     for field in fields {
         add_field(to, field)?;
@@ -79,7 +79,7 @@ fn add_fields<'a>(to: &mut Vec<&'a Expr>, fields: &'a [Field]) -> Result<(), Out
 
 fn add_step<'a>(to: &mut Vec<&'a Expr>, step: &'a Step) -> Result<(), OutOfMemory>
     ensures { OnOk result (map lent to.new.items ≡ map lent to.old.items
-        ++ one_step_parts (step_part step.now)) }
+        ++ one_step_children (step_part step.now)) }
 {
     match step {
         Step::Name(_) => Ok(()),
@@ -96,7 +96,7 @@ fn add_step<'a>(to: &mut Vec<&'a Expr>, step: &'a Step) -> Result<(), OutOfMemor
 
 fn add_steps<'a>(to: &mut Vec<&'a Expr>, all: &'a [Step]) -> Result<(), OutOfMemory>
     ensures { OnOk result (map lent to.new.items ≡ map lent to.old.items
-        ++ step_parts (steps (map step_part all.now))) }
+        ++ step_children (steps (map step_part all.now))) }
 {
     for step in all {
         add_step(to, step)?;
@@ -106,7 +106,7 @@ fn add_steps<'a>(to: &mut Vec<&'a Expr>, all: &'a [Step]) -> Result<(), OutOfMem
 
 fn add_links<'a>(to: &mut Vec<&'a Expr>, all: &'a [Link]) -> Result<(), OutOfMemory>
     ensures { OnOk result (map lent to.new.items ≡ map lent to.old.items
-        ++ link_parts (links (map link_part all.now))) }
+        ++ link_children (links (map link_part all.now))) }
 {
     for link in all {
         to.push(&link.right)?;
@@ -114,9 +114,9 @@ fn add_links<'a>(to: &mut Vec<&'a Expr>, all: &'a [Link]) -> Result<(), OutOfMem
     Ok(())
 }
 
-fn add_parts<'a>(to: &mut Vec<&'a Expr>, expr: &'a Expr) -> Result<(), OutOfMemory>
+fn add_children<'a>(to: &mut Vec<&'a Expr>, expr: &'a Expr) -> Result<(), OutOfMemory>
     ensures { OnOk result (map lent to.new.items ≡ map lent to.old.items
-        ++ spec_parts (tree expr.now)) }
+        ++ spec_children (tree expr.now)) }
 {
     match expr {
         Expr::Lit(_) | Expr::Var(_) | Expr::Current | Expr::Sub(_) => Ok(()),
@@ -154,12 +154,12 @@ fn add_parts<'a>(to: &mut Vec<&'a Expr>, expr: &'a Expr) -> Result<(), OutOfMemo
     }
 }
 
-/// The parts of an expression, in the order of the text. The expressions of a subquery are no parts
-/// of it.
-pub fn parts<'a>(alloc: Global, expr: &'a Expr) -> Result<Vec<&'a Expr>, OutOfMemory>
-    ensures { IfOk result (λ all. map lent all.items ≡ spec_parts (tree expr.now)) }
+/// The children of an expression, in the order of the text. The expressions of a subquery are no
+/// children of it.
+pub fn children<'a>(alloc: Global, expr: &'a Expr) -> Result<Vec<&'a Expr>, OutOfMemory>
+    ensures { IfOk result (λ all. map lent all.items ≡ spec_children (tree expr.now)) }
 {
     let mut all = Vec::new(alloc);
-    add_parts(&mut all, expr)?;
+    add_children(&mut all, expr)?;
     Ok(all)
 }

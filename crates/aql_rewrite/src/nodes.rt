@@ -1,4 +1,4 @@
-//! What the walk asks of nodes.
+//! What the search asks of nodes.
 
 ghost use Rattle.std.specs.Prelude.{◌≡◌, ◌++◌, OnOk, IfOk};
 ghost use Rattle.aql_plan.specs.Above.{input_inside as spec_input_inside};

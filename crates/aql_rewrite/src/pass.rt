@@ -3,13 +3,13 @@
 ghost use Rattle.std.specs.Prelude.{IfOk};
 ghost use Rattle.aql_plan.specs.Refines.{Refines};
 ghost use Rattle.aql_plan.specs.View.{plan_tree};
-ghost use Rattle.aql_rewrite.specs.Places.{Stepped, IsPass};
+ghost use Rattle.aql_rewrite.specs.Places.{AppliesOnce, IsPass};
 ghost use Rattle.aql_rewrite.specs.Placed.{IsWhole};
 ghost use Rattle.aql_rewrite.specs.Swaps.{SetsNoMore};
 
 use crate::above::result_uses;
+use crate::first_swap::swap_first;
 use crate::rule::Rule;
-use crate::walk::walk;
 use aql_plan::{Facts, Passed, Plan};
 use aql_value::OutOfMemory;
 use std::alloc::Global;
@@ -23,7 +23,7 @@ pub fn first_place<R: Rule>(
     facts: &Facts,
 ) -> Result<Passed, OutOfMemory>
     requires { IsWhole (R.fragments rule.now) facts.now (plan_tree plan) }
-    ensures stepped { IfOk result (λ x. Stepped (R.rewrites rule.now facts.now)
+    ensures stepped { IfOk result (λ x. AppliesOnce (R.rewrites rule.now facts.now)
         (plan_tree plan) (plan_tree x.plan) x.changed) }
     ensures refines { IfOk result (λ x. Refines facts.now (plan_tree x.plan) (plan_tree plan)) }
     ensures whole { IfOk result
@@ -31,7 +31,7 @@ pub fn first_place<R: Rule>(
     ensures sets { IfOk result (λ x. SetsNoMore (plan_tree plan) (plan_tree x.plan)) }
 {
     let mut above = result_uses(alloc)?;
-    match walk(alloc, rule, &plan, &mut above, false, facts)? {
+    match swap_first(alloc, rule, &plan, &mut above, false, facts)? {
         Some(swap) => Ok(Passed {
             plan: swap.part,
             changed: true,

@@ -1,10 +1,10 @@
-//! Expressions over other parts. New parts wait in a queue, in the order of the text; where it is
-//! empty the old part is copied.
+//! Expressions over other children. New children wait in a queue, in the order of the text; where
+//! it is empty the old child is copied.
 
 ghost use Rattle.std.specs.Prelude.{◌≡◌, OnOk, IfOk, map, option_map};
 ghost use Rattle.aql_tree.specs.View.{tree, step_part, member_part, link_part};
-ghost use Rattle.aql_rewrite.specs.OverParts.{first_or, after_first};
-ghost use Rattle.aql_rewrite.specs.OverParts.{over_parts as spec_over_parts};
+ghost use Rattle.aql_rewrite.specs.OverChildren.{first_or, after_first};
+ghost use Rattle.aql_rewrite.specs.OverChildren.{over_children as spec_over_children};
 ghost use Rattle.aql_rewrite.specs.ExprView.{each_over, option_over, after_option};
 ghost use Rattle.aql_rewrite.specs.ExprView.{member_over, after_member, members_over};
 ghost use Rattle.aql_rewrite.specs.ExprView.{step_over, after_step, steps_over, links_over};
@@ -14,8 +14,12 @@ use aql_value::{OutOfMemory, Seq};
 use std::alloc::Global;
 use std::collections::VecDeque;
 
-/// The next part of the queue; where it is empty, a copy of the old one.
-pub fn next_part(alloc: Global, queue: &mut VecDeque<Expr>, old: &Expr) -> Result<Expr, OutOfMemory>
+/// The next child of the queue; where it is empty, a copy of the old one.
+pub fn next_child(
+    alloc: Global,
+    queue: &mut VecDeque<Expr>,
+    old: &Expr,
+) -> Result<Expr, OutOfMemory>
     ensures part { IfOk result (λ e. tree e ≡ first_or (tree old.now) (map tree queue.old.items)) }
     ensures left { map tree queue.new.items ≡ after_first (map tree queue.old.items) }
 {
@@ -25,7 +29,7 @@ pub fn next_part(alloc: Global, queue: &mut VecDeque<Expr>, old: &Expr) -> Resul
     }
 }
 
-/// The next part of the queue, or a copy of the old one, where there is an old one.
+/// The next child of the queue, or a copy of the old one, where there is an old one.
 pub fn over_maybe(
     alloc: Global,
     queue: &mut VecDeque<Expr>,
@@ -37,7 +41,7 @@ pub fn over_maybe(
         ≡ after_option (option_map tree old.now) (map tree queue.old.items) }
 {
     match old {
-        Some(old) => Ok(Some(next_part(alloc, queue, old)?)),
+        Some(old) => Ok(Some(next_child(alloc, queue, old)?)),
         None => Ok(None),
     }
 }
@@ -53,7 +57,7 @@ fn over_maybe_boxed(
         ≡ after_option (option_map (λ b. tree b.value) old.now) (map tree queue.old.items) }
 {
     match old {
-        Some(old) => Ok(Some(next_part(alloc, queue, old)?)),
+        Some(old) => Ok(Some(next_child(alloc, queue, old)?)),
         None => Ok(None),
     }
 }
@@ -68,7 +72,7 @@ fn over_exprs(
 {
     let mut out = Seq::new(alloc);
     for old in all {
-        out.push(next_part(alloc, queue, old)?)?;
+        out.push(next_child(alloc, queue, old)?)?;
     }
     Ok(out)
 }
@@ -82,11 +86,11 @@ fn over_field(alloc: Global, queue: &mut VecDeque<Expr>, old: &Field) -> Result<
     match old {
         Field::Named { name, value } => Ok(Field::Named {
             name: name.copy(alloc)?,
-            value: next_part(alloc, queue, value)?,
+            value: next_child(alloc, queue, value)?,
         }),
         Field::Computed { name, value } => Ok(Field::Computed {
-            name: next_part(alloc, queue, name)?,
-            value: next_part(alloc, queue, value)?,
+            name: next_child(alloc, queue, name)?,
+            value: next_child(alloc, queue, value)?,
         }),
     }
 }
@@ -114,7 +118,7 @@ fn over_step(alloc: Global, queue: &mut VecDeque<Expr>, old: &Step) -> Result<St
 {
     match old {
         Step::Name(name) => Ok(Step::Name(name.copy(alloc)?)),
-        Step::At(old) => Ok(Step::At(next_part(alloc, queue, old)?)),
+        Step::At(old) => Ok(Step::At(next_child(alloc, queue, old)?)),
         Step::Each { filter, project } => {
             let filter = over_maybe(alloc, queue, filter)?;
             let project = over_maybe(alloc, queue, project)?;
@@ -148,21 +152,21 @@ fn over_links(
 {
     let mut out = Seq::new(alloc);
     for old in all {
-        out.push(Link::new(old.op, next_part(alloc, queue, &old.right)?))?;
+        out.push(Link::new(old.op, next_child(alloc, queue, &old.right)?))?;
     }
     Ok(out)
 }
 
 fn over_queue(alloc: Global, expr: &Expr, queue: &mut VecDeque<Expr>) -> Result<Expr, OutOfMemory>
     ensures { IfOk result (λ e. tree e
-        ≡ spec_over_parts (tree expr.now) (map tree queue.old.items)) }
+        ≡ spec_over_children (tree expr.now) (map tree queue.old.items)) }
 {
     match expr {
         Expr::Lit(_) | Expr::Var(_) | Expr::Current | Expr::Sub(_) => copy_expr(alloc, expr),
         Expr::List(items) => Ok(Expr::List(over_exprs(alloc, queue, items.as_slice())?)),
         Expr::Object(fields) => Ok(Expr::Object(over_fields(alloc, queue, fields.as_slice())?)),
         Expr::Access { of, steps } => {
-            let of = next_part(alloc, queue, of)?;
+            let of = next_child(alloc, queue, of)?;
             let steps = over_steps(alloc, queue, steps.as_slice())?;
             Expr::access(alloc, of, steps)
         }
@@ -171,11 +175,11 @@ fn over_queue(alloc: Global, expr: &Expr, queue: &mut VecDeque<Expr>) -> Result<
             args: over_exprs(alloc, queue, args.as_slice())?,
         }),
         Expr::Unary { op, of } => {
-            let of = next_part(alloc, queue, of)?;
+            let of = next_child(alloc, queue, of)?;
             Expr::unary(alloc, *op, of)
         }
         Expr::Chain { first, rest } => {
-            let first = next_part(alloc, queue, first)?;
+            let first = next_child(alloc, queue, first)?;
             let rest = over_links(alloc, queue, rest.as_slice())?;
             Expr::chain(alloc, first, rest)
         }
@@ -185,28 +189,28 @@ fn over_queue(alloc: Global, expr: &Expr, queue: &mut VecDeque<Expr>) -> Result<
             op,
             right,
         } => {
-            let left = next_part(alloc, queue, left)?;
-            let right = next_part(alloc, queue, right)?;
-            Expr::quantified(alloc, left, *kind, *op, right)
+            let left = next_child(alloc, queue, left)?;
+            let right = next_child(alloc, queue, right)?;
+            Expr::array_comparison(alloc, left, *kind, *op, right)
         }
         Expr::Cond { test, yes, no } => {
-            let test = next_part(alloc, queue, test)?;
+            let test = next_child(alloc, queue, test)?;
             let yes = over_maybe_boxed(alloc, queue, yes)?;
-            let no = next_part(alloc, queue, no)?;
+            let no = next_child(alloc, queue, no)?;
             Expr::conditional(alloc, test, yes, no)
         }
         Expr::Range { low, high } => {
-            let low = next_part(alloc, queue, low)?;
-            let high = next_part(alloc, queue, high)?;
+            let low = next_child(alloc, queue, low)?;
+            let high = next_child(alloc, queue, high)?;
             Expr::range(alloc, low, high)
         }
     }
 }
 
-/// The same form over other parts, taken in order. Where they run out, the old parts are copied, so
-/// without any this is a copy; what is too many is dropped.
-pub fn over_parts(alloc: Global, expr: &Expr, new: VecDeque<Expr>) -> Result<Expr, OutOfMemory>
-    ensures { IfOk result (λ e. tree e ≡ spec_over_parts (tree expr.now) (map tree new.items)) }
+/// The same form over other children, taken in order. Where they run out, the old children are
+/// copied, so without any this is a copy; what is too many is dropped.
+pub fn over_children(alloc: Global, expr: &Expr, new: VecDeque<Expr>) -> Result<Expr, OutOfMemory>
+    ensures { IfOk result (λ e. tree e ≡ spec_over_children (tree expr.now) (map tree new.items)) }
 {
     let mut queue = new;
     over_queue(alloc, expr, &mut queue)

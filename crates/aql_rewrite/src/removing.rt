@@ -18,7 +18,7 @@ use aql_plan::{Facts, Plan};
 /// above.
 pub trait RemovingRule: Rule {
     /// What is renamed above where the top node goes; `None` exactly where it stays.
-    fn removed(&self, part: &Plan, facts: &Facts) -> Option<Rename>
+    fn removal(&self, part: &Plan, facts: &Facts) -> Option<Rename>
         requires { IsPlaced false false facts.now [] (plan_tree part.now) }
         ensures { MatchOption result
             (Stays (Self.rewrites self.now facts.now) [] (plan_tree part.now))

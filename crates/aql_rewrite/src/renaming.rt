@@ -1,5 +1,5 @@
-//! Variables renamed in the expressions and the bodies of nodes: a variable goes by the first of the
-//! renamings, what that gives by the next, and so on.
+//! Variables renamed in the expressions and the bodies of nodes: a variable goes by the first of
+//! the renamings, what that gives by the next, and so on.
 
 ghost use Rattle.std.specs.Prelude.{◌≡◌, IfOk, OnOk, MatchOption, Some, None, map};
 ghost use Rattle.std.specs.List.{AllByRecursion};
@@ -18,7 +18,7 @@ ghost use Rattle.aql_rewrite.specs.Renames.{renaming, put_each, top_each};
 
 use crate::exprs::{exprs_of, set_exprs};
 use crate::swap::Rename;
-use crate::{over_parts, parts};
+use crate::{children, over_children};
 use aql_plan::{Node, Plan};
 use aql_tree::{Expr, Ident, copy_ident};
 use aql_value::OutOfMemory;
@@ -78,9 +78,9 @@ fn renamed_expr(alloc: Global, expr: &Expr, renames: &[Rename]) -> Result<Expr, 
     match variable_of(expr) {
         Some(var) => renamed_variable(alloc, var, renames),
         None => {
-            let all = parts(alloc, expr)?;
+            let all = children(alloc, expr)?;
             let new = renamed_exprs(alloc, &all, renames)?;
-            over_parts(alloc, expr, new)
+            over_children(alloc, expr, new)
         }
     }
 }

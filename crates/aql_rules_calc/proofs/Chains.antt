@@ -12,8 +12,8 @@ use Rattle.aql_tree.specs.Tree.{ExprTree, array_literal, chain, expr_then, LinkT
 use Rattle.aql_tree.specs.View.{tree, trees, links, LinkPart}
 use Rattle.aql_meaning.specs.Plain.{IsPlain}
 use Rattle.aql_rewrite.specs.Constant.{IsConstant}
-use Rattle.aql_rewrite.specs.FirstPart.{Stays}
-use Rattle.aql_rewrite.specs.Parts.{list_parts, link_parts, parts}
+use Rattle.aql_rewrite.specs.FirstInExpr.{Stays}
+use Rattle.aql_rewrite.specs.Children.{list_children, link_children, children}
 use Rattle.aql_rewrite.specs.ExprView.{lent}
 use Rattle.aql_rules_calc.specs.Operations.{chain_in, array_in, operation_in, right_sides, left_in}
 use Rattle.aql_rules_calc.specs.Operations.{first_left}
@@ -69,7 +69,7 @@ compares e k Eq ks p c h =
     let same : k ∷ [] ≡ ks = cc in
     subst (λ (x : List ExprTree). Compares e (operation e Eq k) x) same (equal_to p c)
 compares e (array_literal (expr_then j js)) IsIn ks p c h =
-    let same : list_parts (expr_then j js) ≡ ks = cc in
+    let same : list_children (expr_then j js) ≡ ks = cc in
     subst (λ (x : List ExprTree). Compares e (operation e IsIn (array_literal (expr_then j js))) x) same
     (one_of p c)
 compares e k op ks p c h = cc
@@ -140,8 +140,8 @@ left_of e d ds _ (compares_then {ks = ks} h k) = by d ks h
     by _ _ (one_of p c) = refl
 
 first_of : (e d : ExprTree) (ls : LinkTrees) (ks : List ExprTree) → is_or_chain ls ≡ true
-    → AllCompare e (d ∷ link_parts ls) ks → first_left (chain d ls) ≡ Some e
-first_of e d ls ks o h = ap (λ (b : Bool). cond b (left_in d) None) o ∙ left_of e d (link_parts ls) ks h
+    → AllCompare e (d ∷ link_children ls) ks → first_left (chain d ls) ≡ Some e
+first_of e d ls ks o h = ap (λ (b : Bool). cond b (left_in d) None) o ∙ left_of e d (link_children ls) ks h
 
 pub no_left : (t : ExprTree) → first_left t ≡ None → Stays Replaces t
 no_left t h q r = by t q h r
@@ -152,22 +152,22 @@ no_left t h q r = by t q h r
 
 module _ (f : ExprTree) where
   of_left : (t q : ExprTree) → first_left t ≡ Some f → Replaces t q
-      → ((ks : List ExprTree) → (IsConstant f → ⊥) → AllCompare f (parts t) ks → ⊥) → ⊥
+      → ((ks : List ExprTree) → (IsConstant f → ⊥) → AllCompare f (children t) ks → ⊥) → ⊥
   of_left _ _ h (by_in {e = e} {d = d} {ls = ls} {ks = ks} o c k) n =
       let x : Some e ≡ Some f = sym (first_of e d ls ks o k) ∙ h in
       let same : e ≡ f = cc in
       n ks (λ j. c (subst (λ (y : ExprTree). IsConstant y) (sym same) j))
-      (subst (λ (y : ExprTree). AllCompare y (d ∷ link_parts ls) ks) same k)
+      (subst (λ (y : ExprTree). AllCompare y (d ∷ link_children ls) ks) same k)
 
   pub stays_constant : (t : ExprTree) → first_left t ≡ Some f → IsConstant f → Stays Replaces t
   stays_constant t h k q r = of_left t q h r (λ ks c j. c k)
 
   pub stays_apart : (t : ExprTree) → first_left t ≡ Some f
-      → ((ks : List ExprTree) → AllCompare f (parts t) ks → ⊥) → Stays Replaces t
+      → ((ks : List ExprTree) → AllCompare f (children t) ks → ⊥) → Stays Replaces t
   stays_apart t h n q r = of_left t q h r (λ ks c j. n ks j)
 
   pub replaced : (t q : ExprTree) (ks : List ExprTree) → first_left t ≡ Some f → (IsConstant f → ⊥)
-      → AllCompare f (parts t) ks → q ≡ operation f IsIn (array_literal (trees ks)) → Replaces t q
+      → AllCompare f (children t) ks → q ≡ operation f IsIn (array_literal (trees ks)) → Replaces t q
   replaced (chain d ls) q ks h c k e = by (is_or_chain ls) refl h
     where
       by : (b : Bool) → is_or_chain ls ≡ b → cond b (left_in d) None ≡ Some f → Replaces (chain d ls) q

@@ -3,7 +3,7 @@ use Rattle.std.specs.Prelude.{List, [], ◌∷◌, cond, Option, Some, None, opt
 use Rattle.aql_value.specs.declared.operators.BinOp.{BinOp}
 use Rattle.aql_value.specs.declared.operators.BinOp.TheVariants.{Eq, IsIn}
 use Rattle.aql_tree.specs.Tree.{ExprTree, array_literal, chain, expr_then, LinkTrees, no_links, link_then}
-use Rattle.aql_rewrite.specs.Parts.{list_parts}
+use Rattle.aql_rewrite.specs.Children.{list_children}
 use Rattle.aql_rules_calc.specs.ReplaceOrWithIn.{is_or_chain}
 
 abbrev pub chain_in : ExprTree → Option (ExprTree × LinkTrees)
@@ -12,7 +12,7 @@ chain_in e = None
 
 -- the elements of an array literal that has some
 abbrev pub array_in : ExprTree → Option (List ExprTree)
-array_in (array_literal (expr_then e es)) = Some (list_parts (expr_then e es))
+array_in (array_literal (expr_then e es)) = Some (list_children (expr_then e es))
 array_in e = None
 
 -- the sides of `e op k`

@@ -10,7 +10,7 @@ use Rattle.aql_tree.specs.declared.syntax.Ident.{Ident}
 use Rattle.aql_tree.specs.Tree.{ExprTree, ExprTrees}
 use Rattle.aql_meaning.specs.Row.{same_ident}
 use Rattle.aql_meaning.specs.Documents.{Last}
-use Rattle.aql_meaning.specs.Uses.{Use, Whole, Part, Uses}
+use Rattle.aql_meaning.specs.Uses.{Use, Whole, Attribute, Uses}
 use Rattle.aql_plan.specs.declared.facts.Facts.{Facts}
 use Rattle.aql_plan.specs.Facts.{attributes_in}
 use Rattle.aql_plan.specs.Plan.{Reading, Plan, Singleton, Over, Node, EnumerateCollection, Index, Subquery}
@@ -19,7 +19,7 @@ use Rattle.aql_rewrite.specs.declared.swap.Rename.{Rename}
 -- x is used as a whole
 abbrev pub is_whole : Ident → Use → Bool
 is_whole x (Whole y) = same_ident x y
-is_whole x (Part y name) = false
+is_whole x (Attribute y name) = false
 
 abbrev pub used_whole : Ident → Uses → Bool
 used_whole x us = list_any (is_whole x) us
@@ -30,7 +30,7 @@ with_name names name = insert_key (slice_cmp nat_cmp) names name
 
 abbrev pub with_use : Ident → List (List ℕ) → Use → List (List ℕ)
 with_use x names (Whole y) = names
-with_use x names (Part y name) = cond (same_ident x y) (with_name names name) names
+with_use x names (Attribute y name) = cond (same_ident x y) (with_name names name) names
 
 -- the names of the attributes of x that are used, in ascending order, each once
 abbrev pub names_used : Ident → Uses → List (List ℕ)
@@ -40,7 +40,7 @@ names_used x us = fold (with_use x) [] us
 abbrev pub order_uses : Facts → Reading → ℕ → Option Bool → Uses
 order_uses facts x index None = []
 order_uses facts x index (Some descending) =
-    map (λ name. Part x.var name) (attributes_in facts x.coll index)
+    map (λ name. Attribute x.var name) (attributes_in facts x.coll index)
 
 abbrev pub keeping : List (List ℕ) → Reading → Reading
 keeping names x = record {

@@ -7,7 +7,7 @@ use Rattle.aql_tree.specs.Tree.{ExprTree, array_literal, chain, ExprTrees, expr_
 use Rattle.aql_tree.specs.View.{trees}
 use Rattle.aql_meaning.specs.Plain.{IsPlain}
 use Rattle.aql_rewrite.specs.Constant.{IsConstant}
-use Rattle.aql_rewrite.specs.Parts.{list_parts, link_parts}
+use Rattle.aql_rewrite.specs.Children.{list_children, link_children}
 
 abbrev pub is_or : BinOp → Bool
 is_or Or = true
@@ -30,7 +30,7 @@ operation e op k = chain e (link_then op k no_links)
 pub data Compares (e : ExprTree) : ExprTree → List ExprTree → Type 0 where
   equal_to : {k : ExprTree} → IsPlain e → IsConstant k → Compares e (operation e Eq k) (k ∷ [])
   one_of : {k : ExprTree} {ks : ExprTrees} → IsPlain e → IsConstant (array_literal (expr_then k ks))
-      → Compares e (operation e IsIn (array_literal (expr_then k ks))) (list_parts (expr_then k ks))
+      → Compares e (operation e IsIn (array_literal (expr_then k ks))) (list_children (expr_then k ks))
 
 -- each expression of a list does, and ks is what they compare it with, in order
 pub data AllCompare (e : ExprTree) : List ExprTree → List ExprTree → Type 0 where
@@ -40,5 +40,5 @@ pub data AllCompare (e : ExprTree) : List ExprTree → List ExprTree → Type 0 
 
 pub data Replaces : ExprTree → ExprTree → Type 0 where
   by_in : {e d : ExprTree} {ls : LinkTrees} {ks : List ExprTree} → is_or_chain ls ≡ true
-      → (IsConstant e → ⊥) → AllCompare e (d ∷ link_parts ls) ks
+      → (IsConstant e → ⊥) → AllCompare e (d ∷ link_children ls) ks
       → Replaces (chain d ls) (operation e IsIn (array_literal (trees ks)))

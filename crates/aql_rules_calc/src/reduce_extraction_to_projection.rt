@@ -5,7 +5,7 @@ ghost use Rattle.std.specs.Prelude.{Some, None, map, length};
 ghost use Rattle.aql_tree.specs.declared.syntax.Ident.{Ident as spec_Ident};
 ghost use Rattle.aql_tree.specs.declared.syntax.Ident.TheVariants.{Num};
 ghost use Rattle.aql_meaning.specs.Row.{same_ident};
-ghost use Rattle.aql_meaning.specs.Uses.{Part};
+ghost use Rattle.aql_meaning.specs.Uses.{Attribute};
 ghost use Rattle.aql_plan.specs.Plan.{top};
 ghost use Rattle.aql_plan.specs.View.{node_tree, plan_tree};
 ghost use Rattle.aql_plan.specs.Used.{use_tree, uses_tree};
@@ -81,7 +81,7 @@ fn add_use(alloc: Global, var: u32, used: &Use, names: &mut Names) -> Result<boo
 {
     match used {
         Use::Whole(own) => Ok(!is_number(var, own)),
-        Use::Part(own, name) => {
+        Use::Attribute(own, name) => {
             if !is_number(var, own) {
                 return Ok(true);
             }
@@ -130,7 +130,7 @@ fn add_above(
 fn add_attributes(alloc: Global, order: &[Text], names: &mut Names) -> Result<bool, OutOfMemory>
     requires { length names.old ≤ 5 }
     ensures { IfOk result (λ few. (x : spec_Ident)
-        → AreAdded few names.old x (map (λ name. Part x name) order.now) names.new) }
+        → AreAdded few names.old x (map (λ name. Attribute x name) order.now) names.new) }
 {
     for name in order {
         if !add_name(alloc, name.as_str(), names)? {
@@ -149,7 +149,7 @@ fn kept_names(
     above: &[Uses],
 ) -> Result<Option<Names>, OutOfMemory>
     ensures { IfOk result (λ kept. AreKept kept (Num var)
-        (above_uses above.now ++ map (λ name. Part (Num var) name) order.now)) }
+        (above_uses above.now ++ map (λ name. Attribute (Num var) name) order.now)) }
 {
     let mut names = Seq::new(alloc);
     if !add_above(alloc, var, above, &mut names)? {

@@ -52,7 +52,7 @@ fn calculates(plan: &Plan, expr: &Expr) -> Option<u32>
 
 // The variable under which the rows of a plan have the value of an expression, where a node
 // calculates it and none above that makes new rows.
-fn calculated(plan: &Plan, expr: &Expr) -> Option<u32>
+fn find_calculation(plan: &Plan, expr: &Expr) -> Option<u32>
     requires { IsPlain (tree expr.now) }
     ensures { MatchOption result
         ((w : spec_Ident) → Calculates (tree expr.now) w (plan_tree plan.now) → ⊥)
@@ -66,21 +66,21 @@ fn calculated(plan: &Plan, expr: &Expr) -> Option<u32>
                 if gives_new_rows(plan) {
                     return None;
                 }
-                calculated(below, expr)
+                find_calculation(below, expr)
             }
         },
     }
 }
 
 // The input of a redundant Calculation, and what its variable goes by above.
-fn redundant(part: &Plan) -> Option<(&Plan, Rename)>
+fn redundant_calculation(part: &Plan) -> Option<(&Plan, Rename)>
     requires { NodePlain (top (plan_tree part.now)) }
     ensures { MatchOption result (IsNotRedundant (plan_tree part.now))
         (λ c. IsRedundant (plan_tree part.now) (plan_tree c.0.now) c.1) }
 {
     match calculation_in(part) {
         None => None,
-        Some((below, var, expr)) => match calculated(below, expr) {
+        Some((below, var, expr)) => match find_calculation(below, expr) {
             None => None,
             Some(lower) => Some((
                 below,
@@ -117,7 +117,7 @@ impl Rule for RemoveRedundantCalculations {
         _above: &[Uses],
         _facts: &Facts,
     ) -> Result<Option<Swap>, OutOfMemory> {
-        match redundant(part) {
+        match redundant_calculation(part) {
             None => Ok(None),
             Some((below, rename)) => {
                 let part = below.copy(alloc)?;
@@ -142,8 +142,8 @@ impl RemovingRule for RemoveRedundantCalculations {
     ghost use Rattle.std.specs.Prelude.{refl};
     ghost use Rattle.aql_rules_calc.specs.laws.CalculatedTwice.{redundant_blind, redundant_removes};
 
-    fn removed(&self, part: &Plan, _facts: &Facts) -> Option<Rename> {
-        match redundant(part) {
+    fn removal(&self, part: &Plan, _facts: &Facts) -> Option<Rename> {
+        match redundant_calculation(part) {
             None => None,
             Some((_, rename)) => Some(rename),
         }

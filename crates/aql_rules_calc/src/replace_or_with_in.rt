@@ -4,7 +4,7 @@ ghost use Rattle.std.specs.Prelude.{◌≡◌, ◌++◌, Some, None, IfOk, OnOk,
 ghost use Rattle.aql_value.specs.declared.operators.BinOp.TheVariants.{IsIn};
 ghost use Rattle.aql_tree.specs.Tree.{array_literal};
 ghost use Rattle.aql_tree.specs.View.{tree, trees, links, link_part};
-ghost use Rattle.aql_rewrite.specs.FirstPart.{Stays};
+ghost use Rattle.aql_rewrite.specs.FirstInExpr.{Stays};
 ghost use Rattle.aql_rewrite.specs.ExprView.{lent};
 ghost use Rattle.aql_rules_calc.specs.Operations.{chain_in as spec_chain_in};
 ghost use Rattle.aql_rules_calc.specs.Operations.{array_in as spec_array_in};
@@ -18,7 +18,7 @@ ghost use Rattle.aql_rules_calc.specs.ReplaceOrWithIn.{operation, Compares, AllC
 ghost use Rattle.aql_rules_calc.specs.ReplaceOrWithIn.{Replaces};
 
 use aql_func::BinOp;
-use aql_rewrite::{ExprRule, is_constant, parts, same_expr};
+use aql_rewrite::{ExprRule, children, is_constant, same_expr};
 use aql_tree::{Expr, Exprs, Link, copy_expr};
 use aql_value::{OutOfMemory, Seq};
 use std::alloc::Global;
@@ -128,7 +128,7 @@ fn right_sides(op: BinOp, right: &Expr) -> Option<&[Expr]>
 }
 
 // The constants that a part of the chain compares an expression with, if it does.
-fn compared<'a>(
+fn constants_in<'a>(
     alloc: Global,
     left: &Expr,
     part: &'a Expr,
@@ -161,14 +161,14 @@ fn add_copies(alloc: Global, all: &[Expr], to: &mut Exprs) -> Result<(), OutOfMe
 }
 
 // The constants that all parts of the chain compare an expression with, if they do.
-fn all_compared(alloc: Global, left: &Expr, all: &[&Expr]) -> Result<Option<Exprs>, OutOfMemory>
+fn constants_in_all(alloc: Global, left: &Expr, all: &[&Expr]) -> Result<Option<Exprs>, OutOfMemory>
     ensures { IfOk result (λ found. MatchOption found
         ((ks : _) → AllCompare (tree left.now) (map lent all.now) ks → ⊥)
         (λ ks. AllCompare (tree left.now) (map lent all.now) (map tree ks))) }
 {
     let mut out = Seq::new(alloc);
     for part in all {
-        match compared(alloc, left, part)? {
+        match constants_in(alloc, left, part)? {
             Some(right) => add_copies(alloc, right, &mut out)?,
             None => return Ok(None),
         }
@@ -214,8 +214,8 @@ fn as_in(alloc: Global, left: &Expr, expr: &Expr) -> Result<Option<Expr>, OutOfM
     if is_constant(alloc, left)? {
         return Ok(None);
     }
-    let all = parts(alloc, expr)?;
-    match all_compared(alloc, left, &all)? {
+    let all = children(alloc, expr)?;
+    match constants_in_all(alloc, left, &all)? {
         Some(right) => {
             let new = in_array(alloc, left, right)?;
             Ok(Some(new))

@@ -58,7 +58,7 @@ fn is_scalar(value: &Value) -> bool
 }
 
 // The literal that a constant expression becomes, if it does.
-fn computed(alloc: Global, expr: &Expr) -> Result<Option<Expr>, OutOfMemory>
+fn fold_constant(alloc: Global, expr: &Expr) -> Result<Option<Expr>, OutOfMemory>
     ensures { IfOk result (λ found. MatchOption found (IsComputed (tree expr.now) → ⊥)
         (λ new. IsComputed (tree expr.now)
         × (tree new ≡ literal (constant_value (tree expr.now))))) }
@@ -141,7 +141,7 @@ fn all_named(fields: &[Field]) -> bool
 }
 
 // The value of a member of this name, else what was found before.
-fn named<'a>(field: &'a Field, name: &str, before: Option<&'a Expr>) -> Option<&'a Expr>
+fn value_if_named<'a>(field: &'a Field, name: &str, before: Option<&'a Expr>) -> Option<&'a Expr>
     ensures { or_null result ≡ named_in name.now (member_part field.now) (or_null before.entry) }
 {
     match field {
@@ -162,7 +162,7 @@ fn last_of(alloc: Global, fields: &[Field], name: &str) -> Result<Expr, OutOfMem
 {
     let mut found = None;
     for field in fields {
-        found = named(field, name, found);
+        found = value_if_named(field, name, found);
     }
     match found {
         Some(expr) => copy_expr(alloc, expr),
@@ -206,7 +206,7 @@ fn with_steps(alloc: Global, of: Expr, rest: &[Step]) -> Result<Expr, OutOfMemor
 }
 
 // The member with the steps after the name, where all names are fixed.
-fn taken(
+fn member_access(
     alloc: Global,
     fields: &[Field],
     name: &str,
@@ -232,7 +232,7 @@ fn member_at(alloc: Global, expr: &Expr) -> Result<Option<Expr>, OutOfMemory>
     match access_in(expr) {
         Some(found) => match fields_in(found.of) {
             Some(fields) => match named_step(found.steps) {
-                Some(step) => taken(alloc, fields, step.name, step.rest),
+                Some(step) => member_access(alloc, fields, step.name, step.rest),
                 None => Ok(None),
             },
             None => Ok(None),
@@ -254,7 +254,7 @@ impl ExprRule for SimplifyConditions {
     ghost rewrites = { λ _. Simplifies };
 
     fn at(&self, alloc: Global, expr: &Expr) -> Result<Option<Expr>, OutOfMemory> {
-        match computed(alloc, expr)? {
+        match fold_constant(alloc, expr)? {
             Some(new) => Ok(Some(new)),
             None => member_at(alloc, expr),
         }

@@ -6,7 +6,7 @@ use Rattle.aql_tree.specs.declared.syntax.Expr.{Expr, the_lemmas}
 use Rattle.aql_tree.specs.declared.syntax.Expr as code
 use Rattle.aql_tree.specs.Tree.{ExprTree, chain, no_expr, one_expr, LinkTrees, no_links, link_then}
 use Rattle.aql_tree.specs.View.{tree, links, link_part, LinkPart}
-use Rattle.aql_plan.specs.FirstPlan.{is_and, all_and, right_sides, parts}
+use Rattle.aql_plan.specs.FirstPlan.{is_and, all_and, right_sides, conjuncts}
 use Rattle.aql_rules_filter.specs.Conditions.{and_links, with_more, all_of, joined}
 use Rattle.aql_rules_filter.specs.Readers.{and_link}
 use Rattle.aql_rules_filter.specs.laws.Joined.{is_it}
@@ -18,10 +18,11 @@ chain_form x a ls h =
     = search (rules, the_lemmas) in k)
 
 -- an expression that is no chain has one part
-pub one_part : (x : Expr) → ((a ls : _) → x ≡ code.Chain a ls → ⊥) → parts (tree x) ≡ tree x ∷ []
+pub one_part : (x : Expr) → ((a ls : _) → x ≡ code.Chain a ls → ⊥) → conjuncts (tree x) ≡ tree x ∷ []
 one_part x not = search (rules, the_lemmas, not)
 
-pub other_chain : (e : ExprTree) (ls : LinkTrees) → all_and ls ≡ false → parts (chain e ls) ≡ chain e ls ∷ []
+pub other_chain : (e : ExprTree) (ls : LinkTrees) → all_and ls ≡ false
+    → conjuncts (chain e ls) ≡ chain e ls ∷ []
 other_chain e ls h = ap (λ b. cond b (e ∷ right_sides ls) (chain e ls ∷ [])) h
 
 -- ---- at least one item
@@ -40,7 +41,7 @@ more_linked (l ∷ ls) es h =
 
 -- with items of a condition, of which there is one at least
 with_items : (e f : ExprTree) (ds : List ExprTree)
-    → chain e (and_links (ds ++ parts f)) ≡ with_more e (ds ++ parts f)
+    → chain e (and_links (ds ++ conjuncts f)) ≡ with_more e (ds ++ conjuncts f)
 with_items e f (d ∷ ds) = refl
 with_items e (chain g ls) [] = by (all_and ls)
   where
@@ -52,24 +53,24 @@ with_items e f [] = refl
 
 -- an `&&` chain with the items of a condition after its own
 pub chain_joined : (t u e f : ExprTree) (ls ms : List LinkPart) → u ≡ chain e (links ls)
-    → t ≡ chain e (links ms) → all_and (links ls) ≡ true → ms ≡ ls ++ map and_link (parts f)
+    → t ≡ chain e (links ms) → all_and (links ls) ≡ true → ms ≡ ls ++ map and_link (conjuncts f)
     → t ≡ joined (one_expr u) f
 chain_joined t u e f ls ms h k ands more =
-    k ∙ ap (λ ns. chain e (links ns)) more ∙ ap (chain e) (more_linked ls (parts f) ands)
+    k ∙ ap (λ ns. chain e (links ns)) more ∙ ap (chain e) (more_linked ls (conjuncts f) ands)
     ∙ with_items e f (right_sides (links ls))
-    ∙ sym (ap (λ v. all_of (parts v ++ parts f)) h
-    ∙ ap (λ b. all_of (cond b (e ∷ right_sides (links ls)) (chain e (links ls) ∷ []) ++ parts f)) ands)
+    ∙ sym (ap (λ v. all_of (conjuncts v ++ conjuncts f)) h
+    ∙ ap (λ b. all_of (cond b (e ∷ right_sides (links ls)) (chain e (links ls) ∷ []) ++ conjuncts f)) ands)
 
 -- another condition with the items of one after it
-pub one_joined : (t e f : ExprTree) (ms : List LinkPart) → parts e ≡ e ∷ [] → t ≡ chain e (links ms)
-    → ms ≡ map and_link (parts f) → t ≡ joined (one_expr e) f
+pub one_joined : (t e f : ExprTree) (ms : List LinkPart) → conjuncts e ≡ e ∷ [] → t ≡ chain e (links ms)
+    → ms ≡ map and_link (conjuncts f) → t ≡ joined (one_expr e) f
 one_joined t e f ms h k more =
-    k ∙ ap (λ ns. chain e (links ns)) more ∙ ap (chain e) (links_linked (parts f)) ∙ with_items e f []
-    ∙ sym (ap (λ es. all_of (es ++ parts f)) h)
+    k ∙ ap (λ ns. chain e (links ns)) more ∙ ap (chain e) (links_linked (conjuncts f)) ∙ with_items e f []
+    ∙ sym (ap (λ es. all_of (es ++ conjuncts f)) h)
 
 -- ---- a condition alone
 
-pub alone : (e : ExprTree) → parts e ≡ e ∷ [] → e ≡ joined no_expr e
+pub alone : (e : ExprTree) → conjuncts e ≡ e ∷ [] → e ≡ joined no_expr e
 alone e h = sym (ap all_of h)
 
 sides_linked : (ls : LinkTrees) → all_and ls ≡ true → ls ≡ and_links (right_sides ls)

@@ -3,12 +3,12 @@ use Rattle.std.specs.Prelude.{List, [], ◌∷◌, ◌++◌, true}
 use Rattle.aql_value.specs.Datum.{boolean}
 use Rattle.aql_value.specs.declared.operators.BinOp.TheVariants.{And}
 use Rattle.aql_tree.specs.Tree.{ExprTree, literal, chain, MaybeExpr, no_expr, one_expr, LinkTrees, no_links, link_then}
-use Rattle.aql_plan.specs.FirstPlan.{parts}
+use Rattle.aql_plan.specs.FirstPlan.{conjuncts}
 
 -- the items of a condition that may be missing
 abbrev pub filter_items : MaybeExpr → List ExprTree
 filter_items no_expr = []
-filter_items (one_expr e) = parts e
+filter_items (one_expr e) = conjuncts e
 
 -- items as one condition: none is true, one is itself, more are an `&&` chain
 abbrev pub and_links : List ExprTree → LinkTrees
@@ -25,4 +25,4 @@ all_of (e ∷ es) = with_more e es
 
 -- the items of one condition, then those of another
 abbrev pub joined : MaybeExpr → ExprTree → ExprTree
-joined first second = all_of (filter_items first ++ parts second)
+joined first second = all_of (filter_items first ++ conjuncts second)

@@ -4,7 +4,7 @@ ghost use Rattle.std.specs.Prelude.{◌≡◌, ◌++◌, Some, None, OnOk, Match
 ghost use Rattle.aql_value.specs.View.{datum_of};
 ghost use Rattle.aql_tree.specs.Tree.{no_expr, one_expr};
 ghost use Rattle.aql_tree.specs.View.{tree, maybe, links, link_part};
-ghost use Rattle.aql_plan.specs.FirstPlan.{right_sides, parts};
+ghost use Rattle.aql_plan.specs.FirstPlan.{right_sides, conjuncts};
 ghost use Rattle.aql_rules_filter.specs.Conditions.{joined};
 ghost use Rattle.aql_rules_filter.specs.Readers.{literal_in as spec_literal_in, and_link};
 
@@ -42,7 +42,7 @@ fn move_sides(from: &mut Links, to: &mut Links) -> Result<(), OutOfMemory>
 // Moves the items of a condition to the end of an `&&` chain.
 fn move_items(from: &mut Expr, to: &mut Links) -> Result<(), OutOfMemory>
     ensures { OnOk result
-        (map link_part to.new ≡ map link_part to.old ++ map and_link (parts (tree from.old))) }
+        (map link_part to.new ≡ map link_part to.old ++ map and_link (conjuncts (tree from.old))) }
 {
     match from {
         Expr::Chain { first, rest } if is_all_and(rest.as_slice()) => {

@@ -7,10 +7,10 @@ use Rattle.aql_tree.specs.Tree.{ExprTree}
 use Rattle.aql_tree.specs.View.{tree, key_part}
 use Rattle.aql_plan.specs.View.{key_trees}
 use Rattle.aql_rewrite.specs.Constant.{IsConstant, AreConstant, no_more, constant_then}
-use Rattle.aql_rewrite.specs.Parts.{list_parts}
+use Rattle.aql_rewrite.specs.Children.{list_children}
 
 abbrev pub Constant : List Key → Type 0
-Constant keys = AreConstant (list_parts (key_trees keys))
+Constant keys = AreConstant (list_children (key_trees keys))
 
 first_of : {e : ExprTree} {es : List ExprTree} → AreConstant (e ∷ es) → IsConstant e
 first_of (constant_then h k) = h

@@ -6,12 +6,12 @@ use Rattle.aql_tree.specs.Tree.{ExprTrees}
 use Rattle.aql_meaning.specs.Uses.{Uses}
 use Rattle.aql_plan.specs.Plan.{Plan, Over, Node, EnumerateCollection, EnumerateList, Traversal, Calculation, Subquery, Filter, Sort, Collect}
 use Rattle.aql_rewrite.specs.Constant.{AreConstant}
-use Rattle.aql_rewrite.specs.Parts.{list_parts}
+use Rattle.aql_rewrite.specs.Children.{list_children}
 use Rattle.aql_rewrite.specs.declared.swap.Rename.{Rename}
 
 -- a Sort without limit whose keys are constant: it may give its rows in any order
 abbrev pub IsIdle : Node → Type 0
-IsIdle (Sort directions es None) = AreConstant (list_parts es)
+IsIdle (Sort directions es None) = AreConstant (list_children es)
 IsIdle n = ⊥
 
 -- nodes that take one row after another

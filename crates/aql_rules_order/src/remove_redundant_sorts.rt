@@ -5,7 +5,7 @@ ghost use Rattle.aql_plan.specs.Nodes.{over};
 ghost use Rattle.aql_plan.specs.Plan.{top};
 ghost use Rattle.aql_plan.specs.View.{node_tree, plan_tree, key_trees};
 ghost use Rattle.aql_rewrite.specs.Constant.{AreConstant};
-ghost use Rattle.aql_rewrite.specs.Parts.{list_parts};
+ghost use Rattle.aql_rewrite.specs.Children.{list_children};
 ghost use Rattle.aql_rules_order.specs.Readers.{Becomes, InputBecomes};
 ghost use Rattle.aql_rules_order.specs.RemoveRedundantSorts.{IsIdle, WithoutSort};
 ghost use Rattle.aql_rules_order.specs.RemoveRedundantSorts.{goes_by_row as spec_goes_by_row};
@@ -20,7 +20,7 @@ use std::alloc::Global;
 
 fn are_constant(alloc: Global, keys: &[Key]) -> Result<bool, OutOfMemory>
     ensures { IfOk result
-        (λ answer. IsTrue answer ↔ AreConstant (list_parts (key_trees keys.now))) }
+        (λ answer. IsTrue answer ↔ AreConstant (list_children (key_trees keys.now))) }
 {
     for key in keys {
         if !is_constant(alloc, &key.expr)? {

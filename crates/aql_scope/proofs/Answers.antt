@@ -3,7 +3,7 @@ use Rattle.std.proofs.Common.{◌≡◌, ◌∙◌, ℕ, suc, ◌<◌, List, [],
 use Rattle.std.specs.Prelude.{Option, Some, None, is_some, unwrap_or, MatchOption, IsPermutation}
 use Rattle.std.specs.List.{AllZip}
 use Rattle.aql_value.specs.Datum.{Datum, null, boolean}
-use Rattle.aql_value.specs.Parts.{elements, at_name, at_value}
+use Rattle.aql_value.specs.Contents.{elements, at_name, at_value}
 use Rattle.aql_value.specs.Database.{Database, documents_named}
 use Rattle.aql_value.specs.Truth.{truth}
 use Rattle.aql_tree.specs.declared.syntax.Ident.{Ident}

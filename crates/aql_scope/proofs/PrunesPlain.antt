@@ -9,11 +9,11 @@ use Rattle.aql_meaning.specs.Visible.{onto, aggregate_vars}
 use Rattle.aql_scope.specs.Prunes.{ExprPrunes, ExprsPrunes, MaybePrunes, MembersPrunes, StepsPrunes, LinksPrunes, AggregatesPrunes, IntoPrunes, ClausePrunes, ClausesPrunes, PrunesPlain}
 use Rattle.aql_scope.specs.declared.faults.ScopeFault.{ScopeFault}
 use Rattle.aql_scope.specs.declared.faults.ScopeFault.TheVariants.{BadOption, SubqueryNotAllowed}
-use Rattle.aql_scope.specs.Faults.{Place, visible_variables, inline, within_subquery, after_clause, after_clauses, first, unless, new_name, new_names, known_collections, edge_collections, aggregate_fault, traversal_variables, in_expr, in_exprs, in_maybe, in_members, in_steps, in_links, in_criteria, in_aggregates, in_into, in_clause, in_clauses, in_query}
+use Rattle.aql_scope.specs.Faults.{Context, visible_variables, inline, within_subquery, after_clause, after_clauses, first, unless, new_name, new_names, known_collections, edge_collections, aggregate_fault, traversal_variables, in_expr, in_exprs, in_maybe, in_members, in_steps, in_links, in_criteria, in_aggregates, in_into, in_clause, in_clauses, in_query}
 use Rattle.aql_scope.proofs.First.{first_left, first_right, unless_none}
 
 -- a part at this place has no subquery in a PRUNE, by R, and none at all where none may stand, by S
-record Clean (p : Place) (R S : Type 0) : Type 0 where
+record Clean (p : Context) (R S : Type 0) : Type 0 where
   pub prunes : R
   pub plain : p.lifts ≡ false → S
 
@@ -24,12 +24,12 @@ all_three : {R S T : Type 0} {f g e : Option ScopeFault} → first f (first g e)
     → (g ≡ None → S) → (e ≡ None → T) → R × S × T
 all_three h k m n = let a = each h k (λ i. each i m n) in (a.0, a.1.0, a.1.1)
 
-both : {p : Place} {R S U V : Type 0} {f g : Option ScopeFault} → first f g ≡ None
+both : {p : Context} {R S U V : Type 0} {f g : Option ScopeFault} → first f g ≡ None
     → (f ≡ None → Clean p R U) → (g ≡ None → Clean p S V) → Clean p (R × S) (U × V)
 both h k m = let a = each h k m in
     record { prunes = (a.0.prunes, a.1.prunes); plain = λ l. (a.0.plain l, a.1.plain l) }
 
-three : {p : Place} {R S T U V W : Type 0} {f g e : Option ScopeFault} → first f (first g e) ≡ None
+three : {p : Context} {R S T U V W : Type 0} {f g e : Option ScopeFault} → first f (first g e) ≡ None
     → (f ≡ None → Clean p R U) → (g ≡ None → Clean p S V) → (e ≡ None → Clean p T W)
     → Clean p (R × S × T) (U × V × W)
 three h k m n = let a = all_three h k m n in record {
@@ -37,10 +37,10 @@ three h k m n = let a = all_three h k m n in record {
   plain = λ l. (a.0.plain l, a.1.plain l, a.2.plain l);
 }
 
-of_inline : {p : Place} {R S : Type 0} → Clean (inline p) R S → Clean p R S
+of_inline : {p : Context} {R S : Type 0} → Clean (inline p) R S → Clean p R S
 of_inline k = record { prunes = k.prunes; plain = λ l. k.plain refl }
 
-nothing : {p : Place} → Clean p (Unit {0}) (Unit {0})
+nothing : {p : Context} → Clean p (Unit {0}) (Unit {0})
 nothing = record { prunes = tt; plain = λ l. tt }
 
 no_subquery : (lifts : Bool) (g : Option ScopeFault) → lifts ≡ false
@@ -49,7 +49,7 @@ no_subquery true g l h = cc
 no_subquery false g l h = let e = unless_none false SubqueryNotAllowed (first_left _ g h) in cc
 
 mutual
-  clean : (e : ExprTree) (p : Place) → in_expr p e ≡ None → Clean p (ExprPrunes e) (IsPlain e)
+  clean : (e : ExprTree) (p : Context) → in_expr p e ≡ None → Clean p (ExprPrunes e) (IsPlain e)
   clean (literal v) p h = nothing
   clean (variable x) p h = nothing
   clean current p h = nothing
@@ -67,21 +67,22 @@ mutual
     plain = λ l. absurd (no_subquery p.lifts (in_query (within_subquery p) q) l h);
   }
 
-  clean_exprs : (es : ExprTrees) (p : Place) → in_exprs p es ≡ None → Clean p (ExprsPrunes es) (AllPlain es)
+  clean_exprs : (es : ExprTrees) (p : Context) → in_exprs p es ≡ None → Clean p (ExprsPrunes es) (AllPlain es)
   clean_exprs no_exprs p h = nothing
   clean_exprs (expr_then e es) p h = both h (clean e p) (clean_exprs es p)
 
-  clean_maybe : (m : MaybeExpr) (p : Place) → in_maybe p m ≡ None → Clean p (MaybePrunes m) (MaybePlain m)
+  clean_maybe : (m : MaybeExpr) (p : Context) → in_maybe p m ≡ None → Clean p (MaybePrunes m) (MaybePlain m)
   clean_maybe no_expr p h = nothing
   clean_maybe (one_expr e) p h = clean e p h
 
-  clean_members : (ms : MemberTrees) (p : Place) → in_members p ms ≡ None
+  clean_members : (ms : MemberTrees) (p : Context) → in_members p ms ≡ None
       → Clean p (MembersPrunes ms) (MembersPlain ms)
   clean_members no_members p h = nothing
   clean_members (named_then name e ms) p h = both h (clean e p) (clean_members ms p)
   clean_members (computed_then k e ms) p h = three h (clean k p) (clean e p) (clean_members ms p)
 
-  clean_steps : (ss : StepTrees) (p : Place) → in_steps p ss ≡ None → Clean p (StepsPrunes ss) (StepsPlain ss)
+  clean_steps : (ss : StepTrees) (p : Context) → in_steps p ss ≡ None
+      → Clean p (StepsPrunes ss) (StepsPlain ss)
   clean_steps no_steps p h = nothing
   clean_steps (name_then name ss) p h = clean_steps ss p h
   clean_steps (at_then e ss) p h = both h (clean e p) (clean_steps ss p)
@@ -89,11 +90,12 @@ mutual
       three h (λ i. of_inline (clean_maybe filter (inline p) i))
       (λ i. of_inline (clean_maybe gives (inline p) i)) (clean_steps ss p)
 
-  clean_links : (ls : LinkTrees) (p : Place) → in_links p ls ≡ None → Clean p (LinksPrunes ls) (LinksPlain ls)
+  clean_links : (ls : LinkTrees) (p : Context) → in_links p ls ≡ None
+      → Clean p (LinksPrunes ls) (LinksPlain ls)
   clean_links no_links p h = nothing
   clean_links (link_then op e ls) p h = both h (clean e p) (clean_links ls p)
 
-  prunes_criteria : (es : ExprTrees) (p : Place) (earlier xs : List Ident)
+  prunes_criteria : (es : ExprTrees) (p : Context) (earlier xs : List Ident)
       → in_criteria p earlier xs es ≡ None → ExprsPrunes es
   prunes_criteria no_exprs p earlier xs h = tt
   prunes_criteria (expr_then e es) p earlier [] h =
@@ -102,7 +104,7 @@ mutual
       each (first_right (new_name (visible_variables p) earlier x) _ h) (λ i. (clean e p i).prunes)
       (prunes_criteria es p (x ∷ earlier) xs)
 
-  prunes_aggregates : (gs : AggregateTrees) (p : Place) (earlier : List Ident)
+  prunes_aggregates : (gs : AggregateTrees) (p : Context) (earlier : List Ident)
       → in_aggregates p earlier gs ≡ None → AggregatesPrunes gs
   prunes_aggregates no_aggregates p earlier h = tt
   prunes_aggregates (aggregate_then x name e gs) p earlier h =
@@ -110,13 +112,14 @@ mutual
       (first_right (new_name (visible_variables p) earlier x) _ h)) (λ i. (clean_maybe e p i).prunes)
       (prunes_aggregates gs p (x ∷ earlier))
 
-  prunes_into : (i : IntoTree) (p : Place) (earlier : List Ident) → in_into p earlier i ≡ None → IntoPrunes i
+  prunes_into : (i : IntoTree) (p : Context) (earlier : List Ident) → in_into p earlier i ≡ None
+      → IntoPrunes i
   prunes_into no_into p earlier h = tt
   prunes_into (into x what keep) p earlier h =
       let rest = first_right (new_name (visible_variables p) earlier x) _ h in
       (clean_maybe what p (first_left _ _ rest)).prunes
 
-  prunes_clause : (c : ClauseTree) (p : Place) → in_clause p c ≡ None → ClausePrunes c
+  prunes_clause : (c : ClauseTree) (p : Context) → in_clause p c ≡ None → ClausePrunes c
   prunes_clause (for_each x (variable c)) p h = tt
   prunes_clause (for_each x e) p h =
       (clean e p (first_right (new_name (visible_variables p) [] x) _ h)).prunes
@@ -136,14 +139,14 @@ mutual
       all_three h (prunes_criteria es p [] xs) (prunes_aggregates gs p (onto xs []))
       (prunes_into i p (onto (aggregate_vars gs) (onto xs [])))
 
-  prunes_clauses : (cs : ClauseTrees) (p : Place) → in_clauses p cs ≡ None → ClausesPrunes cs
+  prunes_clauses : (cs : ClauseTrees) (p : Context) → in_clauses p cs ≡ None → ClausesPrunes cs
   prunes_clauses no_clauses p h = tt
   prunes_clauses (clause_then c cs) p h = each h (prunes_clause c p) (prunes_clauses cs (after_clause c p))
 
-  pub no_fault_plain_prunes : (q : QueryTree) (p : Place) → in_query p q ≡ None → PrunesPlain q
+  pub no_fault_plain_prunes : (q : QueryTree) (p : Context) → in_query p q ≡ None → PrunesPlain q
   no_fault_plain_prunes (query with cs distinct e) p h =
       each (first_right (known_collections p.held with) _ h) (prunes_clauses cs p)
       (λ i. (clean e (after_clauses cs p) i).prunes)
 
-pub plain_maybe : (m : MaybeExpr) (p : Place) → p.lifts ≡ false → in_maybe p m ≡ None → MaybePlain m
+pub plain_maybe : (m : MaybeExpr) (p : Context) → p.lifts ≡ false → in_maybe p m ≡ None → MaybePlain m
 plain_maybe m p l h = (clean_maybe m p h).plain l

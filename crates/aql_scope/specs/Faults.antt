@@ -14,7 +14,7 @@ use Rattle.aql_meaning.specs.Row.{same_ident}
 use Rattle.aql_meaning.specs.Visible.{onto, vars_after, aggregate_vars}
 use Rattle.aql_scope.specs.Numbering.{text_of}
 use Rattle.aql_doc.specs.Held.{Held}
-use Rattle.aql_doc.specs.Declarations.{place_of}
+use Rattle.aql_doc.specs.Declarations.{collection_index}
 use Rattle.aql_scope.specs.declared.faults.ScopeFault.{ScopeFault}
 use Rattle.aql_scope.specs.declared.faults.ScopeFault.TheVariants.{UnknownName, Redeclared, UnknownCollection, UnknownFunction, WrongArity, NotEdge, SubqueryNotAllowed, BadOption}
 use Rattle.aql_scope.specs.declared.options.Written.{Written}
@@ -22,7 +22,7 @@ use Rattle.aql_scope.specs.Options.{no_settings, with_setting, agree, is_breadth
 
 -- where a part stands: the variables of the query at hand, the latest first, those of the queries around it,
 -- the collections, and whether a subquery may stand there
-pub record Place : Type 0 where
+pub record Context : Type 0 where
   pub own : List Ident
   pub outer : List Ident
   pub held : List Held
@@ -32,21 +32,21 @@ abbrev pub is_among : List Ident → Ident → Bool
 is_among xs x = list_any (λ y. same_ident y x) xs
 
 -- the visible variables
-abbrev pub visible_variables : Place → List Ident
+abbrev pub visible_variables : Context → List Ident
 visible_variables p = p.own ++ p.outer
 
 -- within an inline expression, PRUNE and OPTIONS no subquery may stand
-abbrev pub inline : Place → Place
+abbrev pub inline : Context → Context
 inline p = record p { lifts = false }
 
 -- at the opening of a subquery
-abbrev pub within_subquery : Place → Place
+abbrev pub within_subquery : Context → Context
 within_subquery p = record { own = []; outer = visible_variables p; held = p.held; lifts = true }
 
-abbrev pub after_clause : ClauseTree → Place → Place
+abbrev pub after_clause : ClauseTree → Context → Context
 after_clause c p = record p { own = vars_after c p.own }
 
-abbrev pub after_clauses : ClauseTrees → Place → Place
+abbrev pub after_clauses : ClauseTrees → Context → Context
 after_clauses no_clauses p = p
 after_clauses (clause_then c cs) p = after_clauses cs (after_clause c p)
 
@@ -69,11 +69,11 @@ new_names visible earlier [] = None
 new_names visible earlier (x ∷ xs) = first (new_name visible earlier x) (new_names visible (x ∷ earlier) xs)
 
 -- a variable in an expression is a visible one
-abbrev pub variable_fault : Place → Ident → Option ScopeFault
+abbrev pub variable_fault : Context → Ident → Option ScopeFault
 variable_fault p x = unless (is_among (visible_variables p) x) (UnknownName (text_of x))
 
 abbrev pub known_collection : List Held → List ℕ → Option ScopeFault
-known_collection held c = unless (is_some (place_of held c)) (UnknownCollection c)
+known_collection held c = unless (is_some (collection_index held c)) (UnknownCollection c)
 
 abbrev pub known_collections : List Held → List (List ℕ) → Option ScopeFault
 known_collections held [] = None
@@ -90,7 +90,8 @@ edge_fault held c (Some number) = unless (holds_edges (slice_get held number)) (
 -- the edge collections of a traversal
 abbrev pub edge_collections : List Held → List (List ℕ) → Option ScopeFault
 edge_collections held [] = None
-edge_collections held (c ∷ cs) = first (edge_fault held c (place_of held c)) (edge_collections held cs)
+edge_collections held (c ∷ cs) =
+    first (edge_fault held c (collection_index held c)) (edge_collections held cs)
 
 abbrev pub expr_count : ExprTrees → ℕ
 expr_count no_exprs = 0
@@ -116,8 +117,9 @@ aggregate_fault None name e = Some (UnknownFunction name)
 aggregate_fault (Some kind) name e = unless (is_counting kind || is_given e) (WrongArity name 0)
 
 -- a single name after IN is a variable or a collection
-abbrev pub source_fault : Place → Ident → Option ScopeFault
-source_fault p (Name c) = unless (is_among (visible_variables p) (Name c) || is_some (place_of p.held c))
+abbrev pub source_fault : Context → Ident → Option ScopeFault
+source_fault p (Name c) =
+    unless (is_among (visible_variables p) (Name c) || is_some (collection_index p.held c))
     (UnknownCollection c)
 source_fault p (Num k) = variable_fault p (Num k)
 
@@ -145,7 +147,7 @@ setting_of name (literal v) w = with_setting name v w
 setting_of name e w = None
 
 abbrev mutual
-  pub in_expr : Place → ExprTree → Option ScopeFault
+  pub in_expr : Context → ExprTree → Option ScopeFault
   in_expr p (literal v) = None
   in_expr p (variable x) = variable_fault p x
   in_expr p current = None
@@ -161,32 +163,32 @@ abbrev mutual
   in_expr p (range_of e f) = first (in_expr p e) (in_expr p f)
   in_expr p (subquery q) = first (unless p.lifts SubqueryNotAllowed) (in_query (within_subquery p) q)
 
-  pub in_exprs : Place → ExprTrees → Option ScopeFault
+  pub in_exprs : Context → ExprTrees → Option ScopeFault
   in_exprs p no_exprs = None
   in_exprs p (expr_then e es) = first (in_expr p e) (in_exprs p es)
 
-  pub in_maybe : Place → MaybeExpr → Option ScopeFault
+  pub in_maybe : Context → MaybeExpr → Option ScopeFault
   in_maybe p no_expr = None
   in_maybe p (one_expr e) = in_expr p e
 
-  pub in_members : Place → MemberTrees → Option ScopeFault
+  pub in_members : Context → MemberTrees → Option ScopeFault
   in_members p no_members = None
   in_members p (named_then name e ms) = first (in_expr p e) (in_members p ms)
   in_members p (computed_then k e ms) = first (in_expr p k) (first (in_expr p e) (in_members p ms))
 
-  pub in_steps : Place → StepTrees → Option ScopeFault
+  pub in_steps : Context → StepTrees → Option ScopeFault
   in_steps p no_steps = None
   in_steps p (name_then name ss) = in_steps p ss
   in_steps p (at_then e ss) = first (in_expr p e) (in_steps p ss)
   in_steps p (inline_then filter gives ss) =
       first (in_maybe (inline p) filter) (first (in_maybe (inline p) gives) (in_steps p ss))
 
-  pub in_links : Place → LinkTrees → Option ScopeFault
+  pub in_links : Context → LinkTrees → Option ScopeFault
   in_links p no_links = None
   in_links p (link_then op e ls) = first (in_expr p e) (in_links p ls)
 
   -- the settings of a traversal, where w are those before them: first the parts of each, then what it shows
-  pub in_settings : Place → Written → MemberTrees → Option ScopeFault
+  pub in_settings : Context → Written → MemberTrees → Option ScopeFault
   in_settings p w no_members =
       unless (global_fits w.vertices (is_breadth_first w.order w.bfs)) (BadOption (codes "uniqueVertices"))
   in_settings p w (named_then name e ms) =
@@ -196,25 +198,25 @@ abbrev mutual
       first (in_expr p k) (first (in_expr p e) (Some (BadOption (codes "computed"))))
 
   -- the criteria with their variables, where these were declared earlier in the same COLLECT
-  pub in_criteria : Place → List Ident → List Ident → ExprTrees → Option ScopeFault
+  pub in_criteria : Context → List Ident → List Ident → ExprTrees → Option ScopeFault
   in_criteria p earlier xs no_exprs = new_names (visible_variables p) earlier xs
   in_criteria p earlier [] (expr_then e es) = first (in_expr p e) (in_criteria p earlier [] es)
   in_criteria p earlier (x ∷ xs) (expr_then e es) =
       first (new_name (visible_variables p) earlier x)
       (first (in_expr p e) (in_criteria p (x ∷ earlier) xs es))
 
-  pub in_aggregates : Place → List Ident → AggregateTrees → Option ScopeFault
+  pub in_aggregates : Context → List Ident → AggregateTrees → Option ScopeFault
   in_aggregates p earlier no_aggregates = None
   in_aggregates p earlier (aggregate_then x name e gs) =
       first (new_name (visible_variables p) earlier x) (first (aggregate_fault (aggregate_named name) name e)
       (first (in_maybe p e) (in_aggregates p (x ∷ earlier) gs)))
 
-  pub in_into : Place → List Ident → IntoTree → Option ScopeFault
+  pub in_into : Context → List Ident → IntoTree → Option ScopeFault
   in_into p earlier no_into = None
   in_into p earlier (into x what keep) =
       first (new_name (visible_variables p) earlier x) (first (in_maybe p what) (keep_fault p.own keep))
 
-  pub in_clause : Place → ClauseTree → Option ScopeFault
+  pub in_clause : Context → ClauseTree → Option ScopeFault
   in_clause p (for_each x (variable c)) = first (new_name (visible_variables p) [] x) (source_fault p c)
   in_clause p (for_each x e) = first (new_name (visible_variables p) [] x) (in_expr p e)
   in_clause p (for_documents x c) = first (new_name (visible_variables p) [] x) (known_collection p.held c)
@@ -233,16 +235,16 @@ abbrev mutual
       (in_into p (onto (aggregate_vars gs) (onto xs [])) i))
 
   -- the place is that of the query's opening
-  pub in_query : Place → QueryTree → Option ScopeFault
+  pub in_query : Context → QueryTree → Option ScopeFault
   in_query p (query with cs distinct e) =
       first (known_collections p.held with) (first (in_clauses p cs) (in_expr (after_clauses cs p) e))
 
-  pub in_clauses : Place → ClauseTrees → Option ScopeFault
+  pub in_clauses : Context → ClauseTrees → Option ScopeFault
   in_clauses p no_clauses = None
   in_clauses p (clause_then c cs) = first (in_clause p c) (in_clauses (after_clause c p) cs)
 
 -- the place of a query that stands in no other
-abbrev pub outermost : List Held → Place
+abbrev pub outermost : List Held → Context
 outermost held = record { own = []; outer = []; held = held; lifts = true }
 
 -- the first fault of a whole query over these collections

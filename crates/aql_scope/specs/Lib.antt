@@ -1,6 +1,6 @@
 pub mod Options
 pub mod Faults
-pub mod Places
+pub mod Contexts
 pub mod Lifts
 pub mod Numbering
 pub mod Lifting

@@ -12,7 +12,7 @@ use Rattle.aql_scope.specs.Numbering.{Numbering}
 use Rattle.aql_scope.specs.Lifting.{NumberedSubquery, Scoped, as_it_is, over, both, declares, expr, maybe, clause}
 use Rattle.aql_scope.specs.declared.names.Scope.{Scope}
 use Rattle.aql_scope.specs.declared.numbers.Numbers.{Numbers}
-use Rattle.aql_scope.specs.declared.numbers.Walk.{Walk}
+use Rattle.aql_scope.specs.declared.numbers.LiftState.{LiftState}
 
 abbrev pub visible : Scope → Numbering
 visible s = s.own ++ s.outer
@@ -77,15 +77,17 @@ Lifts t s before (Ok a) then = (t ≡ s.tree) × (then ≡ after s before)
 Lifts t s before (Err e) then = Unit {0}
 
 -- the part was lifted that s gives from the next number on
-abbrev pub Walks : {A T : Type 0} → Walk → Result A OutOfMemory → Walk → T → (ℕ → Scoped T) → Type 0
-Walks before r then t s = Lifts t (s before.numbers.next) (progress before.lets before.numbers) r
+abbrev pub LiftsNext : {A T : Type 0} → LiftState → Result A OutOfMemory → LiftState → T → (ℕ → Scoped T)
+    → Type 0
+LiftsNext before r then t s = Lifts t (s before.numbers.next) (progress before.lets before.numbers) r
     (progress then.lets then.numbers)
 
 -- a clause was lifted and is d now, and the scope has the query's own names after it
-abbrev pub LiftsClause : {A : Type 0} → Scope → Walk → Result A OutOfMemory → Scope → Walk → ClauseTree → ClauseTree
+abbrev pub LiftsClause : {A : Type 0} → Scope → LiftState → Result A OutOfMemory → Scope → LiftState
+    → ClauseTree → ClauseTree
     → Type 0
 LiftsClause s before r s' then c d =
-    Walks before r then d (λ n. (clause s.outer s.own n c).clause)
+    LiftsNext before r then d (λ n. (clause s.outer s.own n c).clause)
     × OnOk r (s'.own ≡ (clause s.outer s.own before.numbers.next c).own)
     × (s'.outer ≡ s.outer)
 

@@ -6,10 +6,10 @@ ghost use Rattle.aql_func.specs.Aggregates.{aggregate_named};
 ghost use Rattle.aql_aggregate.specs.View.{aggregate_of};
 ghost use Rattle.aql_tree.specs.View.{tree, maybe};
 ghost use Rattle.aql_scope.specs.Numbering.{idents, text_of};
-ghost use Rattle.aql_doc.specs.Declarations.{place_of};
+ghost use Rattle.aql_doc.specs.Declarations.{collection_index};
 ghost use Rattle.aql_scope.specs.declared.faults.ScopeFault.TheVariants.{BadOption};
 ghost use Rattle.aql_scope.specs.Faults as spec;
-ghost use Rattle.aql_scope.specs.Places.{place, Judges};
+ghost use Rattle.aql_scope.specs.Contexts.{context_of, Judges};
 
 use crate::ScopeFault;
 use crate::names::{At, NameList, spelling};
@@ -25,7 +25,7 @@ pub type Judged = Result<(), ScopeFault>;
 
 /// A variable that is declared, where `earlier` were declared earlier in the same clause.
 pub fn new_name(ident: &Ident, at: &At<'_>, earlier: &NameList) -> Judged
-    ensures { Judges result (spec.new_name (spec.visible_variables (place at.now))
+    ensures { Judges result (spec.new_name (spec.visible_variables (context_of at.now))
         (idents earlier.now) ident.now) }
 {
     if at.scope.sees(ident) || earlier.has(ident) {
@@ -38,14 +38,14 @@ pub fn new_name(ident: &Ident, at: &At<'_>, earlier: &NameList) -> Judged
 /// A variable that is declared alone in its clause.
 pub fn new_alone(ident: &Ident, at: &At<'_>) -> Judged
     ensures { Judges result
-        (spec.new_name (spec.visible_variables (place at.now)) [] ident.now) }
+        (spec.new_name (spec.visible_variables (context_of at.now)) [] ident.now) }
 {
     new_name(ident, at, &NameList::new(at.alloc))
 }
 
 /// A variable in an expression.
 pub fn variable_fault(ident: &Ident, at: &At<'_>) -> Judged
-    ensures { Judges result (spec.variable_fault (place at.now) ident.now) }
+    ensures { Judges result (spec.variable_fault (context_of at.now) ident.now) }
 {
     if !at.scope.sees(ident) {
         let name = spelling(at.alloc, ident)?;
@@ -56,7 +56,7 @@ pub fn variable_fault(ident: &Ident, at: &At<'_>) -> Judged
 
 /// A single name after IN, which is a variable or a collection.
 pub fn source_fault(ident: &Ident, at: &At<'_>) -> Judged
-    ensures { Judges result (spec.source_fault (place at.now) ident.now) }
+    ensures { Judges result (spec.source_fault (context_of at.now) ident.now) }
 {
     let Ident::Name(name) = ident else {
         return variable_fault(ident, at);
@@ -98,7 +98,8 @@ pub fn edge_collections(names: &[Text], at: &At<'_>) -> Judged
 }
 
 fn edge_fault(name: &Text, alloc: Global, catalog: &Catalog) -> Judged
-    ensures { Judges result (spec.edge_fault catalog.now name.now (place_of catalog.now name.now)) }
+    ensures { Judges result
+        (spec.edge_fault catalog.now name.now (collection_index catalog.now name.now)) }
 {
     let Some(number) = catalog.find(name.as_str()) else {
         let name = name.copy(alloc)?;

@@ -7,7 +7,7 @@ ghost use Rattle.aql_tree.specs.View.{collect_part, collect_clause, traversal_pa
 ghost use Rattle.aql_meaning.specs.Visible.{onto, aggregate_vars};
 ghost use Rattle.aql_scope.specs.Numbering.{idents};
 ghost use Rattle.aql_scope.specs.Faults as spec;
-ghost use Rattle.aql_scope.specs.Places.{place, Judges};
+ghost use Rattle.aql_scope.specs.Contexts.{context_of, Judges};
 
 use crate::checks::{
     Judged, aggregate_fault, edge_collections, keep_fault, known_collection, known_collections,
@@ -22,7 +22,7 @@ use aql_tree::{AggregateItem, Clause, Collect, Expr, Into, Key, Let, Query, Trav
 #[cycle(faults)]
 pub fn in_query(query: &Query, at: &At<'_>) -> Judged
     ensures { Judges result
-        (spec.in_query (spec.within_subquery (place at.now)) (query_tree query.now)) }
+        (spec.in_query (spec.within_subquery (context_of at.now)) (query_tree query.now)) }
 {
     known_collections(query.with.as_slice(), at)?;
     let mut scope = at.scope.subquery(at.alloc)?;
@@ -35,7 +35,7 @@ pub fn in_query(query: &Query, at: &At<'_>) -> Judged
 
 #[cycle(faults)]
 fn in_clause(clause: &Clause, at: &At<'_>) -> Judged
-    ensures { Judges result (spec.in_clause (place at.now) (clause_tree clause.now)) }
+    ensures { Judges result (spec.in_clause (context_of at.now) (clause_tree clause.now)) }
 {
     match clause {
         Clause::For { var, list } => {
@@ -64,7 +64,7 @@ fn in_clause(clause: &Clause, at: &At<'_>) -> Judged
 #[cycle(faults)]
 fn in_traversal(traversal: &Traversal, at: &At<'_>) -> Judged
     ensures { Judges result
-        (spec.in_clause (place at.now) (traversal_clause (traversal_part traversal.now))) }
+        (spec.in_clause (context_of at.now) (traversal_clause (traversal_part traversal.now))) }
 {
     new_traversal_names(traversal, at)?;
     if traversal.min > traversal.max {
@@ -80,7 +80,7 @@ fn in_traversal(traversal: &Traversal, at: &At<'_>) -> Judged
 #[cycle(faults)]
 fn in_prune(traversal: &Traversal, at: &At<'_>) -> Judged
     ensures { Judges result (spec.in_maybe (spec.inline
-        (spec.after_clause (traversal_clause (traversal_part traversal.now)) (place at.now)))
+        (spec.after_clause (traversal_clause (traversal_part traversal.now)) (context_of at.now)))
         (maybe (option_map tree traversal.now.prune))) }
 {
     let mut inner = at.scope.copy(at.alloc)?;
@@ -91,7 +91,7 @@ fn in_prune(traversal: &Traversal, at: &At<'_>) -> Judged
 #[cycle(faults)]
 fn in_keys(keys: &[Key], at: &At<'_>) -> Judged
     ensures { Judges result
-        (spec.in_exprs (place at.now) (trees (map (λ k. k.0) (map key_part keys.now)))) }
+        (spec.in_exprs (context_of at.now) (trees (map (λ k. k.0) (map key_part keys.now)))) }
 {
     for key in keys {
         in_expr(&key.expr, at)?;
@@ -102,7 +102,7 @@ fn in_keys(keys: &[Key], at: &At<'_>) -> Judged
 #[cycle(faults)]
 fn in_collect(collect: &Collect, at: &At<'_>) -> Judged
     ensures { Judges result
-        (spec.in_clause (place at.now) (collect_clause (collect_part collect.now))) }
+        (spec.in_clause (context_of at.now) (collect_clause (collect_part collect.now))) }
 {
     let mut earlier = NameList::new(at.alloc);
     in_criteria(collect.groups.as_slice(), at, &mut earlier)?;
@@ -116,7 +116,7 @@ fn in_collect(collect: &Collect, at: &At<'_>) -> Judged
 // Each variable is then one of those declared earlier.
 #[cycle(faults)]
 fn in_criteria(groups: &[Let], at: &At<'_>, earlier: &mut NameList) -> Judged
-    ensures fault { Judges result (spec.in_criteria (place at.now) (idents earlier.old)
+    ensures fault { Judges result (spec.in_criteria (context_of at.now) (idents earlier.old)
         (map (λ l. l.0) (map let_part groups.now))
         (trees (map (λ l. l.1) (map let_part groups.now)))) }
     ensures earlier { OnOk result (idents earlier.new
@@ -132,7 +132,7 @@ fn in_criteria(groups: &[Let], at: &At<'_>, earlier: &mut NameList) -> Judged
 
 #[cycle(faults)]
 fn in_aggregates(all: &[AggregateItem], at: &At<'_>, earlier: &mut NameList) -> Judged
-    ensures fault { Judges result (spec.in_aggregates (place at.now) (idents earlier.old)
+    ensures fault { Judges result (spec.in_aggregates (context_of at.now) (idents earlier.old)
         (aggregates (map aggregate_part all.now))) }
     ensures earlier { OnOk result (idents earlier.new
         ≡ onto (aggregate_vars (aggregates (map aggregate_part all.now))) (idents earlier.old)) }
@@ -148,7 +148,7 @@ fn in_aggregates(all: &[AggregateItem], at: &At<'_>, earlier: &mut NameList) -> 
 
 #[cycle(faults)]
 fn in_into(into: &Into, at: &At<'_>, earlier: &NameList) -> Judged
-    ensures { Judges result (spec.in_into (place at.now) (idents earlier.now)
+    ensures { Judges result (spec.in_into (context_of at.now) (idents earlier.now)
         (into_tree (Some (into_part into.now)))) }
 {
     new_name(&into.var, at, earlier)?;

@@ -5,7 +5,7 @@ ghost use Rattle.aql_tree.specs.Tree.{function_call};
 ghost use Rattle.aql_tree.specs.View.{tree, trees, maybe, members, steps, links};
 ghost use Rattle.aql_tree.specs.View.{step_part, member_part, link_part};
 ghost use Rattle.aql_scope.specs.Faults as spec;
-ghost use Rattle.aql_scope.specs.Places.{place, Judges};
+ghost use Rattle.aql_scope.specs.Contexts.{context_of, Judges};
 
 use crate::ScopeFault;
 use crate::checks::{Judged, call_fault, variable_fault};
@@ -16,7 +16,7 @@ use aql_value::Text;
 
 #[cycle(faults)]
 pub fn in_expr(expr: &Expr, at: &At<'_>) -> Judged
-    ensures { Judges result (spec.in_expr (place at.now) (tree expr.now)) }
+    ensures { Judges result (spec.in_expr (context_of at.now) (tree expr.now)) }
 {
     match expr {
         Expr::Lit(_) => Ok(()),
@@ -40,7 +40,7 @@ pub fn in_expr(expr: &Expr, at: &At<'_>) -> Judged
         }
         Expr::Cond { test, yes, no } => {
             in_expr(test, at)?;
-            in_chosen(yes, at)?;
+            in_branch(yes, at)?;
             in_expr(no, at)
         }
         Expr::Range { low, high } => {
@@ -57,7 +57,7 @@ pub fn in_expr(expr: &Expr, at: &At<'_>) -> Judged
 #[tactic(auto, using(crate::proofs::Words::count_args))]
 fn in_call(args: &[Expr], name: &Text, at: &At<'_>) -> Judged
     ensures { Judges result
-        (spec.in_expr (place at.now) (function_call name.now (trees (map tree args.now)))) }
+        (spec.in_expr (context_of at.now) (function_call name.now (trees (map tree args.now)))) }
 {
     call_fault(args.len(), name, at.alloc)?;
     in_exprs(args, at)
@@ -65,9 +65,9 @@ fn in_call(args: &[Expr], name: &Text, at: &At<'_>) -> Judged
 
 // What stands between `?` and `:`.
 #[cycle(faults)]
-fn in_chosen(expr: &Option<Box<Expr>>, at: &At<'_>) -> Judged
+fn in_branch(expr: &Option<Box<Expr>>, at: &At<'_>) -> Judged
     ensures { Judges result
-        (spec.in_maybe (place at.now) (maybe (option_map (λ b. tree b.value) expr.now))) }
+        (spec.in_maybe (context_of at.now) (maybe (option_map (λ b. tree b.value) expr.now))) }
 {
     match expr {
         Some(expr) => in_expr(expr, at),
@@ -77,7 +77,7 @@ fn in_chosen(expr: &Option<Box<Expr>>, at: &At<'_>) -> Judged
 
 #[cycle(faults)]
 pub fn in_maybe(expr: &Option<Expr>, at: &At<'_>) -> Judged
-    ensures { Judges result (spec.in_maybe (place at.now) (maybe (option_map tree expr.now))) }
+    ensures { Judges result (spec.in_maybe (context_of at.now) (maybe (option_map tree expr.now))) }
 {
     match expr {
         Some(expr) => in_expr(expr, at),
@@ -87,7 +87,7 @@ pub fn in_maybe(expr: &Option<Expr>, at: &At<'_>) -> Judged
 
 #[cycle(faults)]
 fn in_exprs(exprs: &[Expr], at: &At<'_>) -> Judged
-    ensures { Judges result (spec.in_exprs (place at.now) (trees (map tree exprs.now))) }
+    ensures { Judges result (spec.in_exprs (context_of at.now) (trees (map tree exprs.now))) }
 {
     for expr in exprs {
         in_expr(expr, at)?;
@@ -98,7 +98,7 @@ fn in_exprs(exprs: &[Expr], at: &At<'_>) -> Judged
 #[cycle(faults)]
 fn in_members(fields: &[Field], at: &At<'_>) -> Judged
     ensures { Judges result
-        (spec.in_members (place at.now) (members (map member_part fields.now))) }
+        (spec.in_members (context_of at.now) (members (map member_part fields.now))) }
 {
     for field in fields {
         match field {
@@ -115,7 +115,7 @@ fn in_members(fields: &[Field], at: &At<'_>) -> Judged
 // In an inline expression no subquery may stand.
 #[cycle(faults)]
 fn in_steps(all: &[Step], at: &At<'_>) -> Judged
-    ensures { Judges result (spec.in_steps (place at.now) (steps (map step_part all.now))) }
+    ensures { Judges result (spec.in_steps (context_of at.now) (steps (map step_part all.now))) }
 {
     for step in all {
         match step {
@@ -132,7 +132,7 @@ fn in_steps(all: &[Step], at: &At<'_>) -> Judged
 
 #[cycle(faults)]
 fn in_links(all: &[Link], at: &At<'_>) -> Judged
-    ensures { Judges result (spec.in_links (place at.now) (links (map link_part all.now))) }
+    ensures { Judges result (spec.in_links (context_of at.now) (links (map link_part all.now))) }
 {
     for link in all {
         in_expr(&link.right, at)?;

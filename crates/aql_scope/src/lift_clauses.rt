@@ -5,14 +5,14 @@ ghost use Rattle.aql_tree.specs.Tree.{let_be};
 ghost use Rattle.aql_tree.specs.View.{tree, trees, query_tree, clause_tree, key_part};
 ghost use Rattle.aql_scope.specs.Numbering.{number_of, from_name, text_of};
 ghost use Rattle.aql_scope.specs.Lifting as spec;
-ghost use Rattle.aql_scope.specs.Lifts.{Walks, LiftsClause, LiftsQuery, bound, visible};
+ghost use Rattle.aql_scope.specs.Lifts.{LiftsNext, LiftsClause, LiftsQuery, bound, visible};
 
 use crate::Made;
 use crate::lift_collect::lift_collect;
 use crate::lift_exprs::{lift_boxed, lift_expr};
 use crate::lift_traversals::lift_traversal;
 use crate::names::{NameList, Scope};
-use crate::numbers::{Numbers, Walk};
+use crate::numbers::{LiftState, Numbers};
 use aql_tree::{Clause, Expr, Ident, Keys, Query};
 use aql_value::{Seq, Value};
 use std::alloc::Global;
@@ -20,7 +20,7 @@ use std::mem;
 
 /// A query among the names that are visible where it stands.
 #[cycle(lift)]
-pub fn lift_query(query: &mut Query, around: &Scope, walk: &mut Walk) -> Made<()>
+pub fn lift_query(query: &mut Query, around: &Scope, walk: &mut LiftState) -> Made<()>
     ensures query { LiftsQuery (spec.scope_query (visible around.now) walk.old.numbers.next
         (query_tree query.old)) walk.old.numbers result walk.new.numbers (query_tree query.new) }
     ensures lets { OnOk result (walk.new.lets ≡ walk.old.lets) }
@@ -41,7 +41,7 @@ pub fn lift_query(query: &mut Query, around: &Scope, walk: &mut Walk) -> Made<()
 
 /// A subquery.
 #[cycle(lift)]
-pub fn lift_inner(query: &mut Box<Query>, around: &Scope, walk: &mut Walk) -> Made<()>
+pub fn lift_inner(query: &mut Box<Query>, around: &Scope, walk: &mut LiftState) -> Made<()>
     ensures query { LiftsQuery (spec.scope_query (visible around.now) walk.old.numbers.next
         (query_tree query.old.value)) walk.old.numbers result walk.new.numbers
         (query_tree query.new.value) }
@@ -52,7 +52,7 @@ pub fn lift_inner(query: &mut Box<Query>, around: &Scope, walk: &mut Walk) -> Ma
 
 // A clause; the query's own names are then those after it.
 #[cycle(lift)]
-fn lift_clause(clause: &mut Clause, scope: &mut Scope, walk: &mut Walk) -> Made<()>
+fn lift_clause(clause: &mut Clause, scope: &mut Scope, walk: &mut LiftState) -> Made<()>
     ensures { LiftsClause scope.old walk.old result scope.new walk.new (clause_tree clause.old)
         (clause_tree clause.new) }
 {
@@ -120,8 +120,8 @@ fn source(ident: &Ident, number: u32, found: Option<u32>, alloc: Global) -> Made
 
 // The variable of FOR or LET, and its expression, in which it is not visible.
 #[cycle(lift)]
-fn lift_bound(var: &mut Ident, expr: &mut Expr, scope: &mut Scope, walk: &mut Walk) -> Made<()>
-    ensures part { Walks walk.old result walk.new (var.new, tree expr.new)
+fn lift_bound(var: &mut Ident, expr: &mut Expr, scope: &mut Scope, walk: &mut LiftState) -> Made<()>
+    ensures part { LiftsNext walk.old result walk.new (var.new, tree expr.new)
         (λ n. bound (visible scope.old) n var.old (tree expr.old)) }
     ensures own { OnOk result (scope.new.own ≡ (var.old, walk.old.numbers.next) ∷ scope.old.own) }
     ensures outer { scope.new.outer ≡ scope.old.outer }
@@ -133,7 +133,7 @@ fn lift_bound(var: &mut Ident, expr: &mut Expr, scope: &mut Scope, walk: &mut Wa
 
 // LET of a subquery, which stays there, or of any other expression.
 #[cycle(lift)]
-fn lift_let(var: &mut Ident, expr: &mut Expr, scope: &mut Scope, walk: &mut Walk) -> Made<()>
+fn lift_let(var: &mut Ident, expr: &mut Expr, scope: &mut Scope, walk: &mut LiftState) -> Made<()>
     ensures { LiftsClause scope.old walk.old result scope.new walk.new
         (let_be var.old (tree expr.old)) (let_be var.new (tree expr.new)) }
 {
@@ -148,8 +148,9 @@ fn lift_let(var: &mut Ident, expr: &mut Expr, scope: &mut Scope, walk: &mut Walk
 }
 
 #[cycle(lift)]
-fn lift_keys(keys: &mut Keys, scope: &Scope, walk: &mut Walk) -> Made<()>
-    ensures keys { Walks walk.old result walk.new (trees (map (λ k. k.0) (map key_part keys.new)))
+fn lift_keys(keys: &mut Keys, scope: &Scope, walk: &mut LiftState) -> Made<()>
+    ensures keys { LiftsNext walk.old result walk.new
+        (trees (map (λ k. k.0) (map key_part keys.new)))
         (λ n. spec.exprs (visible scope.now) n (trees (map (λ k. k.0) (map key_part keys.old)))) }
     ensures directions { OnOk result (map (λ k. k.1) (map key_part keys.new)
         ≡ map (λ k. k.1) (map key_part keys.old)) }

@@ -10,12 +10,12 @@ ghost use Rattle.aql_meaning.specs.Groups.{into_names};
 ghost use Rattle.aql_meaning.specs.Visible.{aggregate_vars, into_var};
 ghost use Rattle.aql_scope.specs.Numbering.{number_of, numbered_variable, idents, enter, variable_members};
 ghost use Rattle.aql_scope.specs.Lifting as spec;
-ghost use Rattle.aql_scope.specs.Lifts.{Walks, LiftsClause, visible};
+ghost use Rattle.aql_scope.specs.Lifts.{LiftsNext, LiftsClause, visible};
 
 use crate::Made;
-use crate::lift_exprs::{lift_expr, lift_maybe, numbered};
+use crate::lift_exprs::{lift_expr, lift_maybe, number_variable};
 use crate::names::{NameList, Scope};
-use crate::numbers::Walk;
+use crate::numbers::LiftState;
 use aql_tree::{Aggregates, Collect, Expr, Field, Fields, Ident, Into, Lets};
 use aql_value::{Seq, Text};
 use std::alloc::Global;
@@ -23,7 +23,7 @@ use std::mem;
 
 /// COLLECT: after it only its own names are left.
 #[cycle(lift)]
-pub fn lift_collect(collect: &mut Collect, scope: &mut Scope, walk: &mut Walk) -> Made<()>
+pub fn lift_collect(collect: &mut Collect, scope: &mut Scope, walk: &mut LiftState) -> Made<()>
     ensures { LiftsClause scope.old walk.old result scope.new walk.new
         (collect_clause (collect_part collect.old)) (collect_clause (collect_part collect.new)) }
 {
@@ -36,8 +36,13 @@ pub fn lift_collect(collect: &mut Collect, scope: &mut Scope, walk: &mut Walk) -
 }
 
 #[cycle(lift)]
-fn lift_criteria(groups: &mut Lets, scope: &Scope, own: &mut NameList, walk: &mut Walk) -> Made<()>
-    ensures criteria { Walks walk.old result walk.new
+fn lift_criteria(
+    groups: &mut Lets,
+    scope: &Scope,
+    own: &mut NameList,
+    walk: &mut LiftState,
+) -> Made<()>
+    ensures criteria { LiftsNext walk.old result walk.new
         (map (λ l. l.0) (map let_part groups.new), trees (map (λ l. l.1) (map let_part groups.new)))
         (λ n. spec.criteria (visible scope.now) n (map (λ l. l.0) (map let_part groups.old))
         (trees (map (λ l. l.1) (map let_part groups.old)))) }
@@ -59,9 +64,10 @@ fn lift_aggregates(
     all: &mut Aggregates,
     scope: &Scope,
     own: &mut NameList,
-    walk: &mut Walk,
+    walk: &mut LiftState,
 ) -> Made<()>
-    ensures aggregates { Walks walk.old result walk.new (aggregates (map aggregate_part all.new))
+    ensures aggregates { LiftsNext walk.old result walk.new
+        (aggregates (map aggregate_part all.new))
         (λ n. spec.aggregates (visible scope.now) n (aggregates (map aggregate_part all.old))) }
     ensures own { OnOk result
         (own.new ≡ enter (aggregate_vars (aggregates (map aggregate_part all.old)))
@@ -82,9 +88,9 @@ fn lift_into(
     into: &mut Option<Into>,
     scope: &Scope,
     own: &mut NameList,
-    walk: &mut Walk,
+    walk: &mut LiftState,
 ) -> Made<()>
-    ensures into { Walks walk.old result walk.new (into_tree (option_map into_part into.new))
+    ensures into { LiftsNext walk.old result walk.new (into_tree (option_map into_part into.new))
         (λ n. spec.into_part scope.now.own (visible scope.now) n (into_tree
         (option_map into_part into.old))) }
     ensures own { OnOk result
@@ -143,7 +149,7 @@ fn named_member(name: &Text, scope: &Scope, alloc: Global) -> Made<Field>
         ≡ named name.now (numbered_variable (number_of (visible scope.now) (Name name.now)))) }
 {
     let ident = Ident::Name(name.copy(alloc)?);
-    let value = numbered(&ident, scope);
+    let value = number_variable(&ident, scope);
     Ok(Field::Named {
         name: name.copy(alloc)?,
         value,

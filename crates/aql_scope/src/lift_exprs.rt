@@ -7,18 +7,18 @@ ghost use Rattle.aql_tree.specs.View.{step_part, member_part, link_part};
 ghost use Rattle.aql_tree.specs.declared.syntax.Ident.TheVariants.{Num};
 ghost use Rattle.aql_scope.specs.Numbering.{number_of, numbered_variable};
 ghost use Rattle.aql_scope.specs.Lifting as spec;
-ghost use Rattle.aql_scope.specs.Lifts.{Walks, visible, one_member, one_step};
+ghost use Rattle.aql_scope.specs.Lifts.{LiftsNext, visible, one_member, one_step};
 
 use crate::Made;
 use crate::lift_clauses::lift_inner;
 use crate::names::Scope;
-use crate::numbers::Walk;
+use crate::numbers::LiftState;
 use aql_tree::{Clause, Clauses, Expr, Exprs, Field, Fields, Ident, Links, Step, Steps};
 use aql_value::Value;
 use std::mem;
 
 /// A variable by its number; null for a name that is not visible.
-pub fn numbered(ident: &Ident, scope: &Scope) -> Expr
+pub fn number_variable(ident: &Ident, scope: &Scope) -> Expr
     ensures { tree result ≡ numbered_variable (number_of (visible scope.now) ident.now) }
 {
     match scope.find(ident) {
@@ -28,14 +28,14 @@ pub fn numbered(ident: &Ident, scope: &Scope) -> Expr
 }
 
 #[cycle(lift)]
-pub fn lift_expr(expr: &mut Expr, scope: &Scope, walk: &mut Walk) -> Made<()>
-    ensures { Walks walk.old result walk.new (tree expr.new)
+pub fn lift_expr(expr: &mut Expr, scope: &Scope, walk: &mut LiftState) -> Made<()>
+    ensures { LiftsNext walk.old result walk.new (tree expr.new)
         (λ n. spec.expr (visible scope.now) n (tree expr.old)) }
 {
     match expr {
         Expr::Lit(_) | Expr::Current => Ok(()),
         Expr::Var(ident) => {
-            *expr = numbered(ident, scope);
+            *expr = number_variable(ident, scope);
             Ok(())
         }
         Expr::List(items) => lift_all(items, scope, walk),
@@ -61,7 +61,7 @@ pub fn lift_expr(expr: &mut Expr, scope: &Scope, walk: &mut Walk) -> Made<()>
         }
         Expr::Cond { test, yes, no } => {
             lift_boxed(test, scope, walk)?;
-            lift_chosen(yes, scope, walk)?;
+            lift_branch(yes, scope, walk)?;
             lift_boxed(no, scope, walk)
         }
         Expr::Range { low, high } => {
@@ -77,8 +77,8 @@ pub fn lift_expr(expr: &mut Expr, scope: &Scope, walk: &mut Walk) -> Made<()>
 }
 
 #[cycle(lift)]
-pub fn lift_boxed(expr: &mut Box<Expr>, scope: &Scope, walk: &mut Walk) -> Made<()>
-    ensures { Walks walk.old result walk.new (tree expr.new.value)
+pub fn lift_boxed(expr: &mut Box<Expr>, scope: &Scope, walk: &mut LiftState) -> Made<()>
+    ensures { LiftsNext walk.old result walk.new (tree expr.new.value)
         (λ n. spec.expr (visible scope.now) n (tree expr.old.value)) }
 {
     lift_expr(&mut **expr, scope, walk)
@@ -86,8 +86,8 @@ pub fn lift_boxed(expr: &mut Box<Expr>, scope: &Scope, walk: &mut Walk) -> Made<
 
 // What stands between `?` and `:`.
 #[cycle(lift)]
-fn lift_chosen(expr: &mut Option<Box<Expr>>, scope: &Scope, walk: &mut Walk) -> Made<()>
-    ensures { Walks walk.old result walk.new (maybe (option_map (λ b. tree b.value) expr.new))
+fn lift_branch(expr: &mut Option<Box<Expr>>, scope: &Scope, walk: &mut LiftState) -> Made<()>
+    ensures { LiftsNext walk.old result walk.new (maybe (option_map (λ b. tree b.value) expr.new))
         (λ n. spec.maybe (visible scope.now) n (maybe (option_map (λ b. tree b.value) expr.old))) }
 {
     match expr {
@@ -97,8 +97,8 @@ fn lift_chosen(expr: &mut Option<Box<Expr>>, scope: &Scope, walk: &mut Walk) -> 
 }
 
 #[cycle(lift)]
-pub fn lift_maybe(expr: &mut Option<Expr>, scope: &Scope, walk: &mut Walk) -> Made<()>
-    ensures { Walks walk.old result walk.new (maybe (option_map tree expr.new))
+pub fn lift_maybe(expr: &mut Option<Expr>, scope: &Scope, walk: &mut LiftState) -> Made<()>
+    ensures { LiftsNext walk.old result walk.new (maybe (option_map tree expr.new))
         (λ n. spec.maybe (visible scope.now) n (maybe (option_map tree expr.old))) }
 {
     match expr {
@@ -108,8 +108,8 @@ pub fn lift_maybe(expr: &mut Option<Expr>, scope: &Scope, walk: &mut Walk) -> Ma
 }
 
 #[cycle(lift)]
-fn lift_all(exprs: &mut Exprs, scope: &Scope, walk: &mut Walk) -> Made<()>
-    ensures { Walks walk.old result walk.new (trees (map tree exprs.new))
+fn lift_all(exprs: &mut Exprs, scope: &Scope, walk: &mut LiftState) -> Made<()>
+    ensures { LiftsNext walk.old result walk.new (trees (map tree exprs.new))
         (λ n. spec.exprs (visible scope.now) n (trees (map tree exprs.old))) }
 {
     let items = exprs.as_mut_slice();
@@ -120,8 +120,8 @@ fn lift_all(exprs: &mut Exprs, scope: &Scope, walk: &mut Walk) -> Made<()>
 }
 
 #[cycle(lift)]
-fn lift_members(fields: &mut Fields, scope: &Scope, walk: &mut Walk) -> Made<()>
-    ensures { Walks walk.old result walk.new (members (map member_part fields.new))
+fn lift_members(fields: &mut Fields, scope: &Scope, walk: &mut LiftState) -> Made<()>
+    ensures { LiftsNext walk.old result walk.new (members (map member_part fields.new))
         (λ n. spec.members (visible scope.now) n (members (map member_part fields.old))) }
 {
     let items = fields.as_mut_slice();
@@ -132,8 +132,8 @@ fn lift_members(fields: &mut Fields, scope: &Scope, walk: &mut Walk) -> Made<()>
 }
 
 #[cycle(lift)]
-fn lift_member(field: &mut Field, scope: &Scope, walk: &mut Walk) -> Made<()>
-    ensures { Walks walk.old result walk.new (member_part field.new)
+fn lift_member(field: &mut Field, scope: &Scope, walk: &mut LiftState) -> Made<()>
+    ensures { LiftsNext walk.old result walk.new (member_part field.new)
         (λ n. one_member (visible scope.now) n (member_part field.old)) }
 {
     match field {
@@ -146,8 +146,8 @@ fn lift_member(field: &mut Field, scope: &Scope, walk: &mut Walk) -> Made<()>
 }
 
 #[cycle(lift)]
-fn lift_steps(all: &mut Steps, scope: &Scope, walk: &mut Walk) -> Made<()>
-    ensures { Walks walk.old result walk.new (steps (map step_part all.new))
+fn lift_steps(all: &mut Steps, scope: &Scope, walk: &mut LiftState) -> Made<()>
+    ensures { LiftsNext walk.old result walk.new (steps (map step_part all.new))
         (λ n. spec.steps (visible scope.now) n (steps (map step_part all.old))) }
 {
     let items = all.as_mut_slice();
@@ -158,8 +158,8 @@ fn lift_steps(all: &mut Steps, scope: &Scope, walk: &mut Walk) -> Made<()>
 }
 
 #[cycle(lift)]
-fn lift_step(step: &mut Step, scope: &Scope, walk: &mut Walk) -> Made<()>
-    ensures { Walks walk.old result walk.new (step_part step.new)
+fn lift_step(step: &mut Step, scope: &Scope, walk: &mut LiftState) -> Made<()>
+    ensures { LiftsNext walk.old result walk.new (step_part step.new)
         (λ n. one_step (visible scope.now) n (step_part step.old)) }
 {
     match step {
@@ -173,8 +173,8 @@ fn lift_step(step: &mut Step, scope: &Scope, walk: &mut Walk) -> Made<()>
 }
 
 #[cycle(lift)]
-fn lift_links(all: &mut Links, scope: &Scope, walk: &mut Walk) -> Made<()>
-    ensures { Walks walk.old result walk.new (links (map link_part all.new))
+fn lift_links(all: &mut Links, scope: &Scope, walk: &mut LiftState) -> Made<()>
+    ensures { LiftsNext walk.old result walk.new (links (map link_part all.new))
         (λ n. spec.links (visible scope.now) n (links (map link_part all.old))) }
 {
     let items = all.as_mut_slice();

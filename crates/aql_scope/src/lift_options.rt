@@ -2,7 +2,7 @@
 
 ghost use Rattle.std.specs.Prelude.{◌≡◌, [], map};
 ghost use Rattle.aql_value.specs.Datum.{text};
-ghost use Rattle.aql_value.specs.Parts.{same};
+ghost use Rattle.aql_value.specs.Contents.{same};
 ghost use Rattle.aql_value.specs.View.{datum_of};
 ghost use Rattle.aql_tree.specs.Build.{default_options};
 ghost use Rattle.aql_tree.specs.View.{members, member_part, options_part};

@@ -12,13 +12,17 @@ use crate::Made;
 use crate::lift_exprs::{lift_expr, lift_maybe};
 use crate::lift_options::chosen_options;
 use crate::names::{NameList, Scope};
-use crate::numbers::{Numbers, Walk};
+use crate::numbers::{LiftState, Numbers};
 use aql_tree::{Expr, Ident, Traversal};
 use aql_value::Seq;
 
 /// A traversal: its names are visible in its PRUNE.
 #[cycle(lift)]
-pub fn lift_traversal(traversal: &mut Traversal, scope: &mut Scope, walk: &mut Walk) -> Made<()>
+pub fn lift_traversal(
+    traversal: &mut Traversal,
+    scope: &mut Scope,
+    walk: &mut LiftState,
+) -> Made<()>
     ensures { LiftsClause scope.old walk.old result scope.new walk.new
         (traversal_clause (traversal_part traversal.old))
         (traversal_clause (traversal_part traversal.new)) }
@@ -45,7 +49,7 @@ fn lift_prune(prune: &mut Option<Expr>, scope: &Scope, numbers: &Numbers) -> Mad
     ensures { OnOk result (maybe (option_map tree prune.new) ≡ (spec.maybe (visible scope.now)
         numbers.now.next (maybe (option_map tree prune.old))).tree) }
 {
-    let mut aside = Walk {
+    let mut aside = LiftState {
         numbers: Numbers::from(numbers.alloc, numbers.next),
         lets: Seq::new(numbers.alloc),
     };

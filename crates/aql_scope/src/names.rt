@@ -5,7 +5,7 @@ ghost use Rattle.aql_scope.specs.Numbering.{number_of, idents, text_of};
 ghost use Rattle.aql_tree.specs.declared.syntax.Ident.TheVariants.{Num};
 ghost use Rattle.aql_meaning.specs.Row.{same_ident};
 ghost use Rattle.aql_scope.specs.Faults.{is_among, inline};
-ghost use Rattle.aql_scope.specs.Places.{place, place_within};
+ghost use Rattle.aql_scope.specs.Contexts.{context_of, context_within};
 ghost use Rattle.aql_meaning.specs.Groups.{names_of};
 
 use crate::Made;
@@ -229,7 +229,7 @@ impl Scope {
 impl<'a> At<'a> {
     /// Within an inline expression, PRUNE or OPTIONS, where no subquery may stand.
     pub fn inline(&self) -> At<'a>
-        ensures { place result ≡ inline (place self.now) }
+        ensures { context_of result ≡ inline (context_of self.now) }
     {
         At {
             lifts: false,
@@ -241,7 +241,7 @@ impl<'a> At<'a> {
     pub fn within<'b>(&self, scope: &'b Scope) -> At<'b>
     where
         'a: 'b,
-        ensures { place result ≡ place_within self.now scope.now }
+        ensures { context_of result ≡ context_within self.now scope.now }
     {
         At {
             alloc: self.alloc,

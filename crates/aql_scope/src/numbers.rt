@@ -21,7 +21,7 @@ pub struct Numbers {
 /// What is lifted so far: the numbers of variables, and the clauses of the query at hand with the
 /// LETs of the subqueries that were taken out.
 #[derive(Drop)]
-pub struct Walk {
+pub struct LiftState {
     pub numbers: Numbers,
     pub lets: Clauses,
 }

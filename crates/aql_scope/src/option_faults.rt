@@ -5,7 +5,7 @@ ghost use Rattle.aql_tree.specs.View.{tree, members, member_part, traversal_part
 ghost use Rattle.aql_scope.specs.Numbering.{idents};
 ghost use Rattle.aql_scope.specs.Options.{no_settings};
 ghost use Rattle.aql_scope.specs.Faults as spec;
-ghost use Rattle.aql_scope.specs.Places.{place, Judges};
+ghost use Rattle.aql_scope.specs.Contexts.{context_of, Judges};
 
 use crate::checks::{Judged, new_name, option_fault};
 use crate::expr_faults::in_expr;
@@ -18,7 +18,7 @@ use std::alloc::Global;
 /// The names that a traversal declares.
 #[tactic(auto, using(crate::proofs::Words::new_append))]
 pub fn new_traversal_names(traversal: &Traversal, at: &At<'_>) -> Judged
-    ensures { Judges result (spec.new_names (spec.visible_variables (place at.now)) []
+    ensures { Judges result (spec.new_names (spec.visible_variables (context_of at.now)) []
         (spec.traversal_variables (traversal_part traversal.now).0)) }
 {
     let mut earlier = NameList::new(at.alloc);
@@ -31,7 +31,7 @@ pub fn new_traversal_names(traversal: &Traversal, at: &At<'_>) -> Judged
 
 // A name that a traversal may have.
 fn new_maybe(ident: &Option<Ident>, at: &At<'_>, earlier: &NameList) -> Judged
-    ensures { Judges result (spec.new_names (spec.visible_variables (place at.now))
+    ensures { Judges result (spec.new_names (spec.visible_variables (context_of at.now))
         (idents earlier.now) (option_to_list ident.now)) }
 {
     match ident {
@@ -44,7 +44,7 @@ fn new_maybe(ident: &Option<Ident>, at: &At<'_>, earlier: &NameList) -> Judged
 #[cycle(faults)]
 pub fn in_options(settings: &[Field], at: &At<'_>) -> Judged
     ensures { Judges result
-        (spec.in_settings (place at.now) no_settings (members (map member_part settings.now))) }
+        (spec.in_settings (context_of at.now) no_settings (members (map member_part settings.now))) }
 {
     let mut written = Written::nothing();
     for setting in settings {

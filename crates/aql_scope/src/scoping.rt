@@ -12,7 +12,7 @@ use crate::clause_faults::in_query;
 use crate::faults::ScopeFault;
 use crate::lift_clauses::lift_query;
 use crate::names::{At, Scope};
-use crate::numbers::{Numbers, Walk};
+use crate::numbers::{LiftState, Numbers};
 use aql_doc::Catalog;
 use aql_tree::Query;
 use aql_value::{Names, OutOfMemory, Seq};
@@ -58,7 +58,7 @@ pub fn lift(query: Query, alloc: Global) -> Result<Scoped, OutOfMemory>
     ensures names { IfOk result (λ s. s.names ≡ (scope_query [] 1 (query_tree query)).said) }
 {
     let mut query = query;
-    let mut walk = Walk {
+    let mut walk = LiftState {
         numbers: Numbers::from(alloc, 1),
         lets: Seq::new(alloc),
     };

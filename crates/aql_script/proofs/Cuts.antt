@@ -8,7 +8,7 @@ use Rattle.std.proofs.lemmas.Bool.{false_from_ne_true}
 use Rattle.std.proofs.lemmas.Bool.Decides.{Decides-eqb}
 use Rattle.aql_doc.specs.Held.{Held}
 use Rattle.aql_script.specs.Pieces.{cut_at, pieces}
-use Rattle.aql_script.specs.Lines.{Step, after, last, read}
+use Rattle.aql_script.specs.Lines.{LineEffect, after, last, read}
 use Rattle.aql_script.specs.declared.loading.Loaded.{Loaded}
 use Rattle.aql_script.specs.declared.faults.LoadFault.{LoadFault}
 use Rattle.aql_script.specs.declared.faults.LoadFault.TheVariants.{Line}
@@ -93,7 +93,7 @@ shape c (b ∷ bytes) =
 pub one_piece : (c : ℕ) (bytes : List ℕ) → 1 ≤ length (pieces c bytes)
 one_piece c bytes = let e = ap length (shape c bytes).is in omega (arith, e)
 
-module _ (step : ℕ → List Held → List ℕ → Step) where
+module _ (step : ℕ → List Held → List ℕ → LineEffect) where
   -- a line that a line feed ends
   read_line : (n : ℕ) (held : List Held) (l r : List ℕ)
       → read step n held (l ∷ pieces 10 r)
@@ -109,7 +109,8 @@ module _ (step : ℕ → List Held → List ℕ → Step) where
       (join_with_byte-slice_split 10 r)
 
   -- what the next line does decides how the whole goes on
-  pub goes : (n : ℕ) (held : List Held) (rest l r : List ℕ) (whole : Result Loaded LoadFault) (did : Step)
+  pub goes : (n : ℕ) (held : List Held) (rest l r : List ℕ) (whole : Result Loaded LoadFault)
+      (did : LineEffect)
       → Some (l, r) ≡ cut_at 10 rest → read step n held (pieces 10 rest) ≡ whole
       → step (n + 1) held (strip_carriage_return l) ≡ did
       → after (n + 1) did held (λ more. read step (n + 1) more (pieces 10 r)) r ≡ whole
@@ -123,7 +124,7 @@ module _ (step : ℕ → List Held → List ℕ → Step) where
   ends n held rest whole c inv = ap (read step n held) (sym (cut_none_gives 10 rest c)) ∙ inv
 
   -- the last line, which no line feed ends
-  pub last_line : (n : ℕ) (held : List Held) (l : List ℕ) (did : Step) → 0 < length l
+  pub last_line : (n : ℕ) (held : List Held) (l : List ℕ) (did : LineEffect) → 0 < length l
       → step (n + 1) held l ≡ did
       → last step n held l ≡ after (n + 1) did held (λ more. Err (Line (n + 1) NoQuery)) []
   last_line n held [] did h e = absurd (omega (arith, h))

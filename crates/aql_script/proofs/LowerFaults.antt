@@ -6,14 +6,14 @@ use Rattle.std.specs.Str.{is_utf8}
 use Rattle.serde_json.specs.Data.{Data, depth}
 use Rattle.serde_json.specs.Read.{read}
 use Rattle.aql_value.specs.Datum.{Datum, null, boolean, number, text, array, object}
-use Rattle.aql_value.specs.Parts.{members_of}
+use Rattle.aql_value.specs.Contents.{members_of}
 use Rattle.aql_value.specs.Attributes.{attribute}
 use Rattle.aql_value.specs.FromJson.{from_json}
 use Rattle.aql_value.specs.JsonLine.{json_line, of_data, or_not_whole, greatest_depth}
 use Rattle.aql_value.specs.declared.reading.JsonFault.{JsonFault}
 use Rattle.aql_value.specs.declared.reading.JsonFault.TheVariants.{NotJson, TooDeep, NotWhole, Memory as JsonMemory}
 use Rattle.aql_doc.specs.Held.{Held, documents_in}
-use Rattle.aql_doc.specs.Declarations.{place_of, declare, add_index, with_index, has_index, change, replace, empty}
+use Rattle.aql_doc.specs.Declarations.{collection_index, declare, add_index, with_index, has_index, change, replace, empty}
 use Rattle.aql_doc.specs.Documents as documents
 use Rattle.aql_doc.specs.Keys.{is_key, id_of, is_text, rest_after}
 use Rattle.aql_doc.specs.KeySet.{has_key}
@@ -67,7 +67,7 @@ pub declared_is : (held : List Held) (name : List ℕ) (edge : Bool) (shards : �
     → FaultIs OfCatalog (declare held name edge shards keys)
 declared_is held name edge shards keys =
     let more : Result (List Held) CatalogFault = Ok (held ++ empty name edge shards keys ∷ []) in
-    one_of OfCatalog (is_some (place_of held name)) (Err Twice)
+    one_of OfCatalog (is_some (collection_index held name)) (Err Twice)
     (if nat_lt (length held) 64 then more else Err TooMany) tt
     (one_of OfCatalog (nat_lt (length held) 64) more (Err TooMany) tt tt)
 

@@ -9,7 +9,7 @@ use Rattle.aql_value.specs.JsonLine.{json_line}
 use Rattle.aql_value.specs.declared.reading.JsonFault.{JsonFault}
 use Rattle.aql_value.specs.declared.reading.JsonFault.TheVariants.{NotJson, TooDeep, NotWhole, Memory as JsonMemory}
 use Rattle.aql_doc.specs.Held.{Held}
-use Rattle.aql_doc.specs.Declarations.{place_of, declare, add_index}
+use Rattle.aql_doc.specs.Declarations.{collection_index, declare, add_index}
 use Rattle.aql_doc.specs.Documents.{add}
 use Rattle.aql_doc.specs.declared.faults.CatalogFault.{CatalogFault}
 use Rattle.aql_doc.specs.declared.faults.CatalogFault.TheVariants.{Twice, TooMany, Memory as CatalogMemory}
@@ -17,8 +17,8 @@ use Rattle.aql_doc.specs.declared.faults.DocFault.{DocFault}
 use Rattle.aql_doc.specs.declared.faults.DocFault.TheVariants.{NotObject, BadKey, IdMismatch, BadEdge, DuplicateKey, TooMany as DocTooMany, Memory as DocMemory}
 use Rattle.aql_script.specs.Pieces.{pieces, words, first_of}
 use Rattle.aql_script.specs.Directives.{directive}
-use Rattle.aql_script.specs.Lines.{Step, next, query, fault, after, last, read, with_query}
-use Rattle.aql_script.specs.Steps.{step, by_first, directive_step, by_directive, declaration, declare_step, index, index_at, index_step, document, with_value, add_step, doc_fault, json_fault, shards_of, keys_of}
+use Rattle.aql_script.specs.Lines.{LineEffect, next, query, fault, after, last, read, with_query}
+use Rattle.aql_script.specs.LineEffects.{line_effect, by_first, directive_effect, by_directive, declaration, declare_effect, index, index_at, index_effect, document, with_value, document_effect, doc_fault, json_fault, shards_of, keys_of}
 use Rattle.aql_script.specs.Script.{lines, script, HasFault, IsOfBytes}
 use Rattle.aql_script.proofs.LowerFaults.{FaultIs, OfCatalog, OfDocument, OfJson, declared_is, indexed_is, added_is, json_is}
 use Rattle.aql_script.specs.declared.loading.Loaded.{Loaded}
@@ -30,12 +30,12 @@ use Rattle.aql_script.specs.declared.faults.LoadFault.TheVariants.{Limit, Line}
 use Rattle.aql_script.specs.declared.faults.LimitKind.TheVariants.{LineBytes, Shards, ScriptBytes}
 use Rattle.aql_script.specs.declared.faults.LineKind.TheVariants.{DeclaredTwice, NoCollection, NoQuery, QueryNotUtf8}
 
-abbrev StepOf : Step → Type 0
+abbrev StepOf : LineEffect → Type 0
 StepOf (next held) = Unit {0}
 StepOf query = Unit {0}
 StepOf (fault e) = IsOfBytes e
 
-either : (b : Bool) (s t : Step) → StepOf s → StepOf t → StepOf (if b then s else t)
+either : (b : Bool) (s t : LineEffect) → StepOf s → StepOf t → StepOf (if b then s else t)
 either true s t h k = h
 either false s t h k = k
 
@@ -54,19 +54,20 @@ of_json n TooDeep h = tt
 of_json n NotWhole h = tt
 of_json n JsonMemory h = absurd h
 
-of_declaring : (n : ℕ) (r : Result (List Held) CatalogFault) → FaultIs OfCatalog r → StepOf (declare_step n r)
+of_declaring : (n : ℕ) (r : Result (List Held) CatalogFault) → FaultIs OfCatalog r
+    → StepOf (declare_effect n r)
 of_declaring n (Ok held) h = tt
 of_declaring n (Err Twice) h = tt
 of_declaring n (Err TooMany) h = tt
 of_declaring n (Err CatalogMemory) h = absurd h
 
-of_indexing : (n : ℕ) (r : Result (List Held) CatalogFault) → FaultIs OfCatalog r → StepOf (index_step n r)
+of_indexing : (n : ℕ) (r : Result (List Held) CatalogFault) → FaultIs OfCatalog r → StepOf (index_effect n r)
 of_indexing n (Ok held) h = tt
 of_indexing n (Err Twice) h = tt
 of_indexing n (Err TooMany) h = tt
 of_indexing n (Err CatalogMemory) h = absurd h
 
-of_adding : (n : ℕ) (r : Result (List Held) DocFault) → FaultIs OfDocument r → StepOf (add_step n r)
+of_adding : (n : ℕ) (r : Result (List Held) DocFault) → FaultIs OfDocument r → StepOf (document_effect n r)
 of_adding n (Ok held) h = tt
 of_adding n (Err e) h = of_doc n e h
 
@@ -80,8 +81,8 @@ of_declaration : (n : ℕ) (held : List Held) (edge : Bool) (name : List ℕ) (o
     → StepOf (declaration n held edge name options)
 unfolding declaration
 of_declaration n held edge name options =
-    let does = declare_step n (declare held name edge (shards_of options) (keys_of options)) in
-    either (is_some (place_of held name)) (fault (Line n DeclaredTwice))
+    let does = declare_effect n (declare held name edge (shards_of options) (keys_of options)) in
+    either (is_some (collection_index held name)) (fault (Line n DeclaredTwice))
     (if nat_lt 32 (shards_of options) then fault (Limit (Shards n)) else does) tt
     (either (nat_lt 32 (shards_of options)) (fault (Limit (Shards n))) does tt
     (of_declaring n (declare held name edge (shards_of options) (keys_of options))
@@ -96,7 +97,7 @@ of_place n held attributes (Some number) =
 of_index : (n : ℕ) (held : List Held) (name : List ℕ) (attributes : List (List ℕ))
     → StepOf (index n held name attributes)
 unfolding index
-of_index n held name attributes = of_place n held attributes (place_of held name)
+of_index n held name attributes = of_place n held attributes (collection_index held name)
 
 of_directive : (n : ℕ) (held : List Held) (d : Option Directive) → StepOf (by_directive n held d)
 of_directive n held None = tt
@@ -104,8 +105,8 @@ of_directive n held (Some (Declare edge name options)) = of_declaration n held e
 of_directive n held (Some (Index name attributes)) = of_index n held name attributes
 of_directive n held (Some Query) = tt
 
-of_directed : (n : ℕ) (held : List Held) (line : List ℕ) → StepOf (directive_step n held line)
-unfolding directive_step
+of_directed : (n : ℕ) (held : List Held) (line : List ℕ) → StepOf (directive_effect n held line)
+unfolding directive_effect
 of_directed n held line = of_directive n held (directive (words line))
 
 of_document : (n : ℕ) (held : List Held) (line : List ℕ) → StepOf (document n held line)
@@ -117,11 +118,11 @@ of_document n held line =
 of_first : (n : ℕ) (held : List Held) (line : List ℕ) (first : Option ℕ) → StepOf (by_first n held line first)
 of_first n held line None = tt
 of_first n held line (Some b) =
-    either (nat_eq b 37) (directive_step n held line) (document n held line) (of_directed n held line)
+    either (nat_eq b 37) (directive_effect n held line) (document n held line) (of_directed n held line)
     (of_document n held line)
 
-of_step : (n : ℕ) (held : List Held) (line : List ℕ) → StepOf (step n held line)
-unfolding step
+of_step : (n : ℕ) (held : List Held) (line : List ℕ) → StepOf (line_effect n held line)
+unfolding line_effect
 of_step n held line =
     either (nat_lt 1048576 (length line)) (fault (Limit (LineBytes n)))
     (by_first n held line (first_of line)) tt
@@ -136,25 +137,26 @@ of_query n held text =
       | false ↦ tt
     ]
 
-of_after : (n : ℕ) (did : Step) (held : List Held) (go : List Held → Result Loaded LoadFault) (text : List ℕ)
+of_after : (n : ℕ) (did : LineEffect) (held : List Held) (go : List Held → Result Loaded LoadFault)
+    (text : List ℕ)
     → StepOf did → ((more : List Held) → IfErr (go more) IsOfBytes)
     → IfErr (after n did held go text) IsOfBytes
 of_after n (next more) held go text h k = k more
 of_after n query held go text h k = of_query n held text
 of_after n (fault e) held go text h k = h
 
-of_last : (n : ℕ) (held : List Held) (l : List ℕ) → IfErr (last step n held l) IsOfBytes
+of_last : (n : ℕ) (held : List Held) (l : List ℕ) → IfErr (last line_effect n held l) IsOfBytes
 of_last n held [] = tt
 of_last n held (b ∷ l) =
-    of_after (n + 1) (step (n + 1) held (b ∷ l)) held (λ more. Err (Line (n + 1) NoQuery)) []
+    of_after (n + 1) (line_effect (n + 1) held (b ∷ l)) held (λ more. Err (Line (n + 1) NoQuery)) []
     (of_step (n + 1) held (b ∷ l)) (λ more. tt)
 
-of_read : (n : ℕ) (held : List Held) (ls : List (List ℕ)) → IfErr (read step n held ls) IsOfBytes
+of_read : (n : ℕ) (held : List Held) (ls : List (List ℕ)) → IfErr (read line_effect n held ls) IsOfBytes
 of_read n held [] = tt
 of_read n held (l ∷ []) = of_last n held l
 of_read n held (l ∷ m ∷ ls) =
-    of_after (n + 1) (step (n + 1) held (strip_carriage_return l)) held
-    (λ more. read step (n + 1) more (m ∷ ls))
+    of_after (n + 1) (line_effect (n + 1) held (strip_carriage_return l)) held
+    (λ more. read line_effect (n + 1) more (m ∷ ls))
     (join_with_byte 10 (m ∷ ls)) (of_step (n + 1) held (strip_carriage_return l))
     (λ more. of_read (n + 1) more (m ∷ ls))
 

@@ -3,6 +3,6 @@ pub mod Names
 pub mod Directives
 pub mod Lines
 pub mod Meets
-pub mod Steps
+pub mod LineEffects
 pub mod Script
 pub mod Texts

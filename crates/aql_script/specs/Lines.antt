@@ -11,10 +11,10 @@ use Rattle.aql_script.specs.declared.faults.LoadFault.TheVariants.{Line}
 use Rattle.aql_script.specs.declared.faults.LineKind.TheVariants.{NoQuery, QueryNotUtf8}
 
 -- what comes of a line: what is held after it, the end of the lines, or a fault
-pub data Step : Type 0 where
-  next : List Held → Step
-  query : Step
-  fault : LoadFault → Step
+pub data LineEffect : Type 0 where
+  next : List Held → LineEffect
+  query : LineEffect
+  fault : LoadFault → LineEffect
 
 -- the script whose query stands after line n
 abbrev pub with_query : ℕ → List Held → List ℕ → Result Loaded LoadFault
@@ -22,13 +22,13 @@ with_query n held text =
     if is_utf8 text then Ok (record { catalog = held; query = text }) else Err (Line n QueryNotUtf8)
 
 -- what comes of line n, where the lines after it go on from what is held then
-abbrev pub after : ℕ → Step → List Held → (List Held → Result Loaded LoadFault) → List ℕ
+abbrev pub after : ℕ → LineEffect → List Held → (List Held → Result Loaded LoadFault) → List ℕ
     → Result Loaded LoadFault
 after n (next more) held go text = go more
 after n query held go text = with_query n held text
 after n (fault e) held go text = Err e
 
-module _ (step : ℕ → List Held → List ℕ → Step) where
+module _ (step : ℕ → List Held → List ℕ → LineEffect) where
   -- the last line, which no line feed ends; no byte is no line
   abbrev pub last : ℕ → List Held → List ℕ → Result Loaded LoadFault
   last n held [] = Err (Line n NoQuery)

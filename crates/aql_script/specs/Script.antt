@@ -6,14 +6,14 @@ use Rattle.aql_io.specs.Bytes.{HandsOut}
 use Rattle.aql_io.specs.Causes.{Rose}
 use Rattle.aql_script.specs.Pieces.{pieces}
 use Rattle.aql_script.specs.Lines.{read}
-use Rattle.aql_script.specs.Steps.{step}
+use Rattle.aql_script.specs.LineEffects.{line_effect}
 use Rattle.aql_script.specs.declared.loading.Loaded.{Loaded}
 use Rattle.aql_script.specs.declared.faults.LoadFault.{LoadFault}
 use Rattle.aql_script.specs.declared.faults.LoadFault.TheVariants.{Read, Limit, Line, Memory}
 use Rattle.aql_script.specs.declared.faults.LimitKind.TheVariants.{ScriptBytes}
 
 abbrev pub lines : List ℕ → Result Loaded LoadFault
-lines bytes = read step 0 [] (pieces 10 bytes)
+lines bytes = read line_effect 0 [] (pieces 10 bytes)
 
 unfoldable pub script : List ℕ → Result Loaded LoadFault
 script bytes = if nat_le (length bytes) 67108864 then lines bytes else Err (Limit ScriptBytes)

@@ -7,11 +7,11 @@
 
 mod directives;
 mod faults;
+mod line;
 mod loading;
 mod names;
 mod options;
 mod pieces;
-mod step;
 mod texts;
 
 pub use faults::{LimitKind, LineKind, LoadFault};

@@ -4,13 +4,13 @@ ghost use Rattle.aql_script.specs.Lines.{last, with_query};
 ghost use Rattle.aql_script.specs.Meets.{Meets};
 ghost use Rattle.aql_script.specs.Script.{lines, Loads, Hinders, HasFault, IsOfBytes};
 ghost use Rattle.aql_io.specs.Bytes.{HandsOut};
-ghost use Rattle.aql_script.specs.Steps.{step};
+ghost use Rattle.aql_script.specs.LineEffects.{line_effect};
 ghost use Rattle.aql_script.specs.declared.faults.LoadFault.{LoadFault};
 ghost use Rattle.aql_script.specs.declared.faults.LoadFault.TheVariants.{Line};
 ghost use Rattle.aql_script.specs.declared.faults.LineKind.TheVariants.{NoQuery};
 
+use crate::line::take_line;
 use crate::pieces::cut_at;
-use crate::step::take_line;
 use crate::{LimitKind, LineKind, LoadFault};
 use aql_doc::Catalog;
 use aql_io::{ReadAllFault, Source, read_all};
@@ -109,7 +109,7 @@ fn load_last(
     bytes: &[u8],
 ) -> Result<Loaded, LoadFault>
     requires { before < 67108865 }
-    ensures { Meets result (last step before catalog bytes.now) }
+    ensures { Meets result (last line_effect before catalog bytes.now) }
 {
     if bytes.len() == 0 {
         return Err(no_query(before));

@@ -1,4 +1,4 @@
 pub mod Holding
 pub mod Known
-pub mod Held
+pub mod Datasets
 pub mod laws

@@ -2,9 +2,9 @@ ghost use Rattle.std.specs.Prelude.{◌≡◌, ◌<◌, length, option_map, slic
 ghost use Rattle.std.specs.Borrow.{sem};
 ghost use Rattle.std.specs.Io.BufRead.{Rests};
 ghost use Rattle.aql_value.specs.View.{datum_of};
-ghost use Rattle.aql_doc.specs.Declarations.{place_of};
+ghost use Rattle.aql_doc.specs.Declarations.{collection_index};
 ghost use Rattle.aql_plan.specs.Fits.{IsShard};
-ghost use Rattle.aql_shard.specs.Held.{stock, nothing_counted, one_read, more_found, documents_read};
+ghost use Rattle.aql_shard.specs.Datasets.{stock, nothing_counted, one_read, more_found, documents_read};
 ghost use Rattle.aql_shard.specs.Known.{facts_of, shards_of};
 ghost use Rattle.aql_shard.specs.contracts.servers.Servers.{the_row};
 
@@ -71,7 +71,7 @@ impl Servers {
 
     /// The number of the collection with a name; `None` exactly where there is none.
     pub fn find(&self, name: &str) -> Option<CollNo>
-        ensures value { option_map (λ n. n.0) result ≡ place_of self.now.held name.now }
+        ensures value { option_map (λ n. n.0) result ≡ collection_index self.now.held name.now }
         ensures within { IfSome result (λ n. n.0 < length self.now.held) }
     {
         self.catalog.find(name)

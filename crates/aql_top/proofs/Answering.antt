@@ -18,13 +18,13 @@ use Rattle.aql_plan.specs.Facts.{Meets}
 use Rattle.aql_plan.specs.Plan as spec
 use Rattle.aql_plan.specs.View.{plan_tree}
 use Rattle.aql_plan.specs.FirstPlan.{first_plan}
-use Rattle.aql_plan.specs.Refines.{world, Refines, Answers as PlanAnswers}
-use Rattle.aql_plan.specs.Runs.{World}
+use Rattle.aql_plan.specs.Refines.{dataset, Refines, Answers as PlanAnswers}
+use Rattle.aql_plan.specs.Runs.{Dataset}
 use Rattle.aql_plan.specs.WellFormed.{IsWellFormed}
 use Rattle.aql_plan_laws.proofs.FirstAnswers.{first_answers}
 use Rattle.aql_engine.specs.Runnable.{HasExecutors}
 use Rattle.aql_shard.specs.Holding.{Holding}
-use Rattle.aql_shard.specs.Held.{stock, nothing_counted}
+use Rattle.aql_shard.specs.Datasets.{stock, nothing_counted}
 use Rattle.aql_shard.specs.Known.{facts_of}
 use Rattle.aql_build.specs.Resolved.{IsResolved}
 use Rattle.aql_build.specs.Theorem.{ScopingGivesIt}
@@ -64,7 +64,7 @@ module _ (loaded : Loaded) (tree : QueryTree) (names : List (List ℕ))
       → ((q : QueryTree) → IsWritten loaded.query q → (db : Database) (out : List value.Datum)
       → IsAnswer db tree empty_row out → IsAnswer db q empty_row out)
       → (values : List value.Datum)
-      → PlanAnswers plan (world (facts_of 0 loaded.catalog) (database loaded.catalog)) empty_row values
+      → PlanAnswers plan (dataset (facts_of 0 loaded.catalog) (database loaded.catalog)) empty_row values
       → Answers loaded (answer_text values)
   plan_answers meets are keeps values a = record {
     query = s.spelled;
@@ -74,8 +74,8 @@ module _ (loaded : Loaded) (tree : QueryTree) (names : List (List ℕ))
     answer = keeps s.spelled s.is_written (database loaded.catalog) values
         (first_answers facts (database loaded.catalog) meets tree (is_lifted _ _ tree names s) empty_row
         values
-        (subst (λ p. PlanAnswers p (world facts (database loaded.catalog)) empty_row values) first
-        (subst (λ f. PlanAnswers plan (world f (database loaded.catalog)) empty_row values) (sym are) a)));
+        (subst (λ p. PlanAnswers p (dataset facts (database loaded.catalog)) empty_row values) first
+        (subst (λ f. PlanAnswers plan (dataset f (database loaded.catalog)) empty_row values) (sym are) a)));
     lines = refl;
   }
 
@@ -84,14 +84,14 @@ module _ (loaded : Loaded) (tree : QueryTree) (names : List (List ℕ))
       → ((q : QueryTree) → IsWritten loaded.query q → (db : Database) (out : List value.Datum)
       → IsAnswer db tree empty_row out → IsAnswer db q empty_row out)
       → (chosen : spec.Plan) → Refines facts chosen plan → (values : List value.Datum)
-      → PlanAnswers chosen (world (facts_of 0 loaded.catalog) (database loaded.catalog)) empty_row values
+      → PlanAnswers chosen (dataset (facts_of 0 loaded.catalog) (database loaded.catalog)) empty_row values
       → Answers loaded (answer_text values)
   chosen_answers meets are keeps chosen refines values a =
       let db = database loaded.catalog in
       plan_answers meets are keeps values
-      (subst (λ f. PlanAnswers plan (world f db) empty_row values) are
+      (subst (λ f. PlanAnswers plan (dataset f db) empty_row values) are
       (refines db meets empty_row values
-      (subst (λ f. PlanAnswers chosen (world f db) empty_row values) (sym are) a)))
+      (subst (λ f. PlanAnswers chosen (dataset f db) empty_row values) (sym are) a)))
 
 pub is_chosen_plan : (loaded : Loaded) (tree : QueryTree) (names : List (List ℕ))
     → IsScoped loaded.catalog loaded.query tree names → (facts : Facts)
@@ -140,7 +140,8 @@ at_end : (before : List Ran) (ran : Ran) → slice_get (before ++ ran ∷ []) (l
 at_end [] ran = refl
 at_end (other ∷ before) ran = at_end before ran
 
-module _ (w : World) (plan : Plan) (batch : ℕ) (before after : List Ran) (a : Adds w plan batch before after)
+module _ (w : Dataset) (plan : Plan) (batch : ℕ) (before after : List Ran)
+    (a : Adds w plan batch before after)
   where
     -- the entry that is looked up is the one that was added
     pub found_entry : (held more : List Ran) (at : ℕ) → held ≡ before → at ≡ length held → more ≡ after
@@ -160,14 +161,14 @@ pub answer_of_entry : (loaded : Loaded) (servers : Holding)
     → (plan : Plan) (batch : ℕ) (before after : List Ran) (a : Adds (stock servers) plan batch before after)
     → ((values : List value.Datum)
     → PlanAnswers (plan_tree plan)
-    (world (facts_of 0 loaded.catalog) (database loaded.catalog)) empty_row values
+    (dataset (facts_of 0 loaded.catalog) (database loaded.catalog)) empty_row values
     → Answers loaded (answer_text values))
     → (ran : Ran) → ran ≡ a.ran → (text : List ℕ) → text ≡ answer_text ran.values → Answers loaded text
 answer_of_entry loaded servers holds plan batch before after a answers ran same text lines =
     subst (Answers loaded) (sym (lines ∙ ap (λ (r : Ran). answer_text r.values) same))
     (answers a.ran.values
     (subst (λ (p : Plan). PlanAnswers (plan_tree p)
-    (world (facts_of 0 loaded.catalog) (database loaded.catalog)) empty_row a.ran.values) a.same_plan
+    (dataset (facts_of 0 loaded.catalog) (database loaded.catalog)) empty_row a.ran.values) a.same_plan
     (subst (λ (h : Holding). PlanAnswers (plan_tree a.ran.plan) (stock h) empty_row a.ran.values) holds
     a.over.answer)))
 

@@ -3,7 +3,7 @@ use Rattle.std.proofs.Common.{List, [], ◌∷◌}
 use Rattle.aql_tree.specs.Tree.{ExprTree, subquery, ClauseTree, filter_by, let_be, ClauseTrees, no_clauses, clause_then, QueryTree, query}
 use Rattle.aql_plan.specs.declared.facts.Facts.{Facts}
 use Rattle.aql_plan.specs.Plan.{Plan, Singleton, Over, Filter}
-use Rattle.aql_plan.specs.FirstPlan.{parts, filters, after_clause, after_clauses, first_plan}
+use Rattle.aql_plan.specs.FirstPlan.{conjuncts, filters, after_clause, after_clauses, first_plan}
 use Rattle.aql_engine.specs.Runnable.{HasExecutors}
 
 filters_have : (b : Plan) (es : List ExprTree) → HasExecutors b → HasExecutors (filters b es)
@@ -13,7 +13,7 @@ filters_have b (e ∷ es) h = filters_have (Over b (Filter e)) es (h, tt)
 module _ (facts : Facts) where
   mutual
     clause_has : (b : Plan) (c : ClauseTree) → HasExecutors b → HasExecutors (after_clause facts b c)
-    clause_has b (filter_by e) h = filters_have b (parts e) h
+    clause_has b (filter_by e) h = filters_have b (conjuncts e) h
     clause_has b (let_be x (subquery q)) h = (h, first_has q)
     clause_has b c h = (h, tt)
 

@@ -4,7 +4,7 @@ ghost use Rattle.std.specs.Prelude.{◌≡◌, ◌≢◌, ◌⊎◌, List, [], I
 ghost use Rattle.aql_value.specs.Datum.{Datum};
 ghost use Rattle.aql_doc.specs.Held.{database};
 ghost use Rattle.aql_meaning.specs.Row.{empty_row};
-ghost use Rattle.aql_plan.specs.Refines.{world, Answers as PlanAnswers};
+ghost use Rattle.aql_plan.specs.Refines.{dataset, Answers as PlanAnswers};
 ghost use Rattle.aql_plan.specs.View.{plan_tree};
 ghost use Rattle.aql_plan.specs.WellFormed.{IsWellFormed};
 ghost use Rattle.aql_shard.specs.Known.{facts_of};
@@ -74,7 +74,7 @@ fn plan_of(alloc: Global, script: &Loaded, rules: &Rules) -> Result<Plan, RunFau
         IsWellFormed (facts_of 0 script.now.catalog) [] (plan_tree plan)) }
     ensures answers { IfOk result (λ plan. (values : List Datum)
         → PlanAnswers (plan_tree plan)
-        (world (facts_of 0 script.now.catalog) (database script.now.catalog)) empty_row values
+        (dataset (facts_of 0 script.now.catalog) (database script.now.catalog)) empty_row values
         → Answers script.now (answer_text values)) }
     ensures none { IfErr result (λ fault. HasNoLines script.now fault) }
 {

@@ -67,7 +67,7 @@ impl Expr {
     }
 
     /// `left kind op right`, as in `left ALL == right`.
-    pub fn quantified(
+    pub fn array_comparison(
         alloc: Global,
         left: Expr,
         kind: QuantKind,

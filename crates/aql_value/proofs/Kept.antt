@@ -1,7 +1,7 @@
 -- What keeps values well formed.
 use Rattle.std.proofs.Common.{◌≡◌, ◌<◌, ◌≤◌, ℕ, zero, suc, List, [], ◌∷◌, ◌++◌, length, take, drop, get_or, set, Some, None, refl, sym, ap, ◌∙◌, arith, subst}
 use Rattle.aql_value.specs.Order.{BytesBelow}
-use Rattle.aql_value.specs.Place.{EachBelow, StartsAt, StartsAbove}
+use Rattle.aql_value.specs.NameSearch.{EachBelow, StartsAt, StartsAbove}
 use Rattle.aql_value.specs.Fields.{fields_in}
 use Rattle.aql_value.specs.declared.values.Member.{Member}
 use Rattle.std.specs.Prelude.{IsUtf8, insert, Result, Ok, Err, OnOk, OnErr}

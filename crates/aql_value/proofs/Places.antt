@@ -8,7 +8,7 @@ use Rattle.std.specs.List.Sorted.{IsBinarySearchResult, IsSearchInRange, IsNonDe
 use Rattle.std.proofs.lemmas.Cmp.{nat_list_cmp_total}
 use Rattle.aql_value.specs.laws.Ranks.{same_bytes, above_bytes}
 use Rattle.aql_value.specs.Order.{BytesBelow}
-use Rattle.aql_value.specs.Place.{EachBelow, StartsAbove, IsPlace}
+use Rattle.aql_value.specs.NameSearch.{EachBelow, StartsAbove, IsSearchResult}
 use Rattle.aql_value.specs.Fields.{fields_in}
 use Rattle.aql_value.specs.Datum.{object_of}
 use Rattle.aql_value.specs.WellFormed.{FieldsWellFormed, IsBelowNames}
@@ -72,7 +72,7 @@ starts k (m ∷ es) zero h f = f m (omega arith)
 starts k (m ∷ es) (suc i) h f = starts k es i (omega arith) (λ d lt. f d (omega arith))
 
 found : (k : List ℕ) (m : Member) (es : List Member) (i : ℕ) → Ascend (m ∷ es) → i < length (m ∷ es)
-    → to_name k (get_or (m ∷ es) i m) ≡ Equal → IsPlace (Ok i) k (fields_in (m ∷ es))
+    → to_name k (get_or (m ∷ es) i m) ≡ Equal → IsSearchResult (Ok i) k (fields_in (m ∷ es))
 found k m es i w h e =
     let here = same_bytes (get_or (m ∷ es) i m).name k e in (
       rw (length-fields_in (m ∷ es)) h,
@@ -81,7 +81,7 @@ found k m es i w h e =
     )
 
 pub place : (k : List ℕ) (es : List Member) (r : Result ℕ ℕ) → Ascend es → IsSearchInRange r (length es)
-    → IsBinarySearchResult (to_name k) es r → IsPlace r k (fields_in es)
+    → IsBinarySearchResult (to_name k) es r → IsSearchResult r k (fields_in es)
 place k [] (Ok i) w h p = absurd (omega arith)
 place k (m ∷ es) (Ok i) w h p = found k m es i w h (p m)
 place k es (Err i) w h p =

@@ -8,7 +8,7 @@ pub mod Compare
 pub mod TotalOrder
 pub mod WellFormed
 pub mod Attributes
-pub mod Place
+pub mod NameSearch
 pub mod Json
 pub mod Writes
 pub mod FromJson
@@ -16,7 +16,7 @@ pub mod JsonLine
 pub mod Tokens
 pub mod HashInput
 pub mod RoundTrip
-pub mod Parts
+pub mod Contents
 pub mod Convert
 pub mod Database
 pub mod Lends

@@ -2,7 +2,7 @@
 -- FNV-1a of 64 bits of the canonical JSON of the array of its shard-key values.
 use Rattle.std.specs.Prelude.{ℕ, ◌*◌, ◌%◌, ◌^◌, ◌==◌, List, map, filter, fold, bit_xor}
 use Rattle.aql_value.specs.Datum.{Datum}
-use Rattle.aql_value.specs.Parts.{list, at_name}
+use Rattle.aql_value.specs.Contents.{list, at_name}
 use Rattle.aql_value.specs.Json.{json_text}
 
 -- FNV-1a, from the offset basis on: byte by byte an exclusive or, and a product with the prime that wraps

@@ -5,7 +5,7 @@ ghost use Rattle.aql_value.specs.Datum.{object_of};
 ghost use Rattle.aql_value.specs.View.{datum_of};
 ghost use Rattle.aql_value.specs.Attributes.{with_attribute, attribute};
 ghost use Rattle.aql_value.specs.Fields.{fields_in};
-ghost use Rattle.aql_value.specs.Place.{IsPlace};
+ghost use Rattle.aql_value.specs.NameSearch.{IsSearchResult};
 ghost use Rattle.aql_value.specs.WellFormed.{FieldsWellFormed};
 
 use crate::texts::recall_utf8;
@@ -63,7 +63,7 @@ impl Members {
     pub fn value(&self, name: &str) -> Option<&Value>
         ensures { option_map (λ v. datum_of v.now) result ≡ attribute name.now self.now }
     {
-        match place_of(&self.entries, name) {
+        match find_name(&self.entries, name) {
             Ok(at) => Some(&self.entries[at].value),
             Err(_) => None,
         }
@@ -90,9 +90,9 @@ impl Members {
 }
 
 // The place of a name, or the place where it would be put.
-fn place_of(entries: &[Member], name: &str) -> Result<usize, usize>
+fn find_name(entries: &[Member], name: &str) -> Result<usize, usize>
     requires { FieldsWellFormed (object_of (fields_in entries.now)) }
-    ensures { IsPlace result name.now (fields_in entries.now) }
+    ensures { IsSearchResult result name.now (fields_in entries.now) }
 {
     entries.binary_search_by(
         |entry: &Member| -> Ordering
@@ -108,7 +108,7 @@ fn set_in(entries: &mut Vec<Member>, name: Text, value: Value) -> Result<(), Out
         ≡ with_attribute name (datum_of value) (fields_in entries.old.items)) }
     ensures err { OnErr result (entries.new.items ≡ entries.old.items) }
 {
-    match place_of(entries, name.as_str()) {
+    match find_name(entries, name.as_str()) {
         Ok(at) => {
             entries[at].value = value;
             Ok(())

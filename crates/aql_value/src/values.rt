@@ -90,7 +90,7 @@ impl Model for Members {
 }
 
 impl Value {
-    ghost use Rattle.aql_value.specs.Parts.{items_of, members_of};
+    ghost use Rattle.aql_value.specs.Contents.{items_of, members_of};
 
     /// The elements of an array; `None` exactly where the value is no array.
     #[tactic(auto, using(crate::proofs::Listed::items_listed))]

@@ -5,12 +5,12 @@ use crate::pages::Page;
 use crate::queries::write_expr;
 use aql_lex::lex;
 use aql_parse::parse;
-use aql_rewrite::{ExprRule, first_part};
+use aql_rewrite::{ExprRule, first_in_expr};
 use aql_tree::Query;
 use std::alloc::Global;
 
 fn write_first<R: ExprRule>(alloc: Global, rule: &R, query: &Query, page: &mut Page) {
-    match first_part(alloc, rule, &query.result) {
+    match first_in_expr(alloc, rule, &query.result) {
         Ok(Some(expr)) => write_expr("", &expr, Notation::Bracketed, page),
         Ok(None) => page.put("no place"),
         Err(_) => page.put("no memory"),

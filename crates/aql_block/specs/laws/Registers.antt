@@ -9,7 +9,7 @@ use Rattle.aql_tree.specs.declared.syntax.Ident.TheVariants.{Name, Num}
 use Rattle.aql_meaning.specs.Row.{Row, empty_row, bind, same_ident, value_at}
 use Rattle.aql_block.specs.Rows.{Entries, row_of, HasAll, is_among, only}
 use Rattle.aql_block.specs.Tables.{cells}
-use Rattle.aql_block.specs.Columns.{taken}
+use Rattle.aql_block.specs.Columns.{moved_values}
 
 pub same_self : (x : ℕ) → same_ident (Num x) (Num x) ≡ true
 same_self x = eq-eqb x x refl
@@ -74,7 +74,7 @@ value_is (Some v) p h e = e
 
 -- the values that are taken out of a row give the row, cut down to these variables
 pub only_taken : (xs : List ℕ) (row : Row) → HasAll xs row
-    → row_of (cells xs (taken xs row)) ≡ only xs row
+    → row_of (cells xs (moved_values xs row)) ≡ only xs row
 only_taken [] row h = refl
 only_taken (x ∷ xs) row h =
     ap (λ r. bind (Num x) r (value_at row (Num x)))

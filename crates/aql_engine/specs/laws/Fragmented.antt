@@ -4,14 +4,14 @@ use Rattle.std.specs.Prelude.{slice_index_or, Some, None}
 use Rattle.std.specs.List.{AllZip}
 use Rattle.aql_meaning.specs.Row.{Row}
 use Rattle.aql_plan.specs.Plan.{Plan, Singleton, Over, Scatter, Distribute}
-use Rattle.aql_plan.specs.Runs.{World, targets, part_of}
+use Rattle.aql_plan.specs.Runs.{Dataset, targets, sent_to}
 use Rattle.aql_exec.specs.Rests.{Rest}
 use Rattle.aql_exec.specs.Operators.{OperatorTree, rows_for, Fragments, ProducesOver}
 use Rattle.aql_engine.specs.OperatorsOf.{foot, shards_of, each_tree}
 use Rattle.aql_engine.specs.laws.Merging.{first_lists}
 
 -- which shards a fragment reaches is known from the facts
-pub shards_are : (w : World) (b : Plan) → shards_of w.facts b ≡ targets b w
+pub shards_are : (w : Dataset) (b : Plan) → shards_of w.facts b ≡ targets b w
 shards_are w Singleton = refl
 shards_are w (Over b (Scatter coll (Some shard))) = refl
 shards_are w (Over b (Scatter coll None)) = refl
@@ -19,14 +19,14 @@ shards_are w (Over b (Distribute coll es)) = refl
 shards_are w (Over b n) = shards_are w b
 
 -- what comes to a shard is said by the foot
-pub rows_are : (w : World) (b : Plan) (shard : ℕ) (rows : List Row)
-    → rows_for (foot b) w shard rows ≡ part_of b w shard rows
+pub rows_are : (w : Dataset) (b : Plan) (shard : ℕ) (rows : List Row)
+    → rows_for (foot b) w shard rows ≡ sent_to b w shard rows
 rows_are w Singleton shard rows = refl
 rows_are w (Over b (Scatter coll only)) shard rows = refl
 rows_are w (Over b (Distribute coll es)) shard rows = refl
 rows_are w (Over b n) shard rows = rows_are w b shard rows
 
-module _ (w : World) (row : Row) (tree : ℕ → OperatorTree) (part : ℕ → List Row)
+module _ (w : Dataset) (row : Row) (tree : ℕ → OperatorTree) (part : ℕ → List Row)
     (R : ℕ → List Row → Type 0)
     (gives : (shard : ℕ) (came : List Row) (r : Rest) → came ≡ part shard
     → ProducesOver (tree shard) w came row r → R shard r.rows) where

@@ -8,28 +8,28 @@ use Rattle.aql_meaning.specs.AtRows.{value_of, keys_of, passes}
 use Rattle.aql_meaning.specs.Documents.{Last, last_map, in_bounds, Scanned, ScannedInOrder}
 use Rattle.aql_plan.specs.Facts.{attributes_in}
 use Rattle.aql_plan.specs.Plan.{Reading, Node, EnumerateCollection, Index, EnumerateList, Traversal, Calculation, Subquery, Filter, Sort, Limit, Collect, Return, NoResults, Scatter, Distribute, Remote, Gather}
-use Rattle.aql_plan.specs.Runs.{World, Place, Outside, Inside, read, Gives}
+use Rattle.aql_plan.specs.Runs.{Dataset, Site, Outside, Inside, read, Gives}
 use Rattle.aql_exec.specs.Rests.{Counts}
 use Rattle.aql_exec.specs.Counting.{GivesCounting}
 use Rattle.aql_engine.specs.OperatorsOf.{node_at}
 
 -- outside fragments, or in one on a shard with the rows that came there
-abbrev pub place_at : Option ℕ → List Row → Place
+abbrev pub place_at : Option ℕ → List Row → Site
 place_at None rows = Outside
 place_at (Some shard) rows = Inside shard rows
 
-read_on : (w : World) (coll shard : ℕ) (own : Option ℕ) (rows : List Row)
+read_on : (w : Dataset) (coll shard : ℕ) (own : Option ℕ) (rows : List Row)
     → read w coll (Some (unwrap_or own shard)) Outside ≡ read w coll own (Inside shard rows)
 read_on w coll shard None rows = refl
 read_on w coll shard (Some other) rows = refl
 
 -- of these documents, those in the bounds of an index
-abbrev in_index : World → Reading → ℕ → ExprTrees → Last ExprTree → List Datum → Row → List Datum
+abbrev in_index : Dataset → Reading → ℕ → ExprTrees → Last ExprTree → List Datum → Row → List Datum
 in_index w x index equal last documents row = filter
     (in_bounds (attributes_in w.facts x.coll index) (keys_of equal row) (last_map (λ e. value_of e row) last))
     documents
 
-module _ (w : World) (came : List Row) (start : Row) (rows out : List Row) (d : Counts) where
+module _ (w : Dataset) (came : List Row) (start : Row) (rows out : List Row) (d : Counts) where
   given_shard : (shard : ℕ) (n : Node) → GivesCounting (node_at (Some shard) n) w start rows out d
       → Gives n w (Inside shard came) start rows out
   given_shard shard (EnumerateCollection x) h =

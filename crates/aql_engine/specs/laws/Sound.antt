@@ -2,13 +2,13 @@
 use Rattle.std.proofs.Common.{◌≡◌, ◌∙◌, ℕ, List, [], ◌∷◌, map, length, refl, sym, subst}
 use Rattle.std.specs.Prelude.{Option, Some, None, slice_index_or}
 use Rattle.std.specs.List.{AllZip}
-use Rattle.aql_value.specs.Parts.{list}
+use Rattle.aql_value.specs.Contents.{list}
 use Rattle.aql_tree.specs.declared.syntax.Ident.{Ident}
 use Rattle.aql_meaning.specs.Row.{Row, bind}
 use Rattle.aql_meaning.specs.AtRows.{row_before}
 use Rattle.aql_meaning.specs.Merges.{Merged}
 use Rattle.aql_plan.specs.Plan.{Plan, Singleton, Over, Subquery, NoResults, Scatter, Distribute, Remote, Gather}
-use Rattle.aql_plan.specs.Runs.{World, Outside, Inside, result_of, part_of, came, Runs, Feeds}
+use Rattle.aql_plan.specs.Runs.{Dataset, Outside, Inside, result_of, sent_to, came, Runs, Feeds}
 use Rattle.aql_exec.specs.Rests.{Counts, Rest}
 use Rattle.aql_exec.specs.Operators as operator
 use Rattle.aql_exec.specs.Operators.{leaf, one_row, EachRow, Makes, ProducesOver, Produces}
@@ -32,14 +32,14 @@ each_given body R f x (row ∷ rows) outs d h = subst
     ((h.0.rows, f row h.0 h.3, refl), each_given body R f x rows h.1 h.2 h.4)
 
 -- the rows that came to a place are those that came to its tree
-came_there : (w : World) (at : Option ℕ) (rows : List Row) (row : Row) (r : Rest)
+came_there : (w : Dataset) (at : Option ℕ) (rows : List Row) (row : Row) (r : Rest)
     → ProducesOver (leaf (came_at at)) w rows row r → r.rows ≡ came (place_at at rows)
 came_there w None rows row r h = h.0
 came_there w (Some shard) rows row r h = h.0
 
 mutual
   -- outside fragments, or in one on a shard with the rows that came there
-  pub gives_runs : (w : World) (p : Plan) (at : Option ℕ) (rows : List Row) (row : Row) (r : Rest)
+  pub gives_runs : (w : Dataset) (p : Plan) (at : Option ℕ) (rows : List Row) (row : Row) (r : Rest)
       → ProducesOver (operators_at w.facts at p) w rows row r → Runs p w (place_at at rows) row r.rows
   gives_runs w Singleton at rows row r h = h.0
   gives_runs w (Over b NoResults) at rows row r h = h.0
@@ -59,11 +59,11 @@ mutual
         (h.0 0).rows,
         first_lists (length shards) lists,
         gives_feed w b rows row (h.0 0) h.1,
-        subst (λ (ss : List ℕ). AllZip (λ shard out. Runs b w (Inside shard (part_of b w shard (h.0 0).rows))
+        subst (λ (ss : List ℕ). AllZip (λ shard out. Runs b w (Inside shard (sent_to b w shard (h.0 0).rows))
             row out) ss (first_lists (length shards) lists)) (shards_are w b)
             (each_list w row (λ shard. operators_at w.facts (Some shard) b)
-            (λ shard. part_of b w shard (h.0 0).rows)
-            (λ shard out. Runs b w (Inside shard (part_of b w shard (h.0 0).rows)) row out)
+            (λ shard. sent_to b w shard (h.0 0).rows)
+            (λ shard out. Runs b w (Inside shard (sent_to b w shard (h.0 0).rows)) row out)
             (λ shard came s e k. subst (λ (there : List Row). Runs b w (Inside shard there) row s.rows) e
             (gives_runs w b (Some shard) came row s k))
             shards (λ k part. Makes (operator.Scatter (foot b) shards) w [] row k one_row h.0 part) h.2.0
@@ -79,7 +79,7 @@ mutual
   )
 
   -- the list that the foot of a fragment takes
-  gives_feed : (w : World) (p : Plan) (rows : List Row) (row : Row) (r : Rest)
+  gives_feed : (w : Dataset) (p : Plan) (rows : List Row) (row : Row) (r : Rest)
       → ProducesOver (operators_below w.facts p) w rows row r → Feeds p w row r.rows
   gives_feed w Singleton rows row r h = h.0
   gives_feed w (Over b (Scatter coll only)) rows row r h = gives_runs w b None rows row r h
@@ -87,6 +87,6 @@ mutual
   gives_feed w (Over b n) rows row r h = gives_feed w b rows row r h
 
 -- what the operators of a plan produce from a row, the plan gives
-pub produces_runs : (w : World) (p : Plan) (row : Row) (r : Rest)
+pub produces_runs : (w : Dataset) (p : Plan) (row : Row) (r : Rest)
     → Produces (operators_of w.facts p) w row r → Runs p w Outside row r.rows
 produces_runs w p row r h = gives_runs w p None [] row r h

@@ -17,10 +17,10 @@ use Rattle.aql_meaning.specs.Documents.{Last, projection, documents_kept, Scanne
 use Rattle.aql_meaning.specs.laws.SomeAnswer.{some_traversal}
 use Rattle.aql_plan.specs.Facts.{attributes_in}
 use Rattle.aql_plan.specs.Plan.{Reading, Node, EnumerateCollection, Index, Traversal, Filter}
-use Rattle.aql_plan.specs.Runs.{World, Outside, Indexed, read, read_in_bounds, edges_in}
+use Rattle.aql_plan.specs.Runs.{Dataset, Outside, Indexed, read, read_in_bounds, edges_in}
 use Rattle.aql_plan.proofs.SomeRun.{some_given}
 use Rattle.aql_exec.specs.Rests.{Counts}
-use Rattle.aql_exec.specs.Counting.{counts, nothing, size_of_all, walk_counts, GivesCounting}
+use Rattle.aql_exec.specs.Counting.{counts, nothing, size_of_all, traversal_counts, GivesCounting}
 
 -- ---- how many rows a node can give
 
@@ -99,7 +99,7 @@ module _ (x : Ident) (keep : Row → Bool) (attrs : Option (List (List ℕ))) (d
     ordered_lengths names descending rows lists h.1,
   )
 
-pub indexed_length : (w : World) (x : Reading) (index : ℕ) (equal : ExprTrees) (last : Last ExprTree)
+pub indexed_length : (w : Dataset) (x : Reading) (index : ℕ) (equal : ExprTrees) (last : Last ExprTree)
     (ordered : Option Bool) (rows out : List Row) → Indexed w Outside x index equal last ordered rows out
     → length out ≤ size_of_all (read_in_bounds w Outside x index equal last) rows
 indexed_length w x index equal last None rows out h =
@@ -118,7 +118,7 @@ rest_of m n l = omega (arith, l)
 same_length : (out kept : List Row) (n : ℕ) → out ≡ kept → length kept ≤ n → length out ≤ n
 same_length out kept n e l = rw e l
 
-pub some_counting : (n : Node) (w : World) (start : Row) (rows : List Row)
+pub some_counting : (n : Node) (w : Dataset) (start : Row) (rows : List Row)
     → (out : List Row) × (d : Counts) × GivesCounting n w start rows out d
 some_counting (EnumerateCollection x) w start rows =
     let o = some_given (EnumerateCollection x) w Outside start rows in
@@ -151,7 +151,7 @@ some_counting (Traversal shape e colls prune keep) w start rows =
     let o = some_traversal w.db shape (edges_in w.db colls) (stops prune) rows (values_of e rows) in
     let out = filter (passes keep) o.0 in (
       out,
-      counts 0 (walk_counts w shape (edges_in w.db colls) prune rows o.1.0) (length o.0 - length out),
+      counts 0 (traversal_counts w shape (edges_in w.db colls) prune rows o.1.0) (length o.0 - length out),
       (o.1.0, o.0, o.1.1, o.1.2, refl, refl, refl, rest_of _ _ (filter_length (passes keep) o.0)),
     )
 some_counting (Filter e) w start rows =

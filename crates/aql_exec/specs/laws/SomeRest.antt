@@ -2,11 +2,11 @@
 use Rattle.std.proofs.Common.{ℕ, zero, suc, ◌≡◌, ◌+◌, ◌<◌, inl, inr, List, [], ◌∷◌, map, length, refl, arith}
 use Rattle.std.specs.Prelude.{slice_index_or}
 use Rattle.std.proofs.lemmas.Bool.{cases_eq}
-use Rattle.aql_value.specs.Parts.{list}
+use Rattle.aql_value.specs.Contents.{list}
 use Rattle.aql_tree.specs.declared.syntax.Ident.{Ident}
 use Rattle.aql_meaning.specs.Row.{Row, bind}
 use Rattle.aql_plan.specs.Plan.{Node}
-use Rattle.aql_plan.specs.Runs.{World, result_of}
+use Rattle.aql_plan.specs.Runs.{Dataset, result_of}
 use Rattle.aql_exec.specs.Rests.{Counts, Rest}
 use Rattle.aql_exec.specs.Operators.{Operator, StartRow, NoRows, ShardRows, OnRows, WithBody, Remote, Scatter, Gather, Shards, OperatorTree, leaf, over, within, OperatorTrees, no_trees, tree_then, no_rest, one_row, EachRow, rows_for, AtPort, AtEnd, counted, count_of, Makes, Fragments, ProducesOver, Produces}
 use Rattle.aql_exec.specs.laws.SomeCounting.{some_counting}
@@ -35,7 +35,7 @@ some_end (suc p) ins = (record { rows = []; counts = ins.counts }, (refl, λ c. 
 no_both : {p n : ℕ} → p < n → p ≡ n → ⊥
 no_both h e = absurd (omega (arith, h, e))
 
-some_port : (n : Node) (w : World) (shards : List ℕ) (p : ℕ) (ins : Rest) → (r : Rest)
+some_port : (n : Node) (w : Dataset) (shards : List ℕ) (p : ℕ) (ins : Rest) → (r : Rest)
     × AtPort n w shards p ins r
 some_port n w shards p ins = elim (cases_eq p (length shards)) [
   | inl e ↦ (record { rows = []; counts = ins.counts }, ((λ l. absurd (no_both l e)), (λ e. refl), λ c. refl))
@@ -51,7 +51,7 @@ in_front a f (suc k) = f k
 
 mutual
   -- each operator gives something at each port
-  pub some_made : (o : Operator) (w : World) (came : List Row) (row : Row) (p : ℕ)
+  pub some_made : (o : Operator) (w : Dataset) (came : List Row) (row : Row) (p : ℕ)
       (body : Row → Rest → Type 0)
       → ((q : Row) → (r : Rest) × body q r) → (ins : ℕ → Rest) → (r : Rest) × Makes o w came row p body ins r
   some_made StartRow w came row p body f ins =
@@ -78,7 +78,7 @@ mutual
         (a.0, o.0, b.0, a.1, b.1, o.1, refl, λ c. refl),
       )
 
-  some_fragments : (ts : OperatorTrees) (w : World) (row : Row) (parts : ℕ → Rest → Type 0)
+  some_fragments : (ts : OperatorTrees) (w : Dataset) (row : Row) (parts : ℕ → Rest → Type 0)
       → ((k : ℕ) → (part : Rest) × parts k part) → (lists : ℕ → Rest) × Fragments ts w row parts lists
   some_fragments no_trees w row parts f = ((λ k. no_rest), tt)
   some_fragments (tree_then t ts) w row parts f =
@@ -88,7 +88,7 @@ mutual
       (in_front b.0 i.0, ((a.0, a.1, b.1), i.1))
 
   -- its last argument is not used
-  some_produced : (t : OperatorTree) (w : World) (came : List Row) (row : Row) → (Row → Rest → Type 0)
+  some_produced : (t : OperatorTree) (w : Dataset) (came : List Row) (row : Row) → (Row → Rest → Type 0)
       → (r : Rest) × ProducesOver t w came row r
   some_produced (leaf o) w came row q = some_made o w came row 0 one_row some_row (λ k. no_rest)
   some_produced (over o below) w came row q =
@@ -102,5 +102,5 @@ mutual
       (r.0, ((λ k. i.0), i.1, r.1))
 
 -- each tree gives something
-pub some_rest : (t : OperatorTree) (w : World) (row : Row) → (r : Rest) × Produces t w row r
+pub some_rest : (t : OperatorTree) (w : Dataset) (row : Row) → (r : Rest) × Produces t w row r
 some_rest t w row = some_produced t w [] row one_row

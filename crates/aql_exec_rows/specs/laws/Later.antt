@@ -6,7 +6,7 @@ use Rattle.std.specs.List.{list_any}
 use Rattle.std.proofs.lemmas.Int.{ints}
 use Rattle.std.proofs.lemmas.List.{append-nil}
 use Rattle.aql_value.specs.Datum.{Datum, null, number}
-use Rattle.aql_value.specs.Parts.{list}
+use Rattle.aql_value.specs.Contents.{list}
 use Rattle.aql_value.specs.Convert.{in_range, number_or_null, to_number}
 use Rattle.aql_value.specs.View.{datums_in}
 use Rattle.aql_func.specs.Lists.{firsts, add, sort_values}

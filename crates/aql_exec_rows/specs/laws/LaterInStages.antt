@@ -6,7 +6,7 @@ use Rattle.std.specs.List.{list_any}
 use Rattle.std.proofs.lemmas.List.{map-append}
 use Rattle.std.proofs.lemmas.Grind.{flat_map-append}
 use Rattle.aql_value.specs.Datum.{Datum, null, boolean, number}
-use Rattle.aql_value.specs.Parts.{list, elements, same, is_in}
+use Rattle.aql_value.specs.Contents.{list, elements, same, is_in}
 use Rattle.aql_value.specs.Truth.{truth}
 use Rattle.aql_value.specs.Convert.{to_number, number_or_null}
 use Rattle.aql_func.specs.Lists.{distinct, sort_values}
@@ -19,8 +19,8 @@ use Rattle.aql_aggregate.specs.States.{Sums, Keeps}
 use Rattle.aql_aggregate.proofs.Counts.{total, total_append}
 use Rattle.aql_aggregate.proofs.Totals.{any_append}
 use Rattle.aql_aggregate.proofs.Members.{distinct_alike, in_distinct}
-use Rattle.aql_aggregate.specs.declared.staged_accumulator.PartAccumulator.{PartAccumulator}
-use Rattle.aql_aggregate.specs.declared.staged_accumulator.PartAccumulator.TheVariants as part
+use Rattle.aql_aggregate.specs.declared.staged_accumulator.PartialAccumulator.{PartialAccumulator}
+use Rattle.aql_aggregate.specs.declared.staged_accumulator.PartialAccumulator.TheVariants as part
 use Rattle.aql_aggregate.specs.declared.summing.RunningSum.{RunningSum}
 use Rattle.aql_aggregate.specs.declared.joining.JoinedCounts.{JoinedCounts}
 use Rattle.aql_aggregate.specs.declared.joining.JoinedSums.{JoinedSums}
@@ -28,7 +28,7 @@ use Rattle.aql_aggregate.specs.declared.joining.StateAccumulator.{StateAccumulat
 use Rattle.aql_aggregate.specs.declared.joining.StateAccumulator.TheVariants as joined
 use Rattle.aql_aggregate.specs.declared.staged.StagedAccumulator.{StagedAccumulator}
 use Rattle.aql_aggregate.specs.declared.staged.StagedAccumulator.TheVariants as code
-use Rattle.aql_aggregate.specs.Kept as parts
+use Rattle.aql_aggregate.specs.PartialStates as parts
 use Rattle.aql_aggregate.specs.Joined.{CountsJoin, SumsJoin, Joins}
 use Rattle.aql_aggregate.specs.Staged.{Staged, made_in, made, KeepsAt, KeepsIn}
 use Rattle.aql_aggregate.proofs.Alike.{same_option, same_distinct}
@@ -125,7 +125,7 @@ sum_later s ts ts' us h h' = by (alike s.count ts ts' h.counted h'.counted)
     by (inl e) = short e (nat_lt (length ts) (2 ^ 63)) refl
     by (inr l) = large l.0 l.1
 
-part_later : (a : PartAccumulator) (ts ts' us : List Datum) → parts.Keeps a ts → parts.Keeps a ts'
+part_later : (a : PartialAccumulator) (ts ts' us : List Datum) → parts.Keeps a ts → parts.Keeps a ts'
     → state (parts.kind_of a) (ts ++ us) ≡ state (parts.kind_of a) (ts' ++ us)
 part_later (part.Count n) ts ts' us h h' = same_count n ts ts' us h h'
 part_later (part.Sum s) ts ts' us h h' = sum_later s ts ts' us h h'

@@ -5,7 +5,7 @@ use Rattle.std.specs.Ordering.{is_eq}
 use Rattle.std.proofs.lemmas.Cmp.{tied_itself}
 use Rattle.std.proofs.Math.Bool.{or-false}
 use Rattle.aql_value.specs.Datum.{Datum, null}
-use Rattle.aql_value.specs.Parts.{list, same, is_in}
+use Rattle.aql_value.specs.Contents.{list, same, is_in}
 use Rattle.aql_value.specs.laws.Strict.{compare_total}
 use Rattle.aql_func.specs.Aggregates.{Aggregate, aggregate_named}
 use Rattle.aql_func.proofs.Firsts.{in_firsts}
@@ -18,8 +18,8 @@ use Rattle.aql_meaning.specs.Visible.{functions_by}
 use Rattle.aql_meaning.specs.Stages.{stage_functions}
 use Rattle.aql_aggregate.specs.declared.staged.StagedKind.{StagedKind}
 use Rattle.aql_aggregate.specs.Staged.{Staged, staged, made_in, made}
-use Rattle.aql_exec_rows.specs.Told.{criteria_vars, aggregate_trees, in_stage, AreKinds}
-use Rattle.aql_exec_rows.specs.Kept.{key_of, members_of, keys_seen, functions_of}
+use Rattle.aql_exec_rows.specs.CollectSettings.{criteria_vars, aggregate_trees, in_stage, AreKinds}
+use Rattle.aql_exec_rows.specs.GroupStates.{key_of, members_of, keys_seen, functions_of}
 use Rattle.aql_exec_rows.specs.declared.grouping.Grouping.{Grouping}
 
 pub same_self : (t : Datum) → same t t ≡ true

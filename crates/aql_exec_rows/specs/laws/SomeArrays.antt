@@ -4,13 +4,13 @@ use Rattle.std.proofs.lemmas.List.{length-map}
 use mathlib.Core.Bool.{false≢true}
 use Rattle.std.specs.Prelude.{map}
 use Rattle.aql_value.specs.Datum.{Datum}
-use Rattle.aql_value.specs.Parts.{list}
+use Rattle.aql_value.specs.Contents.{list}
 use Rattle.aql_value.specs.View.{datum_of, datums_in}
 use Rattle.aql_tree.specs.declared.syntax.Ident.{Ident}
 use Rattle.aql_tree.specs.declared.syntax.Ident.TheVariants.{Num}
 use Rattle.aql_meaning.specs.Row.{Row, bind}
 use Rattle.aql_meaning.specs.Clauses.{with_values}
-use Rattle.aql_plan.specs.Runs.{World, result_of}
+use Rattle.aql_plan.specs.Runs.{Dataset, result_of}
 use Rattle.aql_block.specs.Tables.{rows_of}
 use Rattle.aql_exec.specs.Rests.{Counts, Rest, Ahead}
 use Rattle.aql_exec.specs.Operators.{OperatorTree, Produces}
@@ -27,7 +27,7 @@ some_follow true body f x results (row ∷ rows) h =
     let o = some_each body f x rows in
     (bind x row (list results) ∷ o.0, o.1, (o.0, o.2, refl))
 
-pub some_subquery : (s : Subquery) (w : World) (body : OperatorTree) (ins : ℕ → Rest) → SubqueryIs s
+pub some_subquery : (s : Subquery) (w : Dataset) (body : OperatorTree) (ins : ℕ → Rest) → SubqueryIs s
     → (r : Rest) × gives_subquery s w body ins r
 some_subquery s w body ins v =
     let held = rows_of s.held in
@@ -96,7 +96,7 @@ one_not e = absurd (omega (arith, e))
 pub not_one : ◌≡◌ {A = ℕ} 0 1 → ⊥
 not_one e = absurd (omega (arith, e))
 
-pub more_subquery : (s : Subquery) (w : World) (body : OperatorTree) (k : ℕ) (d : Counts)
+pub more_subquery : (s : Subquery) (w : Dataset) (body : OperatorTree) (k : ℕ) (d : Counts)
     (ins ins' : ℕ → Rest) (r : Rest) → started_subquery s k ≡ true → Ahead [] d (ins k) (ins' k)
     → ((j : ℕ) → (j ≡ k → ⊥) → ins' j ≡ ins j) → gives_subquery s w body ins r
     → (b : Rest) × Ahead [] d r b × gives_subquery s w body ins' b

@@ -7,7 +7,7 @@ use mathlib.Core.Bool.{false≢true}
 use Rattle.std.proofs.lemmas.List.{map-append}
 use Rattle.std.proofs.lemmas.List.Elements.{filter-append}
 use Rattle.aql_value.specs.Datum.{Datum}
-use Rattle.aql_value.specs.Parts.{list, elements, same, is_in}
+use Rattle.aql_value.specs.Contents.{list, elements, same, is_in}
 use Rattle.aql_value.specs.View.{datums_in}
 use Rattle.aql_func.specs.Arguments.{argument}
 use Rattle.aql_func.specs.Lists.{firsts, sort_values}
@@ -26,8 +26,8 @@ use Rattle.aql_exec.specs.Operators.{is_first}
 use Rattle.aql_aggregate.specs.declared.staged.StagedKind.{StagedKind}
 use Rattle.aql_aggregate.specs.declared.staged.StagedAccumulator.{StagedAccumulator}
 use Rattle.aql_aggregate.specs.Staged.{Staged, staged, made, KeepsIn}
-use Rattle.aql_exec_rows.specs.Told.{criteria_vars, aggregate_trees, into_of, AreKinds}
-use Rattle.aql_exec_rows.specs.Kept.{seen, arguments_of, taken_of, IsGroup, key_of, members_of, keys_seen, AreGroups, Holds, functions_of, finished_in}
+use Rattle.aql_exec_rows.specs.CollectSettings.{criteria_vars, aggregate_trees, into_of, AreKinds}
+use Rattle.aql_exec_rows.specs.GroupStates.{seen, arguments_of, into_values_of, IsGroup, key_of, members_of, keys_seen, AreGroups, Holds, functions_of, finished_in}
 use Rattle.aql_exec_rows.specs.Framed.{framed}
 use Rattle.aql_exec_rows.specs.Collecting.{CollectsBy, GivesOver, Leaves, gives_collect, CollectIs}
 use Rattle.aql_exec_rows.specs.declared.grouping.Grouping.{Grouping}
@@ -60,10 +60,10 @@ module _ (kinds : List StagedKind) (into : Option Into) where
   Alike ms ms' = ((us : List GroupedRow)
       → aggregate_values (functions_of kinds) 0 (ms ++ us)
       ≡ aggregate_values (functions_of kinds) 0 (ms' ++ us))
-      × (taken_of into ms ≡ taken_of into ms')
+      × (into_values_of into ms ≡ into_values_of into ms')
 
-  alike_kept : (ms ms' : List GroupedRow) (g : Group) → IsGroup kinds ms (taken_of into ms) g
-      → IsGroup kinds ms' (taken_of into ms') g → Alike ms ms'
+  alike_kept : (ms ms' : List GroupedRow) (g : Group) → IsGroup kinds ms (into_values_of into ms) g
+      → IsGroup kinds ms' (into_values_of into ms') g → Alike ms ms'
   alike_kept ms ms' g h h' = (
     λ us. values_by kinds (ms ++ us) (ms' ++ us) 0 (λ j at kind e s.
         let s' : slice_get kinds at ≡ Some kind = ap (slice_get kinds) (omega (arith, e)) ∙ s in
@@ -104,13 +104,14 @@ module _ (kinds : List StagedKind) (into : Option Into) where
           let same : members_of key p ≡ members_of key p' = n ∙ sym n' in
           subst (Alike (members_of key p)) same ((λ us. refl), refl)
 
-  into_alike : (ms ms' us : List GroupedRow) (row row' out : Row) → taken_of into ms ≡ taken_of into ms'
+  into_alike : (ms ms' us : List GroupedRow) (row row' out : Row)
+      → into_values_of into ms ≡ into_values_of into ms'
       → row ≡ row' → WithInto (into_var (into_of into)) (ms ++ us) row out
       → WithInto (into_var (into_of into)) (ms' ++ us) row' out
   into_alike = by into
     where
       by : (into : Option Into) (ms ms' us : List GroupedRow) (row row' out : Row)
-          → taken_of into ms ≡ taken_of into ms' → row ≡ row'
+          → into_values_of into ms ≡ into_values_of into ms' → row ≡ row'
           → WithInto (into_var (into_of into)) (ms ++ us) row out
           → WithInto (into_var (into_of into)) (ms' ++ us) row' out
       by None ms ms' us row row' out t e h = h ∙ e

@@ -3,7 +3,7 @@ use Rattle.std.proofs.Common.{◌≡◌, ◌∙◌, ℕ, List, [], ◌∷◌, ma
 use Rattle.std.specs.Bool.{MatchBool}
 use Rattle.std.specs.List.{AllZip}
 use Rattle.aql_value.specs.Datum.{Datum, boolean}
-use Rattle.aql_value.specs.Parts.{list, elements, at_name, at_value}
+use Rattle.aql_value.specs.Contents.{list, elements, at_name, at_value}
 use Rattle.aql_value.specs.Convert.{to_number, to_text}
 use Rattle.aql_value.specs.Database.{Database}
 use Rattle.aql_value.specs.Truth.{truth}

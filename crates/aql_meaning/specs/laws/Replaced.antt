@@ -5,7 +5,7 @@ use Rattle.std.specs.Bool.{MatchBool}
 use Rattle.std.specs.List.{AllZip}
 use mathlib.Core.Path.{fun_ext}
 use Rattle.aql_value.specs.Datum.{Datum, null, boolean}
-use Rattle.aql_value.specs.Parts.{list, elements, at_name, at_value}
+use Rattle.aql_value.specs.Contents.{list, elements, at_name, at_value}
 use Rattle.aql_value.specs.Convert.{to_number, to_text}
 use Rattle.aql_value.specs.Database.{Database}
 use Rattle.aql_value.specs.Truth.{truth}
@@ -24,7 +24,7 @@ use Rattle.aql_meaning.specs.Paths.{Traverses}
 use Rattle.aql_meaning.specs.Options.{with_settings}
 use Rattle.aql_meaning.specs.Visible.{aggregate_vars, aggregate_functions, into_var, onto, vars_after, collection_meant, edges_named}
 use Rattle.aql_meaning.specs.Meaning.{Evaluates, EvaluatesAll, EvaluatesOr, EvaluatesMembers, EvaluatesSteps, EvaluatesLinks, EvaluatesArguments, EvaluatesInto, Changes, Through, IsAnswer}
-use Rattle.aql_meaning.specs.Places.{put, put_all, put_maybe, put_members, put_steps, put_links, put_clause, put_aggregates, put_into, put_clauses, put_query, StandsFor}
+use Rattle.aql_meaning.specs.Substitution.{put, put_all, put_maybe, put_members, put_steps, put_links, put_clause, put_aggregates, put_into, put_clauses, put_query, StandsFor}
 use Rattle.aql_meaning.specs.Plain.{IsPlain}
 use Rattle.aql_meaning.specs.laws.OneValue.{has_value, only_value}
 use Rattle.aql_meaning.specs.laws.Agrees.{map_same}

@@ -5,7 +5,7 @@ use Rattle.std.specs.Prelude.{Option, Some, None, MatchOption, flat_map, zip, Is
 use Rattle.std.specs.List.{AllZip}
 use Rattle.std.proofs.lemmas.List.Sorted.{IsPermutation-refl, IsPermutation-sym, IsPermutation-trans}
 use Rattle.aql_value.specs.Datum.{Datum, null, boolean}
-use Rattle.aql_value.specs.Parts.{elements}
+use Rattle.aql_value.specs.Contents.{elements}
 use Rattle.aql_value.specs.Truth.{truth}
 use Rattle.aql_value.specs.Database.{Database, documents_named}
 use Rattle.aql_func.specs.Objects.{id_text}

@@ -2,7 +2,7 @@
 use Rattle.std.specs.Prelude.{ℕ, negsuc, [], ◌∷◌, true, false, Some, None, codes}
 use Prim.Native.String.{String}
 use Rattle.aql_value.specs.Datum.{number, null}
-use Rattle.aql_value.specs.Parts.{list, record_of}
+use Rattle.aql_value.specs.Contents.{list, record_of}
 use Rattle.aql_value.specs.Database.{Database}
 use Rattle.aql_tree.specs.Tree.{ExprTree, subquery, range_of, filter_by, limit, ClauseTree, QueryTree}
 use Rattle.aql_tree.specs.Build as build

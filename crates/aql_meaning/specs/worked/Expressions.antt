@@ -1,7 +1,7 @@
 -- Worked queries: expressions and functions, each with what it prints.
 use Rattle.std.specs.Prelude.{negsuc, List, [], ◌∷◌, true, false, Some, codes}
 use Rattle.aql_value.specs.Datum.{Datum, number, null, boolean, text}
-use Rattle.aql_value.specs.Parts.{list, record_of}
+use Rattle.aql_value.specs.Contents.{list, record_of}
 use Rattle.aql_value.specs.declared.operators.BinOp.TheVariants.{And, Or, Eq, Lt, Gt, IsIn, Like, Add, Sub, Mul, Div, Rem}
 use Rattle.aql_value.specs.declared.operators.UnaryOp.TheVariants.{Minus, Not}
 use Rattle.aql_tree.specs.declared.syntax.QuantKind.TheVariants as quant

@@ -2,7 +2,7 @@
 use Rattle.std.specs.Prelude.{ℕ, List, [], ◌∷◌, true, false, Option, Some, None, codes}
 use Prim.Native.String.{String}
 use Rattle.aql_value.specs.Datum.{Datum, null, boolean}
-use Rattle.aql_value.specs.Parts.{list}
+use Rattle.aql_value.specs.Contents.{list}
 use Rattle.aql_value.specs.Database.{Database}
 use Rattle.aql_value.specs.declared.operators.BinOp.TheVariants.{Eq}
 use Rattle.aql_tree.specs.declared.syntax.Direction.{Direction}

@@ -2,7 +2,7 @@
 use Rattle.std.specs.Prelude.{ℕ, pos, List, [], ◌∷◌, true, false, Option, codes, IsPermutation}
 use Prim.Native.String.{String}
 use Rattle.aql_value.specs.Datum.{Datum, number, text}
-use Rattle.aql_value.specs.Parts.{record_of}
+use Rattle.aql_value.specs.Contents.{record_of}
 use Rattle.aql_value.specs.Database.{Database, Collection}
 use Rattle.aql_value.specs.declared.operators.BinOp.{BinOp}
 use Rattle.aql_tree.specs.Tree.{ExprTree, literal, ClauseTree, QueryTree}

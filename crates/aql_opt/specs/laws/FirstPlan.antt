@@ -2,7 +2,7 @@
 use Rattle.std.proofs.Common.{List, [], ◌∷◌, false}
 use Rattle.aql_tree.specs.Tree.{ExprTree, subquery, ClauseTree, for_each, for_documents, traversal, filter_by, let_be, sort_by, limit, collect, ClauseTrees, no_clauses, clause_then, QueryTree, query}
 use Rattle.aql_plan.specs.declared.facts.Facts.{Facts}
-use Rattle.aql_plan.specs.FirstPlan.{parts, filters, after_clause, after_clauses, first_plan}
+use Rattle.aql_plan.specs.FirstPlan.{conjuncts, filters, after_clause, after_clauses, first_plan}
 use Rattle.aql_plan.specs.Plan.{Plan, Singleton, Over, Filter}
 use Rattle.aql_plan.specs.Shapes.{HasNoFragment}
 use Rattle.aql_plan.specs.WellFormed.{IsWellFormed}
@@ -18,7 +18,7 @@ module _ (facts : Facts) where
     clause_lone b (for_each x e) h = (h, tt)
     clause_lone b (for_documents x name) h = (h, tt)
     clause_lone b (traversal w e names prune settings) h = (h, tt)
-    clause_lone b (filter_by e) h = filters_lone (parts e) b h
+    clause_lone b (filter_by e) h = filters_lone (conjuncts e) b h
     clause_lone b (let_be x (subquery q)) h = (h, first_lone q)
     clause_lone b (let_be x e) h = (h, tt)
     clause_lone b (sort_by directions es) h = (h, tt)

@@ -11,7 +11,7 @@ use Rattle.aql_plan.specs.Shapes.{HasNoFragment}
 use Rattle.aql_rewrite.specs.declared.swap.Rename.{Rename}
 use Rattle.aql_rewrite.specs.Places.{renamed_by, Rewriting, Stays, NoPlace, First, below, here, body}
 use Rattle.aql_rewrite.specs.laws.Walk.{none_at, none_over, found_here}
-use Rattle.aql_rewrite.specs.Steps.{Steps, at_once, next, PlanStep}
+use Rattle.aql_rewrite.specs.Applications.{Applications, at_once, next, Application}
 use Rattle.aql_rewrite.specs.laws.StepByStep.{joined}
 use Rattle.aql_rewrite.specs.Apart.{has_body}
 use Rattle.aql_rewrite.specs.laws.Taken.{Taken, Bodied}
@@ -46,7 +46,7 @@ needs_over b c n h vs = h (under n vs)
 module _ (R : Rewriting)
     (law : (us : Uses) (p q : Plan) (r : Option Rename) → R us p q r → Changes R us p q r) where
   abbrev Way : Uses → Plan → Plan → Bool → Bool → Type 0
-  Way us p q x y = Steps Plan (PlanStep R us) p q x y
+  Way us p q x y = Applications Plan (Application R us) p q x y
 
   first_needs : {inside : Bool} {us : Uses} {p q : Plan} {r : Option Rename} → First R inside us p q r
       → (vs : Uses) → needs q vs ≡ needs p vs
@@ -121,6 +121,6 @@ module _ (R : Rewriting)
         (input_reached R us p m b c (Over c (top m)) x y lone t
         (sym (ap (λ (o : Plan). over o c) t.left)) done) in
         subst (λ (o : Plan). Finishes R us p o x z) (sym made) (record {
-          reached = joined Plan (PlanStep R us) reached (way_inside us c v none h.reached);
+          reached = joined Plan (Application R us) reached (way_inside us c v none h.reached);
           ended = (input_none us c v none h.reached, (stays_whole us c d v, h.ended));
         })

@@ -1,15 +1,15 @@
 -- Each part to its end, in order, and then the whole, is a way of applications each at the first place.
 use Rattle.std.proofs.Common.{◌≡◌, ◌∙◌, ◌<◌, ◌≤◌, Bool, true, List, [], ◌∷◌, ◌++◌, length, refl, ap, sym, subst, arith}
 use Rattle.aql_tree.specs.Tree.{ExprTree}
-use Rattle.aql_rewrite.specs.FirstPart.{Stays, NoneIn, none_in, NoneInAll, none_left, none_then}
-use Rattle.aql_rewrite.specs.FirstPart.{FirstIn, in_part, at_whole, FirstOf, first, later}
-use Rattle.aql_rewrite.specs.OverParts.{over_parts}
-use Rattle.aql_rewrite.specs.Parts.{parts}
+use Rattle.aql_rewrite.specs.FirstInExpr.{Stays, NoneIn, none_in, NoneInAll, none_left, none_then}
+use Rattle.aql_rewrite.specs.FirstInExpr.{FirstIn, in_child, at_whole, FirstOf, first, later}
+use Rattle.aql_rewrite.specs.OverChildren.{over_children}
+use Rattle.aql_rewrite.specs.Children.{children}
 use Rattle.aql_rewrite.specs.Size.{size}
 use Rattle.aql_rewrite.specs.ExprView.{each_over}
 use Rattle.aql_rewrite.specs.laws.FirstKept.{first_in_smaller}
 use Rattle.aql_rewrite.specs.laws.PartsBack.{parts_back}
-use Rattle.aql_rewrite.specs.Steps.{Steps, at_once, next}
+use Rattle.aql_rewrite.specs.Applications.{Applications, at_once, next}
 use Rattle.aql_passes.specs.Ends.{Ends, AllEnd}
 use Rattle.aql_passes.specs.laws.PartsAgain.{longer, parts_own, parts_again}
 use Rattle.aql_rewrite.specs.laws.StepByStep.{keeps_on, joined, along}
@@ -66,34 +66,34 @@ module _ (R : ExprTree → ExprTree → Type 0) where
   first_longer (first {d = d} {es = es} h) = ap (λ cs. d ∷ cs) (longer_same es)
   first_longer (later {e = e} n h) = ap (λ cs. e ∷ cs) (first_longer h)
 
-  pub as_many : {es ds : List ExprTree} {x y : Bool} → Steps (List ExprTree) (FirstOf R) es ds x y
+  pub as_many : {es ds : List ExprTree} {x y : Bool} → Applications (List ExprTree) (FirstOf R) es ds x y
       → length ds ≡ length es
   as_many {es = es} h = keeps_on (List ExprTree) (FirstOf R) (λ cs. length cs ≡ length es)
       (λ bs cs f k. first_many f ∙ k) h refl
 
-  module _ (e : ExprTree) (es : List ExprTree) (of : es ≡ parts e) where
-    new_parts : {ps : List ExprTree} {x y : Bool} → Steps (List ExprTree) (FirstOf R) es ps x y
-        → parts (over_parts e ps) ≡ ps
-    new_parts {ps = ps} h = parts_back e ps ∙ each_new (parts e) ps (as_many h ∙ ap length of)
+  module _ (e : ExprTree) (es : List ExprTree) (of : es ≡ children e) where
+    new_parts : {ps : List ExprTree} {x y : Bool} → Applications (List ExprTree) (FirstOf R) es ps x y
+        → children (over_children e ps) ≡ ps
+    new_parts {ps = ps} h = parts_back e ps ∙ each_new (children e) ps (as_many h ∙ ap length of)
 
-    in_whole : {ps : List ExprTree} {x y : Bool} → Steps (List ExprTree) (FirstOf R) es ps x y
-        → Steps ExprTree (FirstIn R) e (over_parts e ps) x y
-    in_whole (at_once {x = x}) = subst (λ (d : ExprTree). Steps ExprTree (FirstIn R) e d x x)
-        (sym (ap (over_parts e) of ∙ parts_own e)) at_once
+    in_whole : {ps : List ExprTree} {x y : Bool} → Applications (List ExprTree) (FirstOf R) es ps x y
+        → Applications ExprTree (FirstIn R) e (over_children e ps) x y
+    in_whole (at_once {x = x}) = subst (λ (d : ExprTree). Applications ExprTree (FirstIn R) e d x x)
+        (sym (ap (over_children e) of ∙ parts_own e)) at_once
     in_whole (next {m = ms} {d = ps} k f) =
-        next (in_whole k) (subst (λ (d : ExprTree). FirstIn R (over_parts e ms) d)
-        (parts_again e ms ps ∙ ap (over_parts e) (first_longer f))
-        (in_part (subst (λ (cs : List ExprTree). FirstOf R cs ps) (sym (new_parts k)) f)))
+        next (in_whole k) (subst (λ (d : ExprTree). FirstIn R (over_children e ms) d)
+        (parts_again e ms ps ∙ ap (over_children e) (first_longer f))
+        (in_child (subst (λ (cs : List ExprTree). FirstOf R cs ps) (sym (new_parts k)) f)))
 
-  module _ (e whole : ExprTree) (es ps : List ExprTree) (x y : Bool) (of : es ≡ parts e)
-      (all : AllEnd R es ps x y) (made : whole ≡ over_parts e ps) where
-    reached : Steps ExprTree (FirstIn R) e whole x y
-    reached = subst (λ (d : ExprTree). Steps ExprTree (FirstIn R) e d x y) (sym made)
+  module _ (e whole : ExprTree) (es ps : List ExprTree) (x y : Bool) (of : es ≡ children e)
+      (all : AllEnd R es ps x y) (made : whole ≡ over_children e ps) where
+    reached : Applications ExprTree (FirstIn R) e whole x y
+    reached = subst (λ (d : ExprTree). Applications ExprTree (FirstIn R) e d x y) (sym made)
         (in_whole e es of all.reached)
 
-    no_part : NoneInAll R (parts whole)
+    no_part : NoneInAll R (children whole)
     no_part = subst (λ (cs : List ExprTree). NoneInAll R cs)
-        (sym (ap parts made ∙ new_parts e es of all.reached)) all.ended
+        (sym (ap children made ∙ new_parts e es of all.reached)) all.ended
 
     pub at_end : Stays R whole → Ends R e whole x y
     at_end s = record { reached = reached; ended = none_in no_part s }

@@ -8,20 +8,20 @@ use Rattle.aql_tree.specs.Tree.{AggregateTrees, no_aggregates, aggregate_then, I
 use Rattle.aql_meaning.specs.Documents.{End, Last, no_last, one_of, between}
 use Rattle.aql_meaning.specs.declared.grouping.Stage.{Stage}
 use Rattle.aql_plan.specs.Plan.{Reading, Node, EnumerateCollection, Index, EnumerateList, Traversal, Calculation, Subquery, Filter, Sort, Limit, Collect, Return, NoResults, Scatter, Distribute, Remote, Gather}
-use Rattle.aql_rewrite.specs.Parts.{list_parts, maybe_parts}
-use Rattle.aql_rewrite.specs.OverParts.{after_first, over_list, over_maybe, after_maybe}
+use Rattle.aql_rewrite.specs.Children.{list_children, maybe_children}
+use Rattle.aql_rewrite.specs.OverChildren.{after_first, over_list, over_maybe, after_maybe}
 use Rattle.aql_rewrite.specs.NodeExprs.{last_exprs, aggregate_exprs, into_exprs, node_exprs, after_list, over_end, after_end, over_last, after_last, over_aggregates, after_aggregates, over_into, over_exprs}
 use Rattle.aql_passes.specs.laws.PartsAgain.{list_own as list_alone, longer, first_again, rest_again, maybe_again}
 
 -- ---- its own expressions, with those that come later
 
 list_own : (es : ExprTrees) (more : List ExprTree)
-    → (over_list es (list_parts es ++ more) ≡ es) × (after_list es (list_parts es ++ more) ≡ more)
+    → (over_list es (list_children es ++ more) ≡ es) × (after_list es (list_children es ++ more) ≡ more)
 list_own no_exprs more = (refl, refl)
 list_own (expr_then e es) more = let k = list_own es more in (ap (expr_then e) k.0, k.1)
 
 maybe_own : (e : MaybeExpr) (more : List ExprTree)
-    → (over_maybe e (maybe_parts e ++ more) ≡ e) × (after_maybe e (maybe_parts e ++ more) ≡ more)
+    → (over_maybe e (maybe_children e ++ more) ≡ e) × (after_maybe e (maybe_children e ++ more) ≡ more)
 maybe_own no_expr more = (refl, refl)
 maybe_own (one_expr e) more = (refl, refl)
 
@@ -44,7 +44,7 @@ aggregates_own (aggregate_then x name (one_expr e) rest) more =
     let k = aggregates_own rest more in (ap (aggregate_then x name (one_expr e)) k.0, k.1)
 
 -- where none come later
-maybe_alone : (e : MaybeExpr) → over_maybe e (maybe_parts e) ≡ e
+maybe_alone : (e : MaybeExpr) → over_maybe e (maybe_children e) ≡ e
 maybe_alone no_expr = refl
 maybe_alone (one_expr e) = refl
 
@@ -59,8 +59,8 @@ index_own : (x : Reading) (index : ℕ) (es : ExprTrees) (l : Last ExprTree) (or
     → over_exprs (Index x index es l ordered) (node_exprs (Index x index es l ordered))
     ≡ Index x index es l ordered
 index_own x index es l ordered =
-    let e = list_own es (last_exprs l ++ maybe_parts x.filter) in
-    let k = last_own l (maybe_parts x.filter) in
+    let e = list_own es (last_exprs l ++ maybe_children x.filter) in
+    let k = last_own l (maybe_children x.filter) in
     ap₂ (λ ds rs.
     Index (with_filter x (over_maybe x.filter (after_last l rs))) index ds (over_last l rs) ordered) e.0 e.1
     ∙ ap₂ (λ m rs. Index (with_filter x (over_maybe x.filter rs)) index es m ordered) k.0 k.1
@@ -70,7 +70,7 @@ traversal_own : (w : TraversalShape) (e : ExprTree) (colls : List ℕ) (prune ke
     → over_exprs (Traversal w e colls prune keep) (node_exprs (Traversal w e colls prune keep))
     ≡ Traversal w e colls prune keep
 traversal_own w e colls prune keep =
-    let p = maybe_own prune (maybe_parts keep) in
+    let p = maybe_own prune (maybe_children keep) in
     ap₂ (λ m rs. Traversal w e colls m (over_maybe keep rs)) p.0 p.1
     ∙ ap (Traversal w e colls prune) (maybe_alone keep)
 

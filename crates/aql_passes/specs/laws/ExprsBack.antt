@@ -5,8 +5,8 @@ use Rattle.aql_tree.specs.Tree.{ExprTree, ExprTrees, no_exprs, expr_then, MaybeE
 use Rattle.aql_tree.specs.Tree.{AggregateTrees, no_aggregates, aggregate_then, IntoTree, no_into, into}
 use Rattle.aql_meaning.specs.Documents.{End, Last, no_last, one_of, between}
 use Rattle.aql_plan.specs.Plan.{Node, EnumerateCollection, Index, EnumerateList, Traversal, Calculation, Subquery, Filter, Sort, Limit, Collect, Return, NoResults, Scatter, Distribute, Remote, Gather}
-use Rattle.aql_rewrite.specs.Parts.{list_parts, maybe_parts}
-use Rattle.aql_rewrite.specs.OverParts.{first_or, after_first, over_list, over_maybe, after_maybe}
+use Rattle.aql_rewrite.specs.Children.{list_children, maybe_children}
+use Rattle.aql_rewrite.specs.OverChildren.{first_or, after_first, over_list, over_maybe, after_maybe}
 use Rattle.aql_rewrite.specs.ExprView.{each_over}
 use Rattle.aql_rewrite.specs.NodeExprs.{end_exprs, last_exprs, aggregate_exprs, into_exprs, node_exprs, after_list, over_end, after_end, over_last, after_last, over_aggregates, after_aggregates, over_into, over_exprs}
 
@@ -17,12 +17,12 @@ each_append : (es fs gs ps : List ExprTree)
 each_append es fs gs ps = ap (λ ds. each_over ds ps) (append_assoc es fs gs)
 
 list_back : (es : ExprTrees) (fs ds ps : List ExprTree) → ds ≡ each_over fs (after_list es ps)
-    → list_parts (over_list es ps) ++ ds ≡ each_over (list_parts es ++ fs) ps
+    → list_children (over_list es ps) ++ ds ≡ each_over (list_children es ++ fs) ps
 list_back no_exprs fs ds ps h = h
 list_back (expr_then e es) fs ds ps h = ap (λ xs. first_or e ps ∷ xs) (list_back es fs ds (after_first ps) h)
 
 maybe_back : (e : MaybeExpr) (fs ds ps : List ExprTree) → ds ≡ each_over fs (after_maybe e ps)
-    → maybe_parts (over_maybe e ps) ++ ds ≡ each_over (maybe_parts e ++ fs) ps
+    → maybe_children (over_maybe e ps) ++ ds ≡ each_over (maybe_children e ++ fs) ps
 maybe_back no_expr fs ds ps h = h
 maybe_back (one_expr e) fs ds ps h = ap (λ xs. first_or e ps ∷ xs) h
 
@@ -46,21 +46,21 @@ aggregates_back : (gs : AggregateTrees) (fs ds ps : List ExprTree)
     → aggregate_exprs (over_aggregates gs ps) ++ ds ≡ each_over (aggregate_exprs gs ++ fs) ps
 aggregates_back no_aggregates fs ds ps h = h
 aggregates_back (aggregate_then x name e rest) fs ds ps h =
-    append_assoc (maybe_parts (over_maybe e ps))
+    append_assoc (maybe_children (over_maybe e ps))
     (aggregate_exprs (over_aggregates rest (after_maybe e ps))) ds
     ∙ maybe_back e (aggregate_exprs rest ++ fs)
     (aggregate_exprs (over_aggregates rest (after_maybe e ps)) ++ ds) ps
     (aggregates_back rest fs ds (after_maybe e ps) h)
-    ∙ sym (each_append (maybe_parts e) (aggregate_exprs rest) fs ps)
+    ∙ sym (each_append (maybe_children e) (aggregate_exprs rest) fs ps)
 
 -- where none come later
 list_alone : (es : ExprTrees) (ps : List ExprTree)
-    → list_parts (over_list es ps) ≡ each_over (list_parts es) ps
+    → list_children (over_list es ps) ≡ each_over (list_children es) ps
 list_alone no_exprs ps = refl
 list_alone (expr_then e es) ps = ap (λ xs. first_or e ps ∷ xs) (list_alone es (after_first ps))
 
 maybe_alone : (e : MaybeExpr) (ps : List ExprTree)
-    → maybe_parts (over_maybe e ps) ≡ each_over (maybe_parts e) ps
+    → maybe_children (over_maybe e ps) ≡ each_over (maybe_children e) ps
 maybe_alone no_expr ps = refl
 maybe_alone (one_expr e) ps = refl
 
@@ -75,16 +75,16 @@ exprs_back (EnumerateCollection x) ps = maybe_alone x.filter ps
 exprs_back (Index x index equal last ordered) ps =
     let qs = after_list equal ps in
     let rs = after_last last qs in
-    list_back equal (last_exprs last ++ maybe_parts x.filter)
-    (last_exprs (over_last last qs) ++ maybe_parts (over_maybe x.filter rs)) ps
-    (last_back last (maybe_parts x.filter) (maybe_parts (over_maybe x.filter rs)) qs
+    list_back equal (last_exprs last ++ maybe_children x.filter)
+    (last_exprs (over_last last qs) ++ maybe_children (over_maybe x.filter rs)) ps
+    (last_back last (maybe_children x.filter) (maybe_children (over_maybe x.filter rs)) qs
     (maybe_alone x.filter rs))
 exprs_back (EnumerateList x e) ps = refl
 exprs_back (Traversal w e colls prune keep) ps =
     let qs = after_first ps in
     let rs = after_maybe prune qs in
     ap (λ xs. first_or e ps ∷ xs)
-    (maybe_back prune (maybe_parts keep) (maybe_parts (over_maybe keep rs)) qs (maybe_alone keep rs))
+    (maybe_back prune (maybe_children keep) (maybe_children (over_maybe keep rs)) qs (maybe_alone keep rs))
 exprs_back (Calculation x e) ps = refl
 exprs_back (Subquery x s) ps = refl
 exprs_back (Filter e) ps = refl

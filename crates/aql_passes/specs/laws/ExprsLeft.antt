@@ -5,18 +5,18 @@ use Rattle.std.specs.List.{AllZip}
 use Rattle.aql_tree.specs.Tree.{ExprTree, ExprTrees, no_exprs, expr_then}
 use Rattle.aql_tree.specs.Tree.{AggregateTrees, no_aggregates, aggregate_then}
 use Rattle.aql_meaning.specs.Documents.{End, Last, no_last, one_of, between}
-use Rattle.aql_rewrite.specs.Parts.{list_parts, maybe_parts}
-use Rattle.aql_rewrite.specs.OverParts.{after_first, after_maybe}
+use Rattle.aql_rewrite.specs.Children.{list_children, maybe_children}
+use Rattle.aql_rewrite.specs.OverChildren.{after_first, after_maybe}
 use Rattle.aql_rewrite.specs.laws.Related.{rest_related, after_maybe_related}
 use Rattle.aql_rewrite.specs.NodeExprs.{end_exprs, last_exprs, aggregate_exprs, after_list, after_end, after_last, after_aggregates}
 use Rattle.aql_passes.specs.laws.Standing.{regrouped}
 
 module _ (P : ExprTree → ExprTree → Type 0) where
-  pub after_list_left : (es : ExprTrees) (fs ps : List ExprTree) → AllZip P (list_parts es ++ fs) ps
+  pub after_list_left : (es : ExprTrees) (fs ps : List ExprTree) → AllZip P (list_children es ++ fs) ps
       → AllZip P fs (after_list es ps)
   after_list_left no_exprs fs ps h = h
   after_list_left (expr_then e es) fs ps h =
-      after_list_left es fs (after_first ps) (rest_related P e (list_parts es ++ fs) ps h)
+      after_list_left es fs (after_first ps) (rest_related P e (list_children es ++ fs) ps h)
 
   pub after_end_left : (e : Option (End ExprTree)) (fs ps : List ExprTree) → AllZip P (end_exprs e ++ fs) ps
       → AllZip P fs (after_end e ps)
@@ -37,4 +37,4 @@ module _ (P : ExprTree → ExprTree → Type 0) where
   after_aggregates_left (aggregate_then x name e rest) fs ps h =
       after_aggregates_left rest fs (after_maybe e ps)
       (after_maybe_related P e (aggregate_exprs rest ++ fs) ps
-      (regrouped P (maybe_parts e) (aggregate_exprs rest) fs ps h))
+      (regrouped P (maybe_children e) (aggregate_exprs rest) fs ps h))

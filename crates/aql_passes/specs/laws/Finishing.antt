@@ -10,10 +10,10 @@ use Rattle.aql_plan.specs.Plan.{Plan, Singleton, Over, Node, Subquery, top}
 use Rattle.aql_plan.specs.Shapes.{HasNoFragment, IsNoFragment}
 use Rattle.aql_rewrite.specs.declared.swap.Rename.{Rename}
 use Rattle.aql_rewrite.specs.Places.{renamed_by, Rewriting, Stays, NoPlace, NoPlaceAt, First, below, here, body}
-use Rattle.aql_rewrite.specs.Walks.{NoPlaceBelow, NoPlaceHere, FirstHere}
+use Rattle.aql_rewrite.specs.InputPlaces.{NoPlaceBelow, NoPlaceHere, FirstHere}
 use Rattle.aql_rewrite.specs.laws.Standing.{outside}
 use Rattle.aql_rewrite.specs.laws.Walk.{none_over}
-use Rattle.aql_rewrite.specs.Steps.{Steps, at_once, next, PlanStep}
+use Rattle.aql_rewrite.specs.Applications.{Applications, at_once, next, Application}
 use Rattle.aql_rewrite.specs.laws.StepByStep.{joined, along}
 use Rattle.aql_rewrite.specs.Apart.{is_start}
 use Rattle.aql_rewrite.specs.laws.Taken.{Taken}
@@ -53,7 +53,7 @@ module _ (R : Rewriting) where
       first_lowers (here {us = us} {b = b} {q = q} {n = n} {r = r} m h) = lowers us (Over b n) q r h
       first_lowers (body {b = b} {s = s} {t = t} {x = x} m g h) = omega (arith, first_lowers h)
 
-      steps_lower : {us : Uses} {p q : Plan} {x y : Bool} → Steps Plan (PlanStep R us) p q x y
+      steps_lower : {us : Uses} {p q : Plan} {x y : Bool} → Applications Plan (Application R us) p q x y
           → work size q ≤ work size p
       steps_lower at_once = omega arith
       steps_lower (next k s) = omega (arith, steps_lower k, first_lowers s)
@@ -61,11 +61,11 @@ module _ (R : Rewriting) where
   -- ---- the input of a node
 
   abbrev Way : Uses → Plan → Plan → Bool → Bool → Type 0
-  Way us p q x y = Steps Plan (PlanStep R us) p q x y
+  Way us p q x y = Applications Plan (Application R us) p q x y
 
   way_below : (n : Node) (us : Uses) {b c : Plan} {x y : Bool} → IsNoFragment n → Way (under n us) b c x y
       → Way us (Over b n) (Over c n) x y
-  way_below n us i h = along Plan Plan (PlanStep R (under n us)) (PlanStep R us) (λ p. Over p n)
+  way_below n us i h = along Plan Plan (Application R (under n us)) (Application R us) (λ p. Over p n)
       (λ p q f. below (subst (λ (o : Bool). First R o (under n us) p q None) (sym (outside n i)) f)) h
 
   pub start_finishes : (us : Uses) (p : Plan) (x : Bool) → is_start p ≡ true → Finishes R us p p x x
@@ -106,7 +106,8 @@ module _ (R : Rewriting) where
     pub finishes_seen : (us vs : Uses) (p q : Plan) (x y : Bool) → Finishes R us p q x y
         → Finishes R vs p q x y
     finishes_seen us vs p q x y h = record {
-      reached = along Plan Plan (PlanStep R us) (PlanStep R vs) (λ o. o) (λ o d f. first_seen f vs) h.reached;
+      reached =
+          along Plan Plan (Application R us) (Application R vs) (λ o. o) (λ o d f. first_seen f vs) h.reached;
       ended = no_place_seen false us vs q h.ended;
     }
 
@@ -165,6 +166,6 @@ module _ (R : Rewriting) where
   pub then_finishes : (us : Uses) (p q d : Plan) (x z : Bool) → Way us p q x true → Finishes R us q d true z
       → Finishes R us p d x z
   then_finishes us p q d x z h k = record {
-    reached = joined Plan (PlanStep R us) h k.reached;
+    reached = joined Plan (Application R us) h k.reached;
     ended = k.ended;
   }

@@ -13,8 +13,8 @@ use Rattle.aql_rewrite.specs.Apart.{is_start, has_body}
 use Rattle.aql_rewrite.specs.Changed.{IsChanged}
 use Rattle.aql_rewrite.specs.Placed.{IsPlaced}
 use Rattle.aql_rewrite.specs.Places.{Rewriting, Stays, NoPlace, First, below}
-use Rattle.aql_rewrite.specs.Steps.{at_once}
-use Rattle.aql_rewrite.specs.Walks.{NoPlaceBelow}
+use Rattle.aql_rewrite.specs.Applications.{at_once}
+use Rattle.aql_rewrite.specs.InputPlaces.{NoPlaceBelow}
 use Rattle.aql_rewrite.specs.laws.Standing.{outside}
 use Rattle.aql_rewrite.specs.laws.Taken.{Taken}
 use Rattle.aql_rewrite.specs.laws.Walk.{found_here, found_inside, none_at, none_with, none_over}

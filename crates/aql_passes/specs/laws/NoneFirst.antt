@@ -3,8 +3,8 @@ use Rattle.std.proofs.Common.{◌≡◌, List, subst}
 use Rattle.std.specs.Prelude.{Option, Some, None}
 use Rattle.aql_tree.specs.Tree.{ExprTree}
 use Rattle.aql_plan.specs.Plan.{Plan, Singleton, Over, top}
-use Rattle.aql_rewrite.specs.FirstPart.{NoneIn, none_in, NoneInAll, none_then}
-use Rattle.aql_rewrite.specs.FirstPart.{FirstIn, in_part, at_whole, FirstOf, first, later}
+use Rattle.aql_rewrite.specs.FirstInExpr.{NoneIn, none_in, NoneInAll, none_then}
+use Rattle.aql_rewrite.specs.FirstInExpr.{FirstIn, in_child, at_whole, FirstOf, first, later}
 use Rattle.aql_rewrite.specs.declared.swap.Rename.{Rename}
 use Rattle.aql_rewrite.specs.NodeExprs.{node_exprs}
 use Rattle.aql_passes.specs.AtExprs.{RewritesAtTop}
@@ -12,7 +12,7 @@ use Rattle.aql_passes.specs.AtExprs.{RewritesAtTop}
 module _ (R : ExprTree → ExprTree → Type 0) where
   mutual
     none_in_it : {e q : ExprTree} → FirstIn R e q → NoneIn R e → ⊥
-    none_in_it (in_part h) (none_in k s) = none_of_them h k
+    none_in_it (in_child h) (none_in k s) = none_of_them h k
     none_in_it (at_whole {q = q} m h) (none_in k s) = s q h
 
     none_of_them : {es ds : List ExprTree} → FirstOf R es ds → NoneInAll R es → ⊥

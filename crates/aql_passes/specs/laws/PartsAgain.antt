@@ -6,22 +6,22 @@ use Rattle.aql_tree.specs.Tree.{ExprTrees, no_exprs, expr_then, MaybeExpr, no_ex
 use Rattle.aql_tree.specs.Tree.{MemberTrees, no_members, named_then, computed_then}
 use Rattle.aql_tree.specs.Tree.{StepTrees, no_steps, name_then, at_then, inline_then}
 use Rattle.aql_tree.specs.Tree.{LinkTrees, no_links, link_then}
-use Rattle.aql_rewrite.specs.Parts.{list_parts, member_parts, step_parts, link_parts, parts}
-use Rattle.aql_rewrite.specs.OverParts.{first_or, after_first, over_list, over_maybe, after_maybe}
-use Rattle.aql_rewrite.specs.OverParts.{over_members, over_steps, over_links, over_parts}
+use Rattle.aql_rewrite.specs.Children.{list_children, member_children, step_children, link_children, children}
+use Rattle.aql_rewrite.specs.OverChildren.{first_or, after_first, over_list, over_maybe, after_maybe}
+use Rattle.aql_rewrite.specs.OverChildren.{over_members, over_steps, over_links, over_children}
 
 -- ---- its own parts
 
-pub list_own : (es : ExprTrees) → over_list es (list_parts es) ≡ es
+pub list_own : (es : ExprTrees) → over_list es (list_children es) ≡ es
 list_own no_exprs = refl
 list_own (expr_then e es) = ap (expr_then e) (list_own es)
 
-members_own : (ms : MemberTrees) → over_members ms (member_parts ms) ≡ ms
+members_own : (ms : MemberTrees) → over_members ms (member_children ms) ≡ ms
 members_own no_members = refl
 members_own (named_then name e ms) = ap (named_then name e) (members_own ms)
 members_own (computed_then n e ms) = ap (computed_then n e) (members_own ms)
 
-steps_own : (ss : StepTrees) → over_steps ss (step_parts ss) ≡ ss
+steps_own : (ss : StepTrees) → over_steps ss (step_children ss) ≡ ss
 steps_own no_steps = refl
 steps_own (name_then name ss) = ap (name_then name) (steps_own ss)
 steps_own (at_then e ss) = ap (at_then e) (steps_own ss)
@@ -31,16 +31,17 @@ steps_own (inline_then (one_expr f) no_expr ss) = ap (inline_then (one_expr f) n
 steps_own (inline_then (one_expr f) (one_expr g) ss) =
     ap (inline_then (one_expr f) (one_expr g)) (steps_own ss)
 
-links_own : (ls : LinkTrees) → over_links ls (link_parts ls) ≡ ls
+links_own : (ls : LinkTrees) → over_links ls (link_children ls) ≡ ls
 links_own no_links = refl
 links_own (link_then op e ls) = ap (link_then op e) (links_own ls)
 
 ternary_own : (test : ExprTree) (middle : MaybeExpr) (other : ExprTree)
-    → over_parts (ternary test middle other) (parts (ternary test middle other)) ≡ ternary test middle other
+    → over_children (ternary test middle other) (children (ternary test middle other))
+    ≡ ternary test middle other
 ternary_own test no_expr other = refl
 ternary_own test (one_expr e) other = refl
 
-pub parts_own : (e : ExprTree) → over_parts e (parts e) ≡ e
+pub parts_own : (e : ExprTree) → over_children e (children e) ≡ e
 parts_own (literal v) = refl
 parts_own (variable x) = refl
 parts_own current = refl
@@ -123,8 +124,8 @@ links_again (link_then op e ls) ms ps =
     (links_again ls (after_first ms) (after_first ps) ∙ ap (over_links ls) (rest_again ms ps))
 
 ternary_again : (test : ExprTree) (middle : MaybeExpr) (other : ExprTree) (ms ps : List ExprTree)
-    → over_parts (over_parts (ternary test middle other) ms) ps
-    ≡ over_parts (ternary test middle other) (longer ps ms)
+    → over_children (over_children (ternary test middle other) ms) ps
+    ≡ over_children (ternary test middle other) (longer ps ms)
 ternary_again test middle other ms ps =
     let r = rest_again ms ps in
     let m = maybe_again middle (after_first ms) (after_first ps) in
@@ -132,7 +133,7 @@ ternary_again test middle other ms ps =
     rw (first_again test ms ps, m.0, m.1, o, m.2, r)
 
 pub parts_again : (e : ExprTree) (ms ps : List ExprTree)
-    → over_parts (over_parts e ms) ps ≡ over_parts e (longer ps ms)
+    → over_children (over_children e ms) ps ≡ over_children e (longer ps ms)
 parts_again (literal v) ms ps = refl
 parts_again (variable x) ms ps = refl
 parts_again current ms ps = refl

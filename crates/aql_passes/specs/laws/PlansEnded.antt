@@ -10,11 +10,11 @@ use Rattle.aql_plan.specs.Needs.{under, result_uses}
 use Rattle.aql_plan.specs.Nodes.{body_in}
 use Rattle.aql_plan.specs.Plan.{Plan, Singleton, Over, Node, Subquery, Scatter, Distribute, Gather}
 use Rattle.aql_plan.specs.Shapes.{HasNoFragment, IsNoFragment}
-use Rattle.aql_rewrite.specs.FirstPart.{none_left, FirstOf}
+use Rattle.aql_rewrite.specs.FirstInExpr.{none_left, FirstOf}
 use Rattle.aql_rewrite.specs.NodeExprs.{node_exprs, over_exprs}
 use Rattle.aql_rewrite.specs.Places.{Stays, NoPlace, NoPlaceAt, First, below, here, body}
 use Rattle.aql_passes.specs.AtExprs.{AtExprs}
-use Rattle.aql_rewrite.specs.Steps.{Steps, at_once, next, PlanStep}
+use Rattle.aql_rewrite.specs.Applications.{Applications, at_once, next, Application}
 use Rattle.aql_passes.specs.Ends.{AllEnd, ExprsEnd, PlanEnds}
 use Rattle.aql_passes.specs.laws.Ended.{as_many, each_new, first_longer}
 use Rattle.aql_passes.specs.laws.ExprsAgain.{exprs_own, exprs_again}
@@ -33,15 +33,15 @@ input_outside n h = refl
 
 module _ (R : ExprTree → ExprTree → Type 0) where
   abbrev Way : Uses → Plan → Plan → Bool → Bool → Type 0
-  Way us p q x y = Steps Plan (PlanStep (AtExprs R) us) p q x y
+  Way us p q x y = Applications Plan (Application (AtExprs R) us) p q x y
 
   abbrev Placeless : Plan → Type 0
   Placeless p = (us : Uses) → NoPlace (AtExprs R) false us p
 
   -- ---- the input of a node
 
-  step_below : (n : Node) (us : Uses) (b c : Plan) → IsNoFragment n → PlanStep (AtExprs R) (under n us) b c
-      → PlanStep (AtExprs R) us (Over b n) (Over c n)
+  step_below : (n : Node) (us : Uses) (b c : Plan) → IsNoFragment n → Application (AtExprs R) (under n us) b c
+      → Application (AtExprs R) us (Over b n) (Over c n)
   step_below n us b c i h = below (subst (λ (o : Bool). First (AtExprs R) o (under n us) b c None)
       (sym (input_outside n i)) h)
 
@@ -53,27 +53,28 @@ module _ (R : ExprTree → ExprTree → Type 0) where
   way_below : (n : Node) (us : Uses) (b c : Plan) (x y : Bool) → IsNoFragment n → Way (under n us) b c x y
       → Way us (Over b n) (Over c n) x y
   way_below n us b c x y i h =
-      along Plan Plan (PlanStep (AtExprs R) (under n us)) (PlanStep (AtExprs R) us) (λ p. Over p n)
+      along Plan Plan (Application (AtExprs R) (under n us)) (Application (AtExprs R) us) (λ p. Over p n)
       (λ p q f. step_below n us p q i f) h
 
   -- ---- its expressions
 
   step_here : (n : Node) (us : Uses) (b : Plan) (es : List ExprTree) → IsNoFragment n → Placeless b
-      → FirstOf R (node_exprs n) es → PlanStep (AtExprs R) us (Over b n) (Over b (over_exprs n es))
+      → FirstOf R (node_exprs n) es → Application (AtExprs R) us (Over b n) (Over b (over_exprs n es))
   step_here n us b es i m f = here (none_below n us b i m) (es, f, refl)
 
   module _ (n : Node) (cs : List ExprTree) (of : cs ≡ node_exprs n) where
-    back : {es : List ExprTree} {x y : Bool} → Steps (List ExprTree) (FirstOf R) cs es x y
+    back : {es : List ExprTree} {x y : Bool} → Applications (List ExprTree) (FirstOf R) cs es x y
         → node_exprs (over_exprs n es) ≡ es
     back {es = es} h = exprs_back n es ∙ each_new (node_exprs n) es (as_many R h ∙ ap length of)
 
     way_here : (us : Uses) (b : Plan) {es : List ExprTree} {x y : Bool} → IsNoFragment n → Placeless b
-        → Steps (List ExprTree) (FirstOf R) cs es x y → Way us (Over b n) (Over b (over_exprs n es)) x y
+        → Applications (List ExprTree) (FirstOf R) cs es x y
+        → Way us (Over b n) (Over b (over_exprs n es)) x y
     way_here us b i m (at_once {x = x}) = subst (λ (o : Node). Way us (Over b n) (Over b o) x x)
         (sym (ap (over_exprs n) of ∙ exprs_own n)) at_once
     way_here us b i m (next {m = ds} {d = es} k f) =
         next (way_here us b i m k)
-        (subst (λ (o : Node). PlanStep (AtExprs R) us (Over b (over_exprs n ds)) (Over b o))
+        (subst (λ (o : Node). Application (AtExprs R) us (Over b (over_exprs n ds)) (Over b o))
         (exprs_again n ds es ∙ ap (over_exprs n) (first_longer R f))
         (step_here (over_exprs n ds) us b es (still_plain n ds i) m
         (subst (λ (fs : List ExprTree). FirstOf R fs es) (sym (back k)) f)))
@@ -91,7 +92,7 @@ module _ (R : ExprTree → ExprTree → Type 0) where
       → PlanEnds R (Over b n) (Over c (over_exprs n es)) x z
   over_node n b c es x y z i e h k =
       let m = over_exprs n es in record {
-        reached = λ us. joined Plan (PlanStep (AtExprs R) us)
+        reached = λ us. joined Plan (Application (AtExprs R) us)
             (way_below n us b c x y i (h.reached (under n us)))
             (way_here n (node_exprs n) refl us c i h.ended k.reached);
         ended = λ us. (
@@ -110,9 +111,9 @@ module _ (R : ExprTree → ExprTree → Type 0) where
       → PlanEnds R b c x y → PlanEnds R s t y z
       → PlanEnds R (Over b (Subquery v s)) (Over c (Subquery v t)) x z
   body_ends v b c s t x y z i h k = record {
-    reached = λ us. joined Plan (PlanStep (AtExprs R) us)
+    reached = λ us. joined Plan (Application (AtExprs R) us)
         (way_below (Subquery v s) us b c x y i (h.reached (under (Subquery v s) us)))
-        (along Plan Plan (PlanStep (AtExprs R) result_uses) (PlanStep (AtExprs R) us)
+        (along Plan Plan (Application (AtExprs R) result_uses) (Application (AtExprs R) us)
         (λ p. Over c (Subquery v p))
         (λ p q f. body (h.ended (under (Subquery v p) us)) (stays_at_subquery us v c p) f)
         (k.reached result_uses));

@@ -11,14 +11,14 @@ use Rattle.aql_plan.specs.declared.facts.Facts.{Facts}
 use Rattle.aql_plan.specs.Plan.{Plan, Singleton, Over, Node, Subquery}
 use Rattle.aql_plan.specs.Refines.{RefinesFor}
 use Rattle.aql_plan.specs.Variables.{vars_of, vars_set, count}
-use Rattle.aql_rewrite.specs.FirstPart.{FirstOf}
+use Rattle.aql_rewrite.specs.FirstInExpr.{FirstOf}
 use Rattle.aql_rewrite.specs.Keeps.{Keeps}
 use Rattle.aql_rewrite.specs.laws.FirstKept.{first_of_keeps}
 use Rattle.aql_rewrite.specs.declared.swap.Rename.{Rename}
 use Rattle.aql_rewrite.specs.NodeExprs.{node_exprs, over_exprs}
 use Rattle.aql_rewrite.specs.Placed.{Placed}
 use Rattle.aql_rewrite.specs.Plain.{NodePlain}
-use Rattle.aql_rewrite.specs.Swaps.{Replaced, Kept, KeepsPlaced}
+use Rattle.aql_rewrite.specs.Swaps.{Replaced, KeepsVariables, KeepsPlaced}
 use Rattle.aql_rewrite.specs.laws.PlainPlans.{plan_plain}
 use Rattle.aql_passes.specs.AtExprs.{AtTop, RewritesAtTop}
 use Rattle.aql_passes.specs.laws.Standing.{AllStand, kept_stand}
@@ -48,7 +48,7 @@ module _ (R : ExprTree → ExprTree → Type 0) (keeps : (p q : ExprTree) → R 
   at_top_refines p q None placed h = refines_at p q placed h
   at_top_refines p q (Some r) placed h = absurd h
 
-  same_kept : (xs ys : List Ident) → ys ≡ xs → Kept None us xs ys
+  same_kept : (xs ys : List Ident) → ys ≡ xs → KeepsVariables None us xs ys
   same_kept xs ys e x used h = subst (λ (zs : List Ident). list_any (same_ident x) zs ≡ true) (sym e) h
 
   no_more : (x : Ident) (xs ys : List Ident) → xs ≡ ys → count x xs ≤ count x ys

@@ -20,12 +20,12 @@ use Rattle.aql_meaning.specs.Visible.{aggregate_vars, functions_by, into_var}
 use Rattle.aql_plan.specs.declared.facts.Facts.{Facts}
 use Rattle.aql_plan.specs.Facts.{attributes_in}
 use Rattle.aql_plan.specs.Plan.{Reading, Plan, Over, Node, EnumerateCollection, Index, EnumerateList, Traversal, Calculation, Subquery, Filter, Sort, Limit, Collect, Return, NoResults, Scatter, Distribute, Remote, Gather}
-use Rattle.aql_plan.specs.Refines.{world, RefinesFor}
-use Rattle.aql_plan.specs.Runs.{World, Place, Outside, read, read_in_bounds, edges_in, result_row, Gives}
+use Rattle.aql_plan.specs.Refines.{dataset, RefinesFor}
+use Rattle.aql_plan.specs.Runs.{Dataset, Site, Outside, read, read_in_bounds, edges_in, result_row, Gives}
 use Rattle.aql_plan.specs.Shapes.{IsNoFragment}
 use Rattle.aql_plan_laws.specs.laws.Agreement.{rows_agree}
-use Rattle.aql_rewrite.specs.Parts.{list_parts, maybe_parts}
-use Rattle.aql_rewrite.specs.OverParts.{first_or, after_first, over_list, over_maybe, after_maybe}
+use Rattle.aql_rewrite.specs.Children.{list_children, maybe_children}
+use Rattle.aql_rewrite.specs.OverChildren.{first_or, after_first, over_list, over_maybe, after_maybe}
 use Rattle.aql_rewrite.specs.laws.Related.{rest_related, after_maybe_related}
 use Rattle.aql_rewrite.specs.NodeExprs.{last_exprs, aggregate_exprs, into_exprs, node_exprs, after_list, over_last, after_last, over_aggregates, after_aggregates, over_into, over_exprs}
 use Rattle.aql_passes.specs.laws.Standing.{StandsFor, AllStand, alone}
@@ -39,21 +39,21 @@ value_equal : (e : ExprTree) (fs ps : List ExprTree) → AllStand (e ∷ fs) ps
     → value_of (first_or e ps) ≡ value_of e
 value_equal e fs ps h = fun_ext (same_value e fs ps h)
 
-passes_equal : (e : MaybeExpr) (fs ps : List ExprTree) → AllStand (maybe_parts e ++ fs) ps
+passes_equal : (e : MaybeExpr) (fs ps : List ExprTree) → AllStand (maybe_children e ++ fs) ps
     → passes (over_maybe e ps) ≡ passes e
 passes_equal e fs ps h = fun_ext (λ row. ap truth (same_maybe e fs ps h row (boolean true)))
 
-stops_equal : (e : MaybeExpr) (fs ps : List ExprTree) → AllStand (maybe_parts e ++ fs) ps
+stops_equal : (e : MaybeExpr) (fs ps : List ExprTree) → AllStand (maybe_children e ++ fs) ps
     → stops (over_maybe e ps) ≡ stops e
 stops_equal e fs ps h = fun_ext (λ row. ap truth (same_maybe e fs ps h row (boolean false)))
 
-keys_equal : (es : ExprTrees) (fs ps : List ExprTree) → AllStand (list_parts es ++ fs) ps
+keys_equal : (es : ExprTrees) (fs ps : List ExprTree) → AllStand (list_children es ++ fs) ps
     → keys_of (over_list es ps) ≡ keys_of es
 keys_equal es fs ps h = fun_ext (same_list es fs ps h)
 
 -- ---- an index
 
-bounds_equal : (w : World) (place : Place) (x : Reading) (index : ℕ) (equal : ExprTrees)
+bounds_equal : (w : Dataset) (place : Site) (x : Reading) (index : ℕ) (equal : ExprTrees)
     (last : Last ExprTree) (ps qs : List ExprTree)
     → ((row : Row) → keys_of (over_list equal ps) row ≡ keys_of equal row)
     → ((row : Row) → last_map (λ d. value_of d row) (over_last last qs) ≡ last_map (λ d. value_of d row) last)
@@ -72,7 +72,7 @@ same_functions f (aggregate_then x name e rest) ps =
     ap (λ fs. f name ∷ fs) (same_functions f rest (after_maybe e ps))
 
 grouped_same : (xs : List Ident) (es : ExprTrees) (gs : AggregateTrees) (i : IntoTree) (ps : List ExprTree)
-    → AllStand (list_parts es ++ (aggregate_exprs gs ++ into_exprs i)) ps
+    → AllStand (list_children es ++ (aggregate_exprs gs ++ into_exprs i)) ps
     → (start : Row) (rows out : List Row)
     → Grouped xs (over_list es ps) (over_aggregates gs (after_list es ps))
     (over_into i (after_aggregates gs (after_list es ps))) stage.Whole start rows out
@@ -108,7 +108,7 @@ grouped_same xs es gs i ps h start rows out g =
 
 -- ---- nodes
 
-module _ (w : World) (place : Place) (start : Row) (rows out : List Row) where
+module _ (w : Dataset) (place : Site) (start : Row) (rows out : List Row) where
   scan_same : (x : Reading) (qs : List ExprTree) (documents others : Row → List Datum)
       → passes (over_maybe x.filter qs) ≡ passes x.filter → others ≡ documents
       → Scanned x.var (passes (over_maybe x.filter qs)) x.attrs others rows out
@@ -129,27 +129,27 @@ module _ (w : World) (place : Place) (start : Row) (rows out : List Row) where
       ScannedInOrder names descending x.var (passes (over_maybe x.filter qs)) x.attrs f rows out) d g)
 
   index_passes : (x : Reading) (equal : ExprTrees) (last : Last ExprTree) (ps : List ExprTree)
-      → AllStand (list_parts equal ++ (last_exprs last ++ maybe_parts x.filter)) ps
+      → AllStand (list_children equal ++ (last_exprs last ++ maybe_children x.filter)) ps
       → passes (over_maybe x.filter (after_last last (after_list equal ps))) ≡ passes x.filter
   index_passes x equal last ps h =
-      let filters = maybe_parts x.filter in
+      let filters = maybe_children x.filter in
       let qs = after_list equal ps in
       let rs = after_last last qs in
       passes_equal x.filter [] rs (alone StandsFor filters rs (after_last_left StandsFor last filters qs
       (after_list_left StandsFor equal (last_exprs last ++ filters) ps h)))
 
   index_bounds : (x : Reading) (index : ℕ) (equal : ExprTrees) (last : Last ExprTree) (ps : List ExprTree)
-      → AllStand (list_parts equal ++ (last_exprs last ++ maybe_parts x.filter)) ps
+      → AllStand (list_children equal ++ (last_exprs last ++ maybe_children x.filter)) ps
       → read_in_bounds w place x index (over_list equal ps) (over_last last (after_list equal ps))
       ≡ read_in_bounds w place x index equal last
   index_bounds x index equal last ps h =
-      let filters = maybe_parts x.filter in
+      let filters = maybe_children x.filter in
       let qs = after_list equal ps in
       bounds_equal w place x index equal last ps qs (same_list equal (last_exprs last ++ filters) ps h)
       (same_last last filters qs (after_list_left StandsFor equal (last_exprs last ++ filters) ps h))
 
   index_same : (x : Reading) (index : ℕ) (equal : ExprTrees) (last : Last ExprTree) (ordered : Option Bool)
-      (ps : List ExprTree) → AllStand (list_parts equal ++ (last_exprs last ++ maybe_parts x.filter)) ps
+      (ps : List ExprTree) → AllStand (list_children equal ++ (last_exprs last ++ maybe_children x.filter)) ps
       → Gives (over_exprs (Index x index equal last ordered) ps) w place start rows out
       → Gives (Index x index equal last ordered) w place start rows out
   index_same x index equal last None ps h g =
@@ -168,20 +168,20 @@ module _ (w : World) (place : Place) (start : Row) (rows out : List Row) where
       → Gives (over_exprs n ps) w place start rows out → Gives n w place start rows out
   gives_same (EnumerateCollection x) ps h i g = scan_same x ps (λ row. read w x.coll x.shard place)
       (λ row. read w x.coll x.shard place)
-      (passes_equal x.filter [] ps (alone StandsFor (maybe_parts x.filter) ps h)) refl g
+      (passes_equal x.filter [] ps (alone StandsFor (maybe_children x.filter) ps h)) refl g
   gives_same (Index x index equal last ordered) ps h i g = index_same x index equal last ordered ps h g
   gives_same (EnumerateList x e) ps h i g =
       g ∙ ap (λ (f : Row → Datum). with_elements x rows (map f rows)) (value_equal e [] ps h)
   gives_same (Traversal shape e colls prune keep) ps h i g =
-      let others = maybe_parts prune ++ maybe_parts keep in
+      let others = maybe_children prune ++ maybe_children keep in
       let qs = after_first ps in
       let k = rest_related StandsFor e others ps h in
       let rs = after_maybe prune qs in
-      let l = alone StandsFor (maybe_parts keep) rs
-      (after_maybe_related StandsFor prune (maybe_parts keep) qs k) in (
+      let l = alone StandsFor (maybe_children keep) rs
+      (after_maybe_related StandsFor prune (maybe_children keep) qs k) in (
         g.0,
         subst (λ (f : Row → Bool). Traverses w.db shape (edges_in w.db colls) f rows (values_of e rows) g.0)
-            (stops_equal prune (maybe_parts keep) qs k)
+            (stops_equal prune (maybe_children keep) qs k)
             (subst (λ (f : Row → Datum). Traverses w.db shape (edges_in w.db colls)
             (stops (over_maybe prune qs)) rows (map f rows) g.0) (value_equal e others ps h) g.1),
         g.2 ∙ ap (λ (f : Row → Bool). filter f g.0) (passes_equal keep [] rs l),
@@ -194,7 +194,7 @@ module _ (w : World) (place : Place) (start : Row) (rows out : List Row) where
   gives_same (Sort directions es n) ps h i g = (
     g.0,
     subst (λ (f : Row → List Datum). Sorts directions (map f rows) rows g.0)
-        (keys_equal es [] ps (alone StandsFor (list_parts es) ps h)) g.1,
+        (keys_equal es [] ps (alone StandsFor (list_children es) ps h)) g.1,
     g.2,
   )
   gives_same (Limit offset count) ps h i g = g
@@ -224,6 +224,6 @@ exprs_refine us facts b n ps h i = by n h i
     by (Gather directions es) h i db meets start out g = absurd i
     by n h i db meets start out g = (
       out,
-      (g.0, g.1, gives_same (world facts db) Outside start g.0 out n ps h i g.2),
+      (g.0, g.1, gives_same (dataset facts db) Outside start g.0 out n ps h i g.2),
       rows_agree us out,
     )

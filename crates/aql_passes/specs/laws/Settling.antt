@@ -12,7 +12,7 @@ use Rattle.aql_plan.specs.Shapes.{HasNoFragment, IsNoFragment}
 use Rattle.aql_rewrite.specs.declared.swap.Rename.{Rename}
 use Rattle.aql_rewrite.specs.Places.{Rewriting, Stays, NoPlace, NoPlaceAt, First, below, here, body}
 use Rattle.aql_rewrite.specs.laws.Standing.{outside}
-use Rattle.aql_rewrite.specs.Steps.{Steps, at_once, next, PlanStep}
+use Rattle.aql_rewrite.specs.Applications.{Applications, at_once, next, Application}
 use Rattle.aql_rewrite.specs.laws.StepByStep.{joined, along}
 use Rattle.aql_rewrite.specs.Apart.{has_body}
 use Rattle.aql_rewrite.specs.Exchanged.{goes_below, Swaps}
@@ -20,19 +20,19 @@ use Rattle.aql_passes.specs.Settled.{Settled, SettledIn, Settles}
 
 module _ (R : Rewriting) (swaps : Node → Node → Bool) where
   abbrev Way : Uses → Plan → Plan → Bool → Bool → Type 0
-  Way us p q x y = Steps Plan (PlanStep R us) p q x y
+  Way us p q x y = Applications Plan (Application R us) p q x y
 
   -- ---- the input of a node
 
   way_below : (n : Node) (us : Uses) {b c : Plan} {x y : Bool} → IsNoFragment n → Way (under n us) b c x y
       → Way us (Over b n) (Over c n) x y
-  way_below n us i h = along Plan Plan (PlanStep R (under n us)) (PlanStep R us) (λ p. Over p n)
+  way_below n us i h = along Plan Plan (Application R (under n us)) (Application R us) (λ p. Over p n)
       (λ p q f. below (subst (λ (o : Bool). First R o (under n us) p q None) (sym (outside n i)) f)) h
 
   pub over_settled : (b c q : Plan) (n : Node) (x y z : Bool) → IsNoFragment n → Settles R swaps b c x y
       → Settles R swaps (Over c n) q y z → Settles R swaps (Over b n) q x z
   over_settled b c q n x y z i h k = record {
-    reached = λ us. joined Plan (PlanStep R us) (way_below n us i (h.reached (under n us))) (k.reached us);
+    reached = λ us. joined Plan (Application R us) (way_below n us i (h.reached (under n us))) (k.reached us);
     settled = k.settled;
     lone = k.lone;
     nodes = k.nodes ∙ ap (λ (w : ℕ). w + (weight_in n + 1)) h.nodes;
@@ -93,7 +93,7 @@ module _ (R : Rewriting) (swaps : Node → Node → Bool) where
         → Settled swaps (Over b lower) → swaps upper lower ≡ true → Settles R swaps (Over b upper) c true y
         → Settles R swaps (Over (Over b lower) upper) (Over c lower) x y
     sunk apart b c upper lower x y lone h g k = record {
-      reached = λ us. joined Plan (PlanStep R us)
+      reached = λ us. joined Plan (Application R us)
           (next at_once
           (here (none_below us (Over b lower) upper lone.0 lone.1 h) (exchanged us b upper lower g)))
           (way_below lower us lone.0.1 (k.reached (under lower us)));

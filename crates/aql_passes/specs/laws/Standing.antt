@@ -5,7 +5,7 @@ use Rattle.aql_tree.specs.declared.syntax.Ident.{Ident}
 use Rattle.aql_tree.specs.Tree.{ExprTree}
 use Rattle.aql_meaning.specs.Plain.{IsPlain}
 use Rattle.aql_rewrite.specs.Keeps.{SameValue, uses_variable, Keeps}
-use Rattle.aql_rewrite.specs.OverParts.{first_or}
+use Rattle.aql_rewrite.specs.OverChildren.{first_or}
 use Rattle.aql_rewrite.specs.laws.Related.{first_related}
 
 -- q is plain, has the value of p at every row, and uses no variable that p doesn't use

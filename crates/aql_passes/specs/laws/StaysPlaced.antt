@@ -14,14 +14,15 @@ use Rattle.aql_plan_laws.specs.laws.Idents.{same_self}
 use Rattle.aql_rewrite.specs.declared.swap.Rename.{Rename}
 use Rattle.aql_rewrite.specs.Placed.{Placed, IsPlaced}
 use Rattle.aql_rewrite.specs.Places.{Rewriting}
-use Rattle.aql_rewrite.specs.Swaps.{Kept, KeepsPlaced}
+use Rattle.aql_rewrite.specs.Swaps.{KeepsVariables, KeepsPlaced}
 use Rattle.aql_rewrite.specs.laws.Among.{has, has_front, has_back, has_either, both, and_true}
 use Rattle.aql_rewrite.specs.laws.Standing.{outside}
 use Rattle.aql_rewrite.specs.laws.Walk.{placed_below}
 use Rattle.aql_rewrite.specs.laws.Steps.{Refining, Keeping, part_kept}
-use Rattle.aql_rewrite.specs.Steps.{Steps, at_once, next, PlanStep}
+use Rattle.aql_rewrite.specs.Applications.{Applications, at_once, next, Application}
 
-used_kept : (us : Uses) (away xs ys : List Ident) → Kept None us xs ys → are_among us (away ++ xs) ≡ true
+used_kept : (us : Uses) (away xs ys : List Ident) → KeepsVariables None us xs ys
+    → are_among us (away ++ xs) ≡ true
     → are_among us (away ++ ys) ≡ true
 used_kept [] away xs ys k h = refl
 used_kept (u ∷ us) away xs ys k h =
@@ -53,7 +54,7 @@ placed_kept facts outer away us p q r placed kept used = record {
 module _ (R : Rewriting) (facts : Facts)
     (refines : Refining false facts R) (keeps : Keeping false facts R) where
   steps_placed : (outer away : List Ident) (us : Uses) {p q : Plan} {x y : Bool}
-      → Placed false false facts outer away us p → Steps Plan (PlanStep R us) p q x y
+      → Placed false false facts outer away us p → Applications Plan (Application R us) p q x y
       → Placed false false facts outer away us q
   steps_placed outer away us h at_once = h
   steps_placed outer away us h (next {m = m} {d = d} k s) =
@@ -65,7 +66,8 @@ module _ (R : Rewriting) (facts : Facts)
 -- the rule is one for plans without fragments
 pub stays_placed : (R : Rewriting) (facts : Facts) (fragments : Bool) → fragments ≡ false
     → Refining fragments facts R → Keeping fragments facts R → (us : Uses) (p q : Plan) (x y : Bool)
-    → IsPlaced false false facts us p → Steps Plan (PlanStep R us) p q x y → IsPlaced false false facts us q
+    → IsPlaced false false facts us p → Applications Plan (Application R us) p q x y
+    → IsPlaced false false facts us q
 stays_placed R facts fragments e refines keeps us p q x y h k = (
   h.0,
   h.1,

@@ -15,8 +15,8 @@ use Rattle.aql_plan.specs.Facts.{indexes_in}
 use Rattle.aql_plan.specs.Fits.{EndPlain, LastPlain, HasArgument, AllKnown, exprs_in, BoundsFit, LookupFits, KindFits, IndexFits, Fits}
 use Rattle.aql_plan.specs.Plan.{Reading, Node, EnumerateCollection, Index, EnumerateList, Traversal, Calculation, Subquery, Filter, Sort, Limit, Collect, Return, NoResults, Scatter, Distribute, Remote, Gather}
 use Rattle.aql_plan.specs.Shapes.{IsNoFragment}
-use Rattle.aql_rewrite.specs.Parts.{list_parts, maybe_parts}
-use Rattle.aql_rewrite.specs.OverParts.{after_first, over_list, over_maybe, after_maybe}
+use Rattle.aql_rewrite.specs.Children.{list_children, maybe_children}
+use Rattle.aql_rewrite.specs.OverChildren.{after_first, over_list, over_maybe, after_maybe}
 use Rattle.aql_rewrite.specs.laws.Related.{rest_related, after_maybe_related}
 use Rattle.aql_rewrite.specs.NodeExprs.{end_exprs, last_exprs, aggregate_exprs, into_exprs, node_exprs, after_list, over_end, after_end, over_last, after_last, over_aggregates, after_aggregates, over_into, over_reading, over_exprs}
 use Rattle.aql_passes.specs.laws.Standing.{StandsFor, AllStand, first_stands, alone, regrouped}
@@ -24,17 +24,17 @@ use Rattle.aql_passes.specs.laws.ExprsLeft.{after_list_left, after_end_left, aft
 
 -- ---- no subquery comes in
 
-plain_maybe : (e : MaybeExpr) (fs ps : List ExprTree) → AllStand (maybe_parts e ++ fs) ps
+plain_maybe : (e : MaybeExpr) (fs ps : List ExprTree) → AllStand (maybe_children e ++ fs) ps
     → MaybePlain (over_maybe e ps)
 plain_maybe no_expr fs ps h = tt
 plain_maybe (one_expr e) fs ps h = (first_stands e fs ps h).plain
 
-plain_list : (es : ExprTrees) (fs ps : List ExprTree) → AllStand (list_parts es ++ fs) ps
+plain_list : (es : ExprTrees) (fs ps : List ExprTree) → AllStand (list_children es ++ fs) ps
     → AllPlain (over_list es ps)
 plain_list no_exprs fs ps h = tt
 plain_list (expr_then e es) fs ps h = (
-  (first_stands e (list_parts es ++ fs) ps h).plain,
-  plain_list es fs (after_first ps) (rest_related StandsFor e (list_parts es ++ fs) ps h),
+  (first_stands e (list_children es ++ fs) ps h).plain,
+  plain_list es fs (after_first ps) (rest_related StandsFor e (list_children es ++ fs) ps h),
 )
 
 plain_end : (e : Option (End ExprTree)) (fs ps : List ExprTree) → AllStand (end_exprs e ++ fs) ps
@@ -67,7 +67,7 @@ known_aggregates : (gs : AggregateTrees) (fs ps : List ExprTree) → AllStand (a
     → AllKnown gs → AllKnown (over_aggregates gs ps)
 known_aggregates no_aggregates fs ps h f = tt
 known_aggregates (aggregate_then x name e rest) fs ps h f =
-    let k = regrouped StandsFor (maybe_parts e) (aggregate_exprs rest) fs ps h in (
+    let k = regrouped StandsFor (maybe_children e) (aggregate_exprs rest) fs ps h in (
       known_argument (aggregate_named name) e ps (plain_maybe e (aggregate_exprs rest ++ fs) ps k) f.0,
       known_aggregates rest fs (after_maybe e ps)
           (after_maybe_related StandsFor e (aggregate_exprs rest ++ fs) ps k) f.1,
@@ -120,9 +120,9 @@ index_fits (Some i) x qs equal l ps ordered h = (
 pub still_fits : (facts : Facts) (n : Node) (ps : List ExprTree) → AllStand (node_exprs n) ps → IsNoFragment n
     → Fits facts n → Fits facts (over_exprs n ps)
 still_fits facts (EnumerateCollection x) ps h i f =
-    (f.0, plain_maybe x.filter [] ps (alone StandsFor (maybe_parts x.filter) ps h))
+    (f.0, plain_maybe x.filter [] ps (alone StandsFor (maybe_children x.filter) ps h))
 still_fits facts (Index x index equal last ordered) ps h i f =
-    let filters = maybe_parts x.filter in
+    let filters = maybe_children x.filter in
     let qs = after_list equal ps in
     let rs = after_last last qs in
     let k = after_list_left StandsFor equal (last_exprs last ++ filters) ps h in
@@ -138,12 +138,12 @@ still_fits facts (Index x index equal last ordered) ps h i f =
 still_fits facts (EnumerateList x e) ps h i f = (first_stands e [] ps h).plain
 still_fits facts (Traversal w e colls prune keep) ps h i f =
     let qs = after_first ps in
-    let k = rest_related StandsFor e (maybe_parts prune ++ maybe_parts keep) ps h in
+    let k = rest_related StandsFor e (maybe_children prune ++ maybe_children keep) ps h in
     let rs = after_maybe prune qs in
-    let l = after_maybe_related StandsFor prune (maybe_parts keep) qs k in (
-      (first_stands e (maybe_parts prune ++ maybe_parts keep) ps h).plain,
-      plain_maybe prune (maybe_parts keep) qs k,
-      plain_maybe keep [] rs (alone StandsFor (maybe_parts keep) rs l),
+    let l = after_maybe_related StandsFor prune (maybe_children keep) qs k in (
+      (first_stands e (maybe_children prune ++ maybe_children keep) ps h).plain,
+      plain_maybe prune (maybe_children keep) qs k,
+      plain_maybe keep [] rs (alone StandsFor (maybe_children keep) rs l),
       f.3,
       f.4,
       f.5,
@@ -152,7 +152,7 @@ still_fits facts (Calculation x e) ps h i f = (first_stands e [] ps h).plain
 still_fits facts (Subquery x s) ps h i f = tt
 still_fits facts (Filter e) ps h i f = (first_stands e [] ps h).plain
 still_fits facts (Sort directions es n) ps h i f =
-    (plain_list es [] ps (alone StandsFor (list_parts es) ps h), f.1)
+    (plain_list es [] ps (alone StandsFor (list_children es) ps h), f.1)
 still_fits facts (Limit offset most) ps h i f = f
 still_fits facts (Collect xs es gs j s) ps h i f =
     let qs = after_list es ps in

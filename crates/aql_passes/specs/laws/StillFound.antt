@@ -16,8 +16,8 @@ use Rattle.aql_plan.specs.Needs.{sets, end_uses, last_uses}
 use Rattle.aql_plan.specs.Shapes.{IsNoFragment}
 use Rattle.aql_plan.specs.Variables.{filter_uses, input_uses, vars_of, are_among, FindsAll, FindsInside, set_once}
 use Rattle.aql_plan_laws.specs.laws.Idents.{same_is, same_self}
-use Rattle.aql_rewrite.specs.Parts.{list_parts, maybe_parts}
-use Rattle.aql_rewrite.specs.OverParts.{first_or, after_first, over_list, over_maybe, after_maybe}
+use Rattle.aql_rewrite.specs.Children.{list_children, maybe_children}
+use Rattle.aql_rewrite.specs.OverChildren.{first_or, after_first, over_list, over_maybe, after_maybe}
 use Rattle.aql_rewrite.specs.laws.Related.{rest_related, after_maybe_related}
 use Rattle.aql_rewrite.specs.NodeExprs.{end_exprs, last_exprs, aggregate_exprs, into_exprs, node_exprs, after_list, over_end, after_end, over_last, after_last, over_aggregates, after_aggregates, over_into, over_exprs}
 use Rattle.aql_rewrite.specs.laws.Among.{has, both, and_true, Within, among_split, among_join}
@@ -59,19 +59,19 @@ module _ (xs : List Ident) where
   found_expr e fs ps h f = has_among (uses (first_or e ps)) xs
       (λ x k. among_has (uses e) xs f x ((first_stands e fs ps h).variables x k))
 
-  found_maybe : (e : MaybeExpr) (fs ps : List ExprTree) → AllStand (maybe_parts e ++ fs) ps
+  found_maybe : (e : MaybeExpr) (fs ps : List ExprTree) → AllStand (maybe_children e ++ fs) ps
       → Found (maybe_uses e) → Found (maybe_uses (over_maybe e ps))
   found_maybe no_expr fs ps h f = f
   found_maybe (one_expr e) fs ps h f = found_expr e fs ps h f
 
-  found_list : (es : ExprTrees) (fs ps : List ExprTree) → AllStand (list_parts es ++ fs) ps
+  found_list : (es : ExprTrees) (fs ps : List ExprTree) → AllStand (list_children es ++ fs) ps
       → Found (all_uses es) → Found (all_uses (over_list es ps))
   found_list no_exprs fs ps h f = f
   found_list (expr_then e es) fs ps h f =
       let g = among_split (uses e) (all_uses es) xs f in
       among_join (uses (first_or e ps)) (all_uses (over_list es (after_first ps))) xs
-      (found_expr e (list_parts es ++ fs) ps h g.0)
-      (found_list es fs (after_first ps) (rest_related StandsFor e (list_parts es ++ fs) ps h) g.1)
+      (found_expr e (list_children es ++ fs) ps h g.0)
+      (found_list es fs (after_first ps) (rest_related StandsFor e (list_children es ++ fs) ps h) g.1)
 
   found_end : (e : Option (End ExprTree)) (fs ps : List ExprTree) → AllStand (end_exprs e ++ fs) ps
       → Found (end_uses e) → Found (end_uses (over_end e ps))
@@ -93,7 +93,7 @@ module _ (xs : List Ident) where
       → Found (aggregate_uses gs) → Found (aggregate_uses (over_aggregates gs ps))
   found_aggregates no_aggregates fs ps h f = f
   found_aggregates (aggregate_then x name e rest) fs ps h f =
-      let k = regrouped StandsFor (maybe_parts e) (aggregate_exprs rest) fs ps h in
+      let k = regrouped StandsFor (maybe_children e) (aggregate_exprs rest) fs ps h in
       let g = among_split (maybe_uses e) (aggregate_uses rest) xs f in
       among_join (maybe_uses (over_maybe e ps)) (aggregate_uses (over_aggregates rest (after_maybe e ps))) xs
       (found_maybe e (aggregate_exprs rest ++ fs) ps k g.0)
@@ -111,7 +111,7 @@ module _ (xs : List Ident) where
       → Found (input_uses n) → Found (input_uses (over_exprs n ps))
   found_input (EnumerateCollection x) ps h i f = f
   found_input (Index x index equal last ordered) ps h i f =
-      let filters = maybe_parts x.filter in
+      let filters = maybe_children x.filter in
       let qs = after_list equal ps in
       let g = among_split (all_uses equal) (last_uses last) xs f in
       among_join (all_uses (over_list equal ps)) (last_uses (over_last last qs)) xs
@@ -119,12 +119,12 @@ module _ (xs : List Ident) where
       (found_last last filters qs (after_list_left StandsFor equal (last_exprs last ++ filters) ps h) g.1)
   found_input (EnumerateList x e) ps h i f = found_expr e [] ps h f
   found_input (Traversal w e colls prune keep) ps h i f =
-      found_expr e (maybe_parts prune ++ maybe_parts keep) ps h f
+      found_expr e (maybe_children prune ++ maybe_children keep) ps h f
   found_input (Calculation x e) ps h i f = found_expr e [] ps h f
   found_input (Subquery x s) ps h i f = f
   found_input (Filter e) ps h i f = found_expr e [] ps h f
   found_input (Sort directions es n) ps h i f =
-      found_list es [] ps (alone StandsFor (list_parts es) ps h) f
+      found_list es [] ps (alone StandsFor (list_children es) ps h) f
   found_input (Limit offset count) ps h i f = f
   found_input (Collect ys es gs j stage.Whole) ps h i f =
       let qs = after_list es ps in
@@ -151,9 +151,9 @@ module _ (xs : List Ident) where
   found_filter : (n : Node) (ps : List ExprTree) → AllStand (node_exprs n) ps
       → Found (filter_uses n) → Found (filter_uses (over_exprs n ps))
   found_filter (EnumerateCollection x) ps h f =
-      found_maybe x.filter [] ps (alone StandsFor (maybe_parts x.filter) ps h) f
+      found_maybe x.filter [] ps (alone StandsFor (maybe_children x.filter) ps h) f
   found_filter (Index x index equal last ordered) ps h f =
-      let filters = maybe_parts x.filter in
+      let filters = maybe_children x.filter in
       let qs = after_list equal ps in
       let rs = after_last last qs in
       let k = after_list_left StandsFor equal (last_exprs last ++ filters) ps h in
@@ -161,13 +161,13 @@ module _ (xs : List Ident) where
       found_maybe x.filter [] rs (alone StandsFor filters rs l) f
   found_filter (Traversal w e colls prune keep) ps h f =
       let qs = after_first ps in
-      let k = rest_related StandsFor e (maybe_parts prune ++ maybe_parts keep) ps h in
+      let k = rest_related StandsFor e (maybe_children prune ++ maybe_children keep) ps h in
       let rs = after_maybe prune qs in
-      let l = after_maybe_related StandsFor prune (maybe_parts keep) qs k in
+      let l = after_maybe_related StandsFor prune (maybe_children keep) qs k in
       let g = among_split (maybe_uses prune) (maybe_uses keep) xs f in
       among_join (maybe_uses (over_maybe prune qs)) (maybe_uses (over_maybe keep rs)) xs
-      (found_maybe prune (maybe_parts keep) qs k g.0)
-      (found_maybe keep [] rs (alone StandsFor (maybe_parts keep) rs l) g.1)
+      (found_maybe prune (maybe_children keep) qs k g.0)
+      (found_maybe keep [] rs (alone StandsFor (maybe_children keep) rs l) g.1)
   found_filter n ps h f = f
 
 -- ---- what a node sets

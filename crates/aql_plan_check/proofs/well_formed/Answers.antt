@@ -20,7 +20,7 @@ pub returns-then-not-branch : goal.returns-then-not-branch
 returns-then-not-branch c = not_distinct c.args.facts.now (plan_tree c.args.plan.now)
     (c.sets_numbers.ensures.0 c.if-not-sets_numbers.false)
     (ap (λ (l : List ℕ). are_distinct (variables l)) (sym c.in_ok-vars.ensures ∙ sym c.as_slice-2.ensures)
-    ∙ sym c.in_ok-distinct.ensures ∙ c.if-not-branch.true)
+    ∙ sym c.in_ok-no_duplicates.ensures ∙ c.if-not-branch.true)
 
 pub returns : goal.returns
 returns c =
@@ -32,6 +32,6 @@ returns c =
     (c.has_result.ensures.0 c.if-not-has_result.false)
     (c.sets_numbers.ensures.0 c.if-not-sets_numbers.false)
     (ap (λ (l : List ℕ). are_distinct (variables l)) (sym c.in_ok-vars.ensures ∙ sym c.as_slice-2.ensures)
-    ∙ sym c.in_ok-distinct.ensures ∙ c.if-not-branch.false)
+    ∙ sym c.in_ok-no_duplicates.ensures ∙ c.if-not-branch.false)
     (subst (λ (l : List ℕ). IsTrue r ↔ FindsAll (variables l) p) c.new.ensures.empty h))
     c.result_finds.ensures.found

@@ -3,14 +3,14 @@ use Rattle.std.proofs.Common.{◌≡◌, ◌∙◌, ℕ, List, [], ◌∷◌, �
 use Rattle.std.specs.Prelude.{Option, Some, unwrap_or, option_to_list}
 use Rattle.std.specs.List.{AllZip, AllByRecursion}
 use Rattle.aql_value.specs.Datum.{Datum, null}
-use Rattle.aql_value.specs.Parts.{at_name}
+use Rattle.aql_value.specs.Contents.{at_name}
 use Rattle.aql_tree.specs.declared.syntax.Ident.{Ident}
 use Rattle.aql_meaning.specs.Row.{Row, empty_row, bind, same_ident}
 use Rattle.aql_meaning.specs.Visible.{aggregate_vars, into_var}
-use Rattle.aql_meaning.specs.Uses.{Use, Whole, Part, Uses, AgreeAt, Agree}
+use Rattle.aql_meaning.specs.Uses.{Use, Whole, Attribute, Uses, AgreeAt, Agree}
 use Rattle.aql_meaning.specs.laws.Agrees.{agree_split, value_same}
 use Rattle.aql_plan.specs.Plan.{Plan, Singleton, Over, Node, EnumerateCollection, Index, EnumerateList, Traversal, Calculation, Subquery, Collect}
-use Rattle.aql_plan.specs.Runs.{World, Place, read, Runs, Feeds, Gives}
+use Rattle.aql_plan.specs.Runs.{Dataset, Site, read, Runs, Feeds, Gives}
 use Rattle.aql_plan.specs.Renaming.{PlanSets, NodeSets}
 use Rattle.aql_plan.specs.Needs.{under, needs}
 use Rattle.aql_plan_laws.specs.laws.Lists.{related_self}
@@ -25,7 +25,7 @@ agree_join (u ∷ us) vs r s h k = (h.0, agree_join us vs r s h.1 k)
 pub agree_self : (us : Uses) (r : Row) → Agree us r r
 agree_self [] r = tt
 agree_self (Whole x ∷ us) r = (refl, agree_self us r)
-agree_self (Part x name ∷ us) r = (refl, agree_self us r)
+agree_self (Attribute x name ∷ us) r = (refl, agree_self us r)
 
 agree_at_bind : (u : Use) (x : Ident) (r s : Row) (v : Datum) → AgreeAt u r s
     → AgreeAt u (bind x r v) (bind x s v)
@@ -34,7 +34,7 @@ agree_at_bind (Whole y) x r s v h = by (same_ident x y)
     by : (b : Bool) → unwrap_or (cond b (Some v) (r y)) null ≡ unwrap_or (cond b (Some v) (s y)) null
     by true = refl
     by false = h
-agree_at_bind (Part y name) x r s v h = by (same_ident x y)
+agree_at_bind (Attribute y name) x r s v h = by (same_ident x y)
   where
     by : (b : Bool)
         → at_name (unwrap_or (cond b (Some v) (r y)) null) name
@@ -49,7 +49,7 @@ agree_bind (u ∷ us) x r s v h = (agree_at_bind u x r s v h.0, agree_bind us x 
 
 agree_at_through : (u : Use) (q r s : Row) → AgreeAt u q r → AgreeAt u r s → AgreeAt u q s
 agree_at_through (Whole x) q r s h k = h ∙ k
-agree_at_through (Part x name) q r s h k = h ∙ k
+agree_at_through (Attribute x name) q r s h k = h ∙ k
 
 pub agree_through : (us : Uses) (q r s : Row) → Agree us q r → Agree us r s → Agree us q s
 agree_through [] q r s h k = tt
@@ -94,17 +94,17 @@ mutual
   node_clear n = tt
 
 -- the same place, with rows that agree
-abbrev pub AgreePlace : Uses → Place → Place → Type 0
+abbrev pub AgreePlace : Uses → Site → Site → Type 0
 AgreePlace = SamePlace (λ e. e) Any Agree agreement tt
 
-pub runs_agree : (p : Plan) (us : Uses) (w : World) (k l : Place) (r s : Row) (out : List Row)
+pub runs_agree : (p : Plan) (us : Uses) (w : Dataset) (k l : Site) (r s : Row) (out : List Row)
     → AgreePlace (foot_uses p us) k l → Agree (needs p us) r s → Runs p w k r out
     → (more : List Row) × Runs p w l s more × AllZip (Agree us) out more
 runs_agree p us w k l r s out place h g =
     runs_alike (λ e. e) Any Agree agreement tt p (plan_clear p) us w k l r s out place h
     (subst (λ (q : Plan). Runs q w k r out) (sym (plan_same p)) g)
 
-pub feeds_agree : (p : Plan) (us : Uses) (w : World) (r s : Row) (taken : List Row)
+pub feeds_agree : (p : Plan) (us : Uses) (w : Dataset) (r s : Row) (taken : List Row)
     → Agree (needs p us) r s → Feeds p w r taken
     → (more : List Row) × Feeds p w s more × AllZip (Agree (foot_uses p us)) taken more
 feeds_agree p us w r s taken h g =
@@ -112,7 +112,7 @@ feeds_agree p us w r s taken h g =
     (subst (λ (q : Plan). Feeds q w r taken) (sym (plan_same p)) g)
 
 -- a node gives alike lists for alike inputs at one place, from one start row
-pub gives_agree : (n : Node) (us : Uses) (w : World) (k l : Place) (start : Row)
+pub gives_agree : (n : Node) (us : Uses) (w : Dataset) (k l : Site) (start : Row)
     → ((coll : ℕ) (shard : Option ℕ) → read w coll shard k ≡ read w coll shard l)
     → (rows others out : List Row) → AllZip (Agree (under n us)) rows others → Gives n w k start rows out
     → (more : List Row) × Gives n w l start others more × AllZip (Agree us) out more

@@ -5,7 +5,7 @@ use Rattle.std.specs.Prelude.{Option, Some, None, ◌==◌}
 use Rattle.std.specs.Ordering.{is_lt}
 use Rattle.std.specs.List.{AllZip}
 use Rattle.aql_value.specs.Datum.{null}
-use Rattle.aql_value.specs.Parts.{list}
+use Rattle.aql_value.specs.Contents.{list}
 use Rattle.aql_value.specs.Database.{Database}
 use Rattle.aql_tree.specs.declared.syntax.Ident.{Ident}
 use Rattle.aql_tree.specs.Tree.{ExprTrees}
@@ -17,11 +17,11 @@ use Rattle.aql_value.specs.Shards.{shard_of}
 use Rattle.aql_plan.specs.declared.facts.Facts.{Facts}
 use Rattle.aql_plan.specs.Facts.{Meets, shards_in}
 use Rattle.aql_plan.specs.Plan.{Plan, Over, Node, Subquery, NoResults, Scatter, Distribute, Gather}
-use Rattle.aql_plan.specs.Runs.{World, Place, Outside, Inside, read, result_of, targets, part_of, Runs, Feeds}
+use Rattle.aql_plan.specs.Runs.{Dataset, Site, Outside, Inside, read, result_of, targets, sent_to, Runs, Feeds}
 use Rattle.aql_meaning.specs.AtRows.{keys_of, row_before}
 use Rattle.aql_plan.specs.Needs.{result_uses, under}
 use Rattle.aql_plan.specs.Above.{raised, input_inside, stands_inside, uses_above}
-use Rattle.aql_plan.specs.Refines.{world, RefinesFor, Refines}
+use Rattle.aql_plan.specs.Refines.{dataset, RefinesFor, Refines}
 use Rattle.aql_plan_laws.specs.laws.Lists.{weaker, map_equal, filter_related, chosen, related_through}
 use Rattle.aql_plan_laws.specs.laws.MergesAlike.{merged_alike}
 use Rattle.aql_plan_laws.specs.laws.Agreement.{agree_through, rows_agree, gives_agree}
@@ -59,7 +59,7 @@ refines_below (Distribute coll es) plain us facts q p h db meets start out g = (
 refines_below (Gather directions es) plain us facts q p h db meets start out g = absurd plain
 refines_below n plain us facts q p h db meets start out g =
     let a = h db meets start g.0 g.1 in
-    let b = gives_agree n us (world facts db) Outside Outside start
+    let b = gives_agree n us (dataset facts db) Outside Outside start
     (λ coll shard. refl) g.0 a.0 out a.2 g.2 in
     (b.0, (a.0, a.1, b.1), b.2)
 
@@ -72,9 +72,9 @@ refines_body x us facts b q p h db meets start out g = (
     g.0,
     g.1,
     weaker
-        (λ row given. (results : List Row) × Runs q (world facts db) Outside row results
+        (λ row given. (results : List Row) × Runs q (dataset facts db) Outside row results
         × (given ≡ bind x row (list (map result_of results))))
-        (λ row given. (results : List Row) × Runs p (world facts db) Outside row results
+        (λ row given. (results : List Row) × Runs p (dataset facts db) Outside row results
         × (given ≡ bind x row (list (map result_of results))))
         (λ row given a.
         let k = h db meets row (map result_of a.0) (a.0, a.1, refl) in
@@ -90,15 +90,15 @@ pub record RefinesInside (us : Uses) (facts : Facts) (q p : Plan) : Type 0 where
   -- what is used of the rows that come to the foot
   pub feet : Uses
   pub feeds : (db : Database) → Meets facts db → (start : Row) (taken : List Row)
-      → Feeds q (world facts db) start taken
-      → (more : List Row) × Feeds p (world facts db) start more × AllZip (Agree feet) taken more
+      → Feeds q (dataset facts db) start taken
+      → (more : List Row) × Feeds p (dataset facts db) start more × AllZip (Agree feet) taken more
   pub runs : (db : Database) → Meets facts db → (start : Row) (shard : ℕ) (taken more out : List Row)
-      → AllZip (Agree feet) taken more → Runs q (world facts db) (Inside shard taken) start out
-      → (other : List Row) × Runs p (world facts db) (Inside shard more) start other
+      → AllZip (Agree feet) taken more → Runs q (dataset facts db) (Inside shard taken) start out
+      → (other : List Row) × Runs p (dataset facts db) (Inside shard more) start other
       × AllZip (Agree us) out other
-  pub shards : (w : World) → targets q w ≡ targets p w
-  pub split : (w : World) (shard : ℕ) (taken more : List Row) → AllZip (Agree feet) taken more
-      → AllZip (Agree feet) (part_of q w shard taken) (part_of p w shard more)
+  pub shards : (w : Dataset) → targets q w ≡ targets p w
+  pub split : (w : Dataset) (shard : ℕ) (taken more : List Row) → AllZip (Agree feet) taken more
+      → AllZip (Agree feet) (sent_to q w shard taken) (sent_to p w shard more)
 
 scatter_stands : (coll : ℕ) (only : Option ℕ) (us : Uses) (facts : Facts) (q p : Plan)
     → RefinesFor us facts q p
@@ -112,7 +112,7 @@ scatter_stands coll only us facts q p h = record {
   split = λ w shard taken more a. a;
 }
   where
-    same : (only : Option ℕ) (w : World)
+    same : (only : Option ℕ) (w : Dataset)
         → targets (Over q (Scatter coll only)) w ≡ targets (Over p (Scatter coll only)) w
     same None w = refl
     same (Some shard) w = refl
@@ -142,21 +142,21 @@ distribute_stands coll es us facts q p h = record {
 -- the lists of the shards, merged
 gather_gives : (directions : List Bool) (es : ExprTrees) (us : Uses) (facts : Facts) (q p : Plan)
     → RefinesInside (all_uses es ++ us) facts q p → (db : Database) → Meets facts db
-    → (k l : Place) (start : Row)
-    → (out : List Row) → Runs (Over q (Gather directions es)) (world facts db) k start out
-    → (other : List Row) × Runs (Over p (Gather directions es)) (world facts db) l start other
+    → (k l : Site) (start : Row)
+    → (out : List Row) → Runs (Over q (Gather directions es)) (dataset facts db) k start out
+    → (other : List Row) × Runs (Over p (Gather directions es)) (dataset facts db) l start other
     × AllZip (Agree us) out other
 gather_gives directions es us facts q p h db meets k l start out g =
     let vs : Uses = all_uses es ++ us in
-    let w = world facts db in
+    let w = dataset facts db in
     let fed = h.feeds db meets start g.0 g.2 in
     let lists = chosen (AllZip (Agree vs))
-    (λ shard rows. Runs q w (Inside shard (part_of q w shard g.0)) start rows)
-    (λ shard rows. Runs p w (Inside shard (part_of p w shard fed.0)) start rows)
-    (λ shard rows run. h.runs db meets start shard (part_of q w shard g.0) (part_of p w shard fed.0) rows
+    (λ shard rows. Runs q w (Inside shard (sent_to q w shard g.0)) start rows)
+    (λ shard rows. Runs p w (Inside shard (sent_to p w shard fed.0)) start rows)
+    (λ shard rows run. h.runs db meets start shard (sent_to q w shard g.0) (sent_to p w shard fed.0) rows
     (h.split w shard g.0 fed.0 fed.2) run) (targets p w) g.1
     (subst (λ (shards : List ℕ). AllZip
-    (λ shard rows. Runs q w (Inside shard (part_of q w shard g.0)) start rows) shards g.1) (h.shards w) g.3)
+    (λ shard rows. Runs q w (Inside shard (sent_to q w shard g.0)) start rows) shards g.1) (h.shards w) g.3)
     in
     let merged = merged_alike (Agree vs) (row_before directions es) (row_before directions es)
     (λ r s x y a c. ap₂ (λ u v. is_lt (keys_cmp directions u v))
@@ -167,7 +167,7 @@ gather_gives directions es us facts q p h db meets k l start out g =
       weaker (Agree vs) (Agree us) (λ r s a. (agree_split (all_uses es) us r s a).1) out merged.0 merged.2,
     )
 
-reads_alike : (w : World) (shard : ℕ) (taken more : List Row) (coll : ℕ) (own : Option ℕ)
+reads_alike : (w : Dataset) (shard : ℕ) (taken more : List Row) (coll : ℕ) (own : Option ℕ)
     → read w coll own (Inside shard taken) ≡ read w coll own (Inside shard more)
 reads_alike w shard taken more coll None = refl
 reads_alike w shard taken more coll (Some s) = refl
@@ -202,8 +202,8 @@ inside_below n us facts q p h = record {
   feeds = h.feeds;
   runs = λ db meets start shard taken more out a g.
       let b = h.runs db meets start shard taken more g.0 a g.1 in
-      let c = gives_agree n us (world facts db) (Inside shard taken) (Inside shard more) start
-      (reads_alike (world facts db) shard taken more) g.0 b.0 out b.2 g.2 in
+      let c = gives_agree n us (dataset facts db) (Inside shard taken) (Inside shard more) start
+      (reads_alike (dataset facts db) shard taken more) g.0 b.0 out b.2 g.2 in
       (c.0, (b.0, b.1, c.1), c.2);
   shards = h.shards;
   split = h.split;

@@ -10,7 +10,7 @@ use Rattle.aql_tree.specs.declared.syntax.Ident.{Ident}
 use Rattle.aql_tree.specs.declared.syntax.Ident.TheVariants.{Num}
 use Rattle.aql_tree.specs.Tree.{ExprTree}
 use Rattle.aql_meaning.specs.Row.{same_ident}
-use Rattle.aql_meaning.specs.Uses.{Use, Whole, Part, Uses, used_variable, uses, all_uses, maybe_uses}
+use Rattle.aql_meaning.specs.Uses.{Use, Whole, Attribute, Uses, used_variable, uses, all_uses, maybe_uses}
 use Rattle.aql_plan.specs.Plan.{Plan, Singleton, Over, Node, EnumerateCollection, Index, Traversal, Subquery, Collect, Return}
 use Rattle.aql_plan.specs.Needs.{sets, last_uses, own_uses, result_uses, under, needs}
 use Rattle.aql_plan.specs.Variables.{filter_uses, input_uses, vars_of, are_among, FindsAll, FindsInside}
@@ -81,10 +81,10 @@ module _ (g : Ident → Ident) where
       let l = and_parts (list_any (same_ident z) xs) (are_among us xs) h in
       and_from (list_any (same_ident (g z)) ys) (are_among (uses_by g us) ys) (k z (first_used z us) l.0)
       (among_stays us xs ys (stays_back (Whole z ∷ []) us xs ys k) l.1)
-  among_stays (Part z name ∷ us) xs ys k h =
+  among_stays (Attribute z name ∷ us) xs ys k h =
       let l = and_parts (list_any (same_ident z) xs) (are_among us xs) h in
       and_from (list_any (same_ident (g z)) ys) (are_among (uses_by g us) ys) (k z (first_used z us) l.0)
-      (among_stays us xs ys (stays_back (Part z name ∷ []) us xs ys k) l.1)
+      (among_stays us xs ys (stays_back (Attribute z name ∷ []) us xs ys k) l.1)
 
   -- ---- what a node uses is used of its input
 
@@ -210,7 +210,7 @@ module _ (f : ExprTree → ExprTree) (g : Ident → Ident) (result : IsKept g (N
 same_uses : (us : Uses) → us ≡ uses_by (λ z. z) us
 same_uses [] = refl
 same_uses (Whole z ∷ us) = ap (λ (vs : Uses). Whole z ∷ vs) (same_uses us)
-same_uses (Part z name ∷ us) = ap (λ (vs : Uses). Part z name ∷ vs) (same_uses us)
+same_uses (Attribute z name ∷ us) = ap (λ (vs : Uses). Attribute z name ∷ vs) (same_uses us)
 
 pub node_still : (us : Uses) (xs ys : List Ident) (n : Node) → StaysAmong (λ z. z) (under n us) xs ys
     → NodeFinds xs n → NodeFinds ys n

@@ -4,7 +4,7 @@ use mathlib.Core.Path.{fun_ext}
 use Rattle.std.specs.Prelude.{Option, Some, None, option_to_list, filter}
 use Rattle.std.specs.List.{AllZip, AllByRecursion}
 use Rattle.aql_value.specs.Datum.{Datum}
-use Rattle.aql_value.specs.Parts.{list, elements}
+use Rattle.aql_value.specs.Contents.{list, elements}
 use Rattle.aql_value.specs.Truth.{truth}
 use Rattle.aql_value.specs.Database.{Database}
 use Rattle.aql_func.specs.Objects.{id_text}

@@ -3,7 +3,7 @@
 use Rattle.std.proofs.Common.{◌≡◌, ◌∙◌, [], ◌∷◌, map, Bool, true, false, cond, refl, ap, ap₂, sym, subst}
 use Rattle.std.specs.Prelude.{Some, None, unwrap_or}
 use Rattle.aql_value.specs.Datum.{Datum, null, boolean}
-use Rattle.aql_value.specs.Parts.{list, elements, at_name, at_value}
+use Rattle.aql_value.specs.Contents.{list, elements, at_name, at_value}
 use Rattle.aql_value.specs.Convert.{to_number, to_text}
 use Rattle.aql_value.specs.Truth.{truth}
 use Rattle.aql_func.specs.Operators.{binary, unary, range}
@@ -14,8 +14,8 @@ use Rattle.aql_meaning.specs.Row.{Row, empty_row, bind, value_at, same_ident}
 use Rattle.aql_meaning.specs.Expressions.{quantify, object_value}
 use Rattle.aql_meaning.specs.Clauses.{filter_true}
 use Rattle.aql_meaning.specs.Value.{value, values, value_or, members, steps_value, links_value}
-use Rattle.aql_meaning.specs.Places.{put, put_all, put_maybe, put_members, put_steps, put_links}
-use Rattle.aql_meaning.specs.Uses.{Use, Whole, Part, Uses, AgreeAt, Agree}
+use Rattle.aql_meaning.specs.Substitution.{put, put_all, put_maybe, put_members, put_steps, put_links}
+use Rattle.aql_meaning.specs.Uses.{Use, Whole, Attribute, Uses, AgreeAt, Agree}
 use Rattle.aql_meaning.specs.laws.Agrees.{agree_split, map_same, value_same}
 use Rattle.aql_meaning.specs.laws.Rows.{binds_swap}
 use Rattle.aql_plan.specs.Renaming.{IsOther, renamed}
@@ -126,7 +126,7 @@ module _ (x y : Ident) where
       by : (b : Bool) → unwrap_or (cond b (Some null) None) null ≡ null
       by true = refl
       by false = refl
-  empty_at (Part z name) = by (same_ident x z)
+  empty_at (Attribute z name) = by (same_ident x z)
     where
       by : (b : Bool) → at_name (unwrap_or (cond b (Some null) None) null) name ≡ at_name null name
       by true = refl

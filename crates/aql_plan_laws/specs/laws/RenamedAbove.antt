@@ -4,20 +4,20 @@ use Rattle.std.proofs.Common.{◌≡◌, ◌∙◌, List, [], ◌∷◌, Bool, t
 use Rattle.std.specs.Prelude.{Option, Some, unwrap_or, ◌||◌}
 use Rattle.std.specs.List.{AllZip}
 use Rattle.aql_value.specs.Datum.{Datum, null}
-use Rattle.aql_value.specs.Parts.{at_name}
+use Rattle.aql_value.specs.Contents.{at_name}
 use Rattle.aql_value.specs.Database.{Database}
 use Rattle.aql_tree.specs.declared.syntax.Ident.{Ident}
 use Rattle.aql_tree.specs.declared.syntax.Ident.TheVariants.{Num}
 use Rattle.aql_tree.specs.Tree.{variable}
 use Rattle.aql_meaning.specs.Row.{Row, value_at, same_ident}
-use Rattle.aql_meaning.specs.Places.{put}
-use Rattle.aql_meaning.specs.Uses.{Whole, Part, Uses, Agree}
+use Rattle.aql_meaning.specs.Substitution.{put}
+use Rattle.aql_meaning.specs.Uses.{Whole, Attribute, Uses, Agree}
 use Rattle.aql_plan.specs.declared.facts.Facts.{Facts}
 use Rattle.aql_plan.specs.Facts.{Meets}
 use Rattle.aql_plan.specs.Plan.{Plan, Over, Node, Collect, NoResults, Scatter, Distribute, Gather}
 use Rattle.aql_plan.specs.Runs.{Outside, result_of, Runs}
 use Rattle.aql_plan.specs.Needs.{result_uses, under}
-use Rattle.aql_plan.specs.Refines.{world, Refines}
+use Rattle.aql_plan.specs.Refines.{dataset, Refines}
 use Rattle.aql_plan_laws.specs.laws.Lists.{map_equal}
 use Rattle.aql_plan_laws.specs.laws.RunsAlike.{StartsAlike, gives_alike}
 use Rattle.aql_plan.specs.Renaming.{NodeSets, IsOther, renamed_node, renamed, RefinesRenamed, is_used, IsGoneAfter}
@@ -41,7 +41,7 @@ module _ (x y : Ident) where
             (unset (same_ident x z) k.0 (Some (value_at row y)) (row z)),
         unused_agree us k.1 row,
       )
-  unused_agree (Part z name ∷ us) h row =
+  unused_agree (Attribute z name ∷ us) h row =
       let k = unused_front (same_ident x z) (is_used x y us) h in (
         ap (λ (o : Option Datum). at_name (unwrap_or o null) name)
             (unset (same_ident x z) k.0 (Some (value_at row y)) (row z)),
@@ -68,7 +68,7 @@ module _ (x y : Ident) where
   renamed_below n plain clear free us unused facts q p h db meets start out g =
       let a = h db meets start g.0 g.1 in
       let b = gives_alike (put x (variable y)) (IsOther x y) (Renamed x y) (renaming x y) free n clear us
-      (world facts db) Outside Outside start start (starts us n unused start free) (λ coll shard. refl)
+      (dataset facts db) Outside Outside start start (starts us n unused start free) (λ coll shard. refl)
       g.0 a.0 out a.2 g.2 in
       (b.0, (a.0, a.1, b.1), b.2)
 

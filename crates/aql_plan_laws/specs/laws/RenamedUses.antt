@@ -5,14 +5,14 @@ use Rattle.std.proofs.lemmas.List.{map-append}
 use Rattle.aql_tree.specs.declared.syntax.Ident.{Ident}
 use Rattle.aql_tree.specs.Tree.{ExprTree, literal, variable, current, array_literal, object_literal, access, function_call, unary_of, chain, array_comparison, ternary, range_of, subquery, ExprTrees, no_exprs, expr_then, MaybeExpr, no_expr, one_expr, MemberTrees, no_members, named_then, computed_then, StepTrees, no_steps, name_then, at_then, inline_then, LinkTrees, no_links, link_then}
 use Rattle.aql_meaning.specs.Row.{same_ident}
-use Rattle.aql_meaning.specs.Places.{put, put_all, put_maybe, put_members, put_steps, put_links}
+use Rattle.aql_meaning.specs.Substitution.{put, put_all, put_maybe, put_members, put_steps, put_links}
 use Rattle.aql_meaning.specs.Plain.{IsPlain, AllPlain, MaybePlain, MembersPlain, StepsPlain, LinksPlain}
-use Rattle.aql_meaning.specs.Uses.{Use, Whole, Part, Uses, uses, all_uses, maybe_uses, member_uses, step_uses, link_uses}
+use Rattle.aql_meaning.specs.Uses.{Use, Whole, Attribute, Uses, uses, all_uses, maybe_uses, member_uses, step_uses, link_uses}
 
 -- what is used, each variable under its name by g
 abbrev pub use_by : (Ident → Ident) → Use → Use
 use_by g (Whole z) = Whole (g z)
-use_by g (Part z name) = Part (g z) name
+use_by g (Attribute z name) = Attribute (g z) name
 
 abbrev pub uses_by : (Ident → Ident) → Uses → Uses
 uses_by g us = map (use_by g) us
@@ -23,7 +23,7 @@ joined_by g us vs h k = ap₂ (λ (s t : Uses). s ++ t) h k ∙ sym (map-append 
 
 -- what an access to a variable uses
 abbrev access_uses : Ident → StepTrees → Uses
-access_uses z (name_then name ss) = Part z name ∷ step_uses ss
+access_uses z (name_then name ss) = Attribute z name ∷ step_uses ss
 access_uses z ss = Whole z ∷ step_uses ss
 
 module _ (x y : Ident) where
@@ -51,7 +51,7 @@ module _ (x y : Ident) where
     uses_renamed (object_literal ms) = members_renamed ms
     uses_renamed (access (variable z) (name_then name ss)) =
         at_access (same_ident x z) z (name_then name (put_steps x (variable y) ss))
-        ∙ ap (λ (us : Uses). Part (goes_by z) name ∷ us) (steps_renamed ss)
+        ∙ ap (λ (us : Uses). Attribute (goes_by z) name ∷ us) (steps_renamed ss)
     uses_renamed (access (variable z) ss) =
         at_access (same_ident x z) z (put_steps x (variable y) ss)
         ∙ ap (λ (us : Uses). Whole (goes_by z) ∷ us) (steps_renamed ss)

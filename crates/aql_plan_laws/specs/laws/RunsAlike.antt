@@ -7,7 +7,7 @@ use Rattle.std.specs.Prelude.{Option, Some, None, option_to_list, filter, ◌==�
 use Rattle.std.specs.Ordering.{is_lt}
 use Rattle.std.specs.List.{AllZip, AllByRecursion}
 use Rattle.aql_value.specs.Datum.{Datum}
-use Rattle.aql_value.specs.Parts.{list}
+use Rattle.aql_value.specs.Contents.{list}
 use Rattle.aql_tree.specs.declared.syntax.Ident.{Ident}
 use Rattle.aql_tree.specs.declared.syntax.Ident.TheVariants.{Num}
 use Rattle.aql_tree.specs.Tree.{ExprTree, ExprTrees, AggregateTrees, IntoTree}
@@ -23,7 +23,7 @@ use Rattle.aql_meaning.specs.Documents.{Last, last_map, in_bounds}
 use Rattle.aql_meaning.specs.Stages.{stage_functions, grouped_row_at}
 use Rattle.aql_plan.specs.Facts.{shards_in, attributes_in}
 use Rattle.aql_plan.specs.Plan.{Reading, Plan, Singleton, Over, Node, EnumerateCollection, Index, EnumerateList, Traversal, Calculation, Subquery, Filter, Sort, Limit, Collect, Return, NoResults, Scatter, Distribute, Remote, Gather}
-use Rattle.aql_plan.specs.Runs.{World, Place, Outside, Inside, read, read_in_bounds, Indexed, edges_in, result_row, result_of, targets, part_of, came, Runs, Feeds, Gives}
+use Rattle.aql_plan.specs.Runs.{Dataset, Site, Outside, Inside, read, read_in_bounds, Indexed, edges_in, result_row, result_of, targets, sent_to, came, Runs, Feeds, Gives}
 use Rattle.aql_meaning.specs.AtRows.{value_of, values_of, keys_of, passes, stops, row_before}
 use Rattle.aql_meaning.specs.Stages.{Grouped}
 use Rattle.aql_meaning.specs.Clauses.{first_rows}
@@ -48,13 +48,13 @@ module _ (f : ExprTree → ExprTree) (Free : Ident → Type 0) (S : Uses → Row
     (carry : Carries f Free S) (zero_free : Free (Num 0)) where
   -- ---- places
 
-  abbrev pub SamePlace : Uses → Place → Place → Type 0
+  abbrev pub SamePlace : Uses → Site → Site → Type 0
   SamePlace us Outside Outside = Unit {0}
   SamePlace us Outside (Inside t others) = ⊥
   SamePlace us (Inside s rows) Outside = ⊥
   SamePlace us (Inside s rows) (Inside t others) = (s ≡ t) × AllZip (S us) rows others
 
-  read_same : (us : Uses) (w : World) (k l : Place) → SamePlace us k l → (coll : ℕ) (shard : Option ℕ)
+  read_same : (us : Uses) (w : Dataset) (k l : Site) → SamePlace us k l → (coll : ℕ) (shard : Option ℕ)
       → read w coll shard k ≡ read w coll shard l
   read_same us w k l h coll (Some s) = refl
   read_same us w Outside Outside h coll None = refl
@@ -63,7 +63,7 @@ module _ (f : ExprTree → ExprTree) (Free : Ident → Type 0) (S : Uses → Row
   read_same us w (Inside s rows) (Inside t others) h coll None =
       ap (λ n. read w coll None (Inside n rows)) h.0
 
-  came_related : (us : Uses) (k l : Place) → SamePlace us k l → AllZip (S us) (came k) (came l)
+  came_related : (us : Uses) (k l : Site) → SamePlace us k l → AllZip (S us) (came k) (came l)
   came_related us Outside Outside h = tt
   came_related us Outside (Inside t others) h = absurd h
   came_related us (Inside s rows) Outside h = absurd h
@@ -92,16 +92,16 @@ module _ (f : ExprTree → ExprTree) (Free : Ident → Type 0) (S : Uses → Row
 
   -- ---- the shards of a fragment
 
-  targets_same : (p : Plan) (w : World) → targets (map_plan f p) w ≡ targets p w
+  targets_same : (p : Plan) (w : Dataset) → targets (map_plan f p) w ≡ targets p w
   targets_same Singleton w = refl
   targets_same (Over b (Scatter coll (Some shard))) w = refl
   targets_same (Over b (Scatter coll None)) w = refl
   targets_same (Over b (Distribute coll es)) w = refl
   targets_same (Over b n) w = targets_same b w
 
-  part_related : (p : Plan) (us : Uses) (w : World) (shard : ℕ) (rows others : List Row)
+  part_related : (p : Plan) (us : Uses) (w : Dataset) (shard : ℕ) (rows others : List Row)
       → AllZip (S (foot_uses p us)) rows others
-      → AllZip (S (foot_uses p us)) (part_of (map_plan f p) w shard rows) (part_of p w shard others)
+      → AllZip (S (foot_uses p us)) (sent_to (map_plan f p) w shard rows) (sent_to p w shard others)
   part_related Singleton us w shard rows others h = h
   part_related (Over b (Scatter coll only)) us w shard rows others h = h
   part_related (Over b (Distribute coll es)) us w shard rows others h =
@@ -115,7 +115,7 @@ module _ (f : ExprTree → ExprTree) (Free : Ident → Type 0) (S : Uses → Row
 
   -- ---- nodes of more than one line
 
-  bounds_same : (us : Uses) (w : World) (k l : Place)
+  bounds_same : (us : Uses) (w : Dataset) (k l : Site)
       → ((coll : ℕ) (shard : Option ℕ) → read w coll shard k ≡ read w coll shard l)
       → (x : Reading) (index : ℕ) (equal : ExprTrees) (last : Last ExprTree) (r s : Row)
       → S (all_uses equal) r s → S (last_uses last) r s
@@ -127,7 +127,7 @@ module _ (f : ExprTree → ExprTree) (Free : Ident → Type 0) (S : Uses → Row
       ∙ ap (filter (in_bounds (attributes_in w.facts x.coll index) (keys_of equal s)
       (last_map (λ e. value_of e s) last))) (reads x.coll x.shard)
 
-  indexed_alike : (us : Uses) (w : World) (k l : Place)
+  indexed_alike : (us : Uses) (w : Dataset) (k l : Site)
       → ((coll : ℕ) (shard : Option ℕ) → read w coll shard k ≡ read w coll shard l)
       → (x : Reading) → Free x.var → (index : ℕ) (equal : ExprTrees) (last : Last ExprTree)
       → (ordered : Option Bool) (rows others out : List Row)
@@ -198,7 +198,7 @@ module _ (f : ExprTree → ExprTree) (Free : Ident → Type 0) (S : Uses → Row
   StartsAlike us n start other = Unit {0}
 
   mutual
-    pub runs_alike : (p : Plan) → PlanSets Free p → (us : Uses) (w : World) (k l : Place) (r s : Row)
+    pub runs_alike : (p : Plan) → PlanSets Free p → (us : Uses) (w : Dataset) (k l : Site) (r s : Row)
         → (out : List Row) → SamePlace (foot_uses p us) k l → S (needs p us) r s
         → Runs (map_plan f p) w k r out
         → (more : List Row) × Runs p w l s more × AllZip (S us) out more
@@ -213,13 +213,13 @@ module _ (f : ExprTree → ExprTree) (Free : Ident → Type 0) (S : Uses → Row
         let vs : Uses = all_uses es ++ us in
         let fed = feeds_alike b clear.0 vs w r s g.0 h g.2 in
         let lists = chosen (AllZip (S vs))
-        (λ shard rows. Runs (map_plan f b) w (Inside shard (part_of (map_plan f b) w shard g.0)) r rows)
-        (λ shard rows. Runs b w (Inside shard (part_of b w shard fed.0)) s rows)
-        (λ shard rows run. runs_alike b clear.0 vs w (Inside shard (part_of (map_plan f b) w shard g.0))
-        (Inside shard (part_of b w shard fed.0)) r s rows
+        (λ shard rows. Runs (map_plan f b) w (Inside shard (sent_to (map_plan f b) w shard g.0)) r rows)
+        (λ shard rows. Runs b w (Inside shard (sent_to b w shard fed.0)) s rows)
+        (λ shard rows run. runs_alike b clear.0 vs w (Inside shard (sent_to (map_plan f b) w shard g.0))
+        (Inside shard (sent_to b w shard fed.0)) r s rows
         (refl, part_related b vs w shard g.0 fed.0 fed.2) h run) (targets b w) g.1
         (subst (λ (shards : List ℕ). AllZip
-        (λ shard rows. Runs (map_plan f b) w (Inside shard (part_of (map_plan f b) w shard g.0)) r rows)
+        (λ shard rows. Runs (map_plan f b) w (Inside shard (sent_to (map_plan f b) w shard g.0)) r rows)
         shards g.1) (targets_same b w) g.3) in
         let merged = merged_alike (S vs) (row_before directions (map_exprs f es)) (row_before directions es)
         (λ q t x y a c. ap₂ (λ u v. is_lt (keys_cmp directions u v))
@@ -239,7 +239,7 @@ module _ (f : ExprTree → ExprTree) (Free : Ident → Type 0) (S : Uses → Row
         g.0 rows.0 out rows.2 g.2 in
         (given.0, (rows.0, rows.1, given.1), given.2)
 
-    pub feeds_alike : (p : Plan) → PlanSets Free p → (us : Uses) (w : World) (r s : Row) (taken : List Row)
+    pub feeds_alike : (p : Plan) → PlanSets Free p → (us : Uses) (w : Dataset) (r s : Row) (taken : List Row)
         → S (needs p us) r s → Feeds (map_plan f p) w r taken
         → (more : List Row) × Feeds p w s more × AllZip (S (foot_uses p us)) taken more
     feeds_alike Singleton clear us w r s taken h g = by_function us taken [] [] g tt
@@ -252,7 +252,8 @@ module _ (f : ExprTree → ExprTree) (Free : Ident → Type 0) (S : Uses → Row
         (carry.parts (needs b (own_uses (Collect xs es gs i t))) us r s h).0 g
     feeds_alike (Over b n) clear us w r s taken h g = feeds_alike b clear.0 (under n us) w r s taken h g
 
-    pub gives_alike : (n : Node) → NodeSets Free n → (us : Uses) (w : World) (k l : Place) (start other : Row)
+    pub gives_alike : (n : Node) → NodeSets Free n
+        → (us : Uses) (w : Dataset) (k l : Site) (start other : Row)
         → StartsAlike us n start other
         → ((coll : ℕ) (shard : Option ℕ) → read w coll shard k ≡ read w coll shard l)
         → (rows others out : List Row) → AllZip (S (under n us)) rows others

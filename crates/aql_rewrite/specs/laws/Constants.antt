@@ -3,7 +3,7 @@ use Rattle.std.proofs.Common.{◌≡◌, ◌∙◌, List, [], ◌∷◌, ◌++�
 use Rattle.std.proofs.Common.{ap₂}
 use Rattle.std.specs.List.{AllByRecursion}
 use Rattle.aql_value.specs.Datum.{Datum, boolean}
-use Rattle.aql_value.specs.Parts.{list, elements, at_name, at_value}
+use Rattle.aql_value.specs.Contents.{list, elements, at_name, at_value}
 use Rattle.aql_value.specs.Convert.{to_number, to_text}
 use Rattle.aql_value.specs.Truth.{truth}
 use Rattle.aql_func.specs.Operators.{binary, unary, range}
@@ -21,7 +21,7 @@ use Rattle.aql_meaning.specs.Clauses.{filter_true}
 use Rattle.aql_meaning.specs.Plain.{IsPlain}
 use Rattle.aql_meaning.specs.Value.{value, values, value_or, members, steps_value, links_value}
 use Rattle.aql_meaning.specs.laws.Agrees.{map_same}
-use Rattle.aql_rewrite.specs.Parts.{list_parts, maybe_parts, member_parts, step_parts, link_parts, parts}
+use Rattle.aql_rewrite.specs.Children.{list_children, maybe_children, member_children, step_children, link_children, children}
 use Rattle.aql_rewrite.specs.Constant.{is_open, IsConstant, constant, AreConstant, no_more}
 use Rattle.aql_rewrite.specs.Constant.{constant_then, HasOneValue}
 use Rattle.aql_rewrite.specs.Keeps.{variables}
@@ -69,11 +69,11 @@ EachOne = AllByRecursion HasOneValue
 
 -- two values of CURRENT, and two rows
 module _ (cur other : Datum) (row start : Row) where
-  one_of_list : (es : ExprTrees) → EachOne (list_parts es) → values es cur row ≡ values es other start
+  one_of_list : (es : ExprTrees) → EachOne (list_children es) → values es cur row ≡ values es other start
   one_of_list no_exprs h = refl
   one_of_list (expr_then e es) h = ap₂ (λ v vs. v ∷ vs) (h.0 cur other row start) (one_of_list es h.1)
 
-  one_of_members : (ms : MemberTrees) → EachOne (member_parts ms)
+  one_of_members : (ms : MemberTrees) → EachOne (member_children ms)
       → members ms cur row ≡ members ms other start
   one_of_members no_members h = refl
   one_of_members (named_then name e ms) h =
@@ -82,23 +82,24 @@ module _ (cur other : Datum) (row start : Row) where
       (ap₂ (λ a b. (to_text a, b)) (h.0 cur other row start) (h.1.0 cur other row start))
       (one_of_members ms h.1.1)
 
-  one_of_links : (ls : LinkTrees) → EachOne (link_parts ls) → (a : Datum)
+  one_of_links : (ls : LinkTrees) → EachOne (link_children ls) → (a : Datum)
       → links_value ls cur row a ≡ links_value ls other start a
   one_of_links no_links h a = refl
   one_of_links (link_then op e ls) h a =
       ap (λ b. links_value ls cur row (binary op a b)) (h.0 cur other row start)
       ∙ one_of_links ls h.1 (binary op a (value e other start))
 
-rest_of_maybe : (e : MaybeExpr) (es : List ExprTree) → EachOne (maybe_parts e ++ es) → EachOne es
+rest_of_maybe : (e : MaybeExpr) (es : List ExprTree) → EachOne (maybe_children e ++ es) → EachOne es
 rest_of_maybe no_expr es h = h
 rest_of_maybe (one_expr e) es h = h.1
 
-one_of_maybe : (e : MaybeExpr) (es : List ExprTree) → EachOne (maybe_parts e ++ es)
+one_of_maybe : (e : MaybeExpr) (es : List ExprTree) → EachOne (maybe_children e ++ es)
     → (cur other : Datum) (row start : Row) (d : Datum) → value_or e cur row d ≡ value_or e other start d
 one_of_maybe no_expr es h cur other row start d = refl
 one_of_maybe (one_expr e) es h cur other row start d = h.0 cur other row start
 
-one_of_steps : (ss : StepTrees) → EachOne (step_parts ss) → (cur other : Datum) (row start : Row) (d : Datum)
+one_of_steps : (ss : StepTrees) → EachOne (step_children ss)
+    → (cur other : Datum) (row start : Row) (d : Datum)
     → steps_value ss cur row d ≡ steps_value ss other start d
 one_of_steps no_steps h cur other row start d = refl
 one_of_steps (name_then name ss) h cur other row start d =
@@ -107,21 +108,21 @@ one_of_steps (at_then e ss) h cur other row start d =
     ap (λ i. steps_value ss cur row (at_value d i)) (h.0 cur other row start)
     ∙ one_of_steps ss h.1 cur other row start (at_value d (value e other start))
 one_of_steps (inline_then filter gives ss) h cur other row start d =
-    let k = rest_of_maybe filter (maybe_parts gives ++ step_parts ss) h in
-    let l = rest_of_maybe gives (step_parts ss) k in
+    let k = rest_of_maybe filter (maybe_children gives ++ step_children ss) h in
+    let l = rest_of_maybe gives (step_children ss) k in
     ap list (
     ap (λ ts. map (λ w. steps_value ss cur row w) (map (λ c. value_or gives c row c)
     (filter_true (elements d) ts)))
     (map_same (λ c. value_or filter c row (boolean true)) (λ c. value_or filter c start (boolean true))
-    (λ c. one_of_maybe filter (maybe_parts gives ++ step_parts ss) h c c row start (boolean true))
+    (λ c. one_of_maybe filter (maybe_children gives ++ step_children ss) h c c row start (boolean true))
     (elements d))
     ∙ ap (map (λ w. steps_value ss cur row w))
     (map_same (λ c. value_or gives c row c) (λ c. value_or gives c start c)
-    (λ c. one_of_maybe gives (step_parts ss) k c c row start c) _)
+    (λ c. one_of_maybe gives (step_children ss) k c c row start c) _)
     ∙ map_same (λ w. steps_value ss cur row w) (λ w. steps_value ss other start w)
     (λ w. one_of_steps ss l cur other row start w) _)
 
-one_of_parts : (e : ExprTree) → is_open e ≡ false → EachOne (parts e) → HasOneValue e
+one_of_parts : (e : ExprTree) → is_open e ≡ false → EachOne (children e) → HasOneValue e
 one_of_parts (literal v) f h cur other row start = refl
 one_of_parts (variable x) f h cur other row start = absurd (true≢false f)
 one_of_parts current f h cur other row start = absurd (true≢false f)

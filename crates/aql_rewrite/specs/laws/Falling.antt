@@ -3,7 +3,7 @@ use Rattle.std.proofs.Common.{◌≡◌, ℕ, ◌+◌, ◌<◌, false, [], refl,
 use Rattle.std.specs.Prelude.{Option, Some, None}
 use Rattle.aql_tree.specs.declared.syntax.Ident.TheVariants.{Num}
 use Rattle.aql_tree.specs.Tree.{ExprTree, variable}
-use Rattle.aql_meaning.specs.Places.{put}
+use Rattle.aql_meaning.specs.Substitution.{put}
 use Rattle.aql_meaning.specs.Uses.{Uses}
 use Rattle.aql_plan.specs.declared.facts.Facts.{Facts}
 use Rattle.aql_plan.specs.Plan.{Plan, Singleton, Over, Node, Subquery}

@@ -4,10 +4,10 @@ use Rattle.std.specs.List.{AllZip}
 use Rattle.aql_tree.specs.Tree.{ExprTree, literal, variable, current, array_literal, object_literal, access}
 use Rattle.aql_tree.specs.Tree.{function_call, unary_of, chain, array_comparison, ternary, range_of, subquery}
 use Rattle.aql_meaning.specs.laws.Replaced.{all_map}
-use Rattle.aql_rewrite.specs.Parts.{parts}
-use Rattle.aql_rewrite.specs.OverParts.{over_parts}
-use Rattle.aql_rewrite.specs.FirstPart.{FirstIn, in_part, at_whole}
-use Rattle.aql_rewrite.specs.FirstPart.{FirstOf, first, later}
+use Rattle.aql_rewrite.specs.Children.{children}
+use Rattle.aql_rewrite.specs.OverChildren.{over_children}
+use Rattle.aql_rewrite.specs.FirstInExpr.{FirstIn, in_child, at_whole}
+use Rattle.aql_rewrite.specs.FirstInExpr.{FirstOf, first, later}
 use Rattle.aql_rewrite.specs.Keeps.{Keeps}
 use Rattle.aql_rewrite.specs.Size.{size, size_all}
 use Rattle.aql_rewrite.specs.ExprView.{each_over}
@@ -40,7 +40,7 @@ each_same [] (p ∷ ps) h k = absurd h
 each_same (e ∷ es) [] h k = absurd h
 each_same (e ∷ es) (p ∷ ps) h k = (h.0.same_value k.0, each_same es ps h.1 k.1)
 
-kind_kept : (e : ExprTree) (ps : List ExprTree) → is_subquery (over_parts e ps) ≡ is_subquery e
+kind_kept : (e : ExprTree) (ps : List ExprTree) → is_subquery (over_children e ps) ≡ is_subquery e
 kind_kept (literal v) ps = refl
 kind_kept (variable x) ps = refl
 kind_kept current ps = refl
@@ -56,14 +56,15 @@ kind_kept (range_of a b) ps = refl
 kind_kept (subquery q) ps = refl
 
 -- an expression over parts that keep the old ones
-pub parts_keep : (e : ExprTree) (ps : List ExprTree) → AllZip Keeps (parts e) ps → Keeps e (over_parts e ps)
+pub parts_keep : (e : ExprTree) (ps : List ExprTree) → AllZip Keeps (children e) ps
+    → Keeps e (over_children e ps)
 parts_keep e ps h = record {
-  plain = λ k. plain_whole (over_parts e ps) (kind_kept e ps ∙ not_subquery e k)
-      (subst EachPlain (sym (new_parts Keeps e ps h)) (each_plain (parts e) ps h (plain_parts e k)));
-  same_value = λ k. parts_same e ps (each_same (parts e) ps h (plain_parts e k));
+  plain = λ k. plain_whole (over_children e ps) (kind_kept e ps ∙ not_subquery e k)
+      (subst EachPlain (sym (new_parts Keeps e ps h)) (each_plain (children e) ps h (plain_parts e k)));
+  same_value = λ k. parts_same e ps (each_same (children e) ps h (plain_parts e k));
   no_variable = λ x. variables_only x e ps
-      (all_map Keeps (NoVariable x) (λ p q k. k.no_variable x) (parts e) ps h);
-  no_current = current_only e ps (all_map Keeps NoCurrent (λ p q k. k.no_current) (parts e) ps h);
+      (all_map Keeps (NoVariable x) (λ p q k. k.no_variable x) (children e) ps h);
+  no_current = current_only e ps (all_map Keeps NoCurrent (λ p q k. k.no_current) (children e) ps h);
 }
 
 module _ (R : ExprTree → ExprTree → Type 0) where
@@ -75,7 +76,7 @@ module _ (R : ExprTree → ExprTree → Type 0) where
   module _ (law : (p q : ExprTree) → R p q → Keeps p q) where
     mutual
       pub first_in_keeps : {p q : ExprTree} → FirstIn R p q → Keeps p q
-      first_in_keeps (in_part {e = e} {ps = ps} h) = parts_keep e ps (first_of_keeps h)
+      first_in_keeps (in_child {e = e} {ps = ps} h) = parts_keep e ps (first_of_keeps h)
       first_in_keeps (at_whole {e = e} {q = q} n h) = law e q h
 
       pub first_of_keeps : {es ds : List ExprTree} → FirstOf R es ds → AllZip Keeps es ds
@@ -85,7 +86,7 @@ module _ (R : ExprTree → ExprTree → Type 0) where
   module _ (law : (p q : ExprTree) → R p q → size q < size p) where
     mutual
       pub first_in_smaller : {p q : ExprTree} → FirstIn R p q → size q < size p
-      first_in_smaller (in_part {e = e} {ps = ps} h) =
+      first_in_smaller (in_child {e = e} {ps = ps} h) =
           smaller_over e ps (first_of_each h) (first_of_smaller h)
       first_in_smaller (at_whole {e = e} {q = q} n h) = law e q h
 

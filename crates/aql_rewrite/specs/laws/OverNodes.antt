@@ -9,8 +9,8 @@ use Rattle.aql_meaning.specs.declared.grouping.Stage.{Stage}
 use Rattle.aql_plan.specs.Plan.{Reading, Plan, Node, EnumerateCollection, Index, EnumerateList, Traversal, Calculation, Subquery, Filter, Sort, Limit, Collect, Return, NoResults, Scatter, Distribute, Remote, Gather}
 use Rattle.aql_plan.specs.Exprs.{map_exprs, map_maybe, map_aggregates, map_into, map_reading, map_node}
 use Rattle.aql_plan.specs.Nodes.{body_in}
-use Rattle.aql_rewrite.specs.Parts.{list_parts, maybe_parts}
-use Rattle.aql_rewrite.specs.OverParts.{first_or, after_first, over_list, over_maybe, after_maybe}
+use Rattle.aql_rewrite.specs.Children.{list_children, maybe_children}
+use Rattle.aql_rewrite.specs.OverChildren.{first_or, after_first, over_list, over_maybe, after_maybe}
 use Rattle.aql_rewrite.specs.NodeExprs.{end_exprs, last_exprs, aggregate_exprs, into_exprs, node_exprs, after_list, over_end, after_end, over_last, after_last, over_aggregates, after_aggregates, over_into, over_reading, over_exprs}
 
 module _ (f : ExprTree → ExprTree) where
@@ -23,14 +23,14 @@ module _ (f : ExprTree → ExprTree) where
   mapped_append (e ∷ es) fs more = ap (λ (ds : List ExprTree). f e ∷ ds) (mapped_append es fs more)
 
   list_over : (es : ExprTrees) (more : List ExprTree)
-      → (over_list es (Then (list_parts es) more) ≡ map_exprs f es)
-      × (after_list es (Then (list_parts es) more) ≡ more)
+      → (over_list es (Then (list_children es) more) ≡ map_exprs f es)
+      × (after_list es (Then (list_children es) more) ≡ more)
   list_over no_exprs more = (refl, refl)
   list_over (expr_then e es) more = let k = list_over es more in (ap (expr_then (f e)) k.0, k.1)
 
   maybe_over : (e : MaybeExpr) (more : List ExprTree)
-      → (over_maybe e (Then (maybe_parts e) more) ≡ map_maybe f e)
-      × (after_maybe e (Then (maybe_parts e) more) ≡ more)
+      → (over_maybe e (Then (maybe_children e) more) ≡ map_maybe f e)
+      × (after_maybe e (Then (maybe_children e) more) ≡ more)
   maybe_over no_expr more = (refl, refl)
   maybe_over (one_expr e) more = (refl, refl)
 
@@ -65,7 +65,7 @@ module _ (f : ExprTree → ExprTree) where
       subst (λ (ps : List ExprTree). (over_aggregates (aggregate_then x name e rest) ps
       ≡ map_aggregates f (aggregate_then x name e rest))
       × (after_aggregates (aggregate_then x name e rest) ps ≡ more))
-      (sym (mapped_append (maybe_parts e) (aggregate_exprs rest) more)) (
+      (sym (mapped_append (maybe_children e) (aggregate_exprs rest) more)) (
         ap₂ (aggregate_then x name) m.0 (ap (over_aggregates rest) m.1 ∙ k.0),
         ap (after_aggregates rest) m.1 ∙ k.1,
       )
@@ -75,11 +75,11 @@ module _ (f : ExprTree → ExprTree) where
   joined [] fs = refl
   joined (e ∷ es) fs = ap (λ (ds : List ExprTree). f e ∷ ds) (joined es fs)
 
-  list_alone : (es : ExprTrees) → over_list es (map f (list_parts es)) ≡ map_exprs f es
+  list_alone : (es : ExprTrees) → over_list es (map f (list_children es)) ≡ map_exprs f es
   list_alone no_exprs = refl
   list_alone (expr_then e es) = ap (expr_then (f e)) (list_alone es)
 
-  maybe_alone : (e : MaybeExpr) → over_maybe e (map f (maybe_parts e)) ≡ map_maybe f e
+  maybe_alone : (e : MaybeExpr) → over_maybe e (map f (maybe_children e)) ≡ map_maybe f e
   maybe_alone no_expr = refl
   maybe_alone (one_expr e) = refl
 
@@ -96,15 +96,15 @@ module _ (f : ExprTree → ExprTree) where
       → over_exprs (Index x index equal last ordered) (map f (node_exprs (Index x index equal last ordered)))
       ≡ map_node f (Index x index equal last ordered)
   index_over x index equal last ordered =
-      let filters = map f (maybe_parts x.filter) in
+      let filters = map f (maybe_children x.filter) in
       let bounds = Then (last_exprs last) filters in
       let e = list_over equal bounds in
       let l = last_over last filters in
       ap (over_exprs (Index x index equal last ordered))
-      (joined (list_parts equal) (last_exprs last ++ maybe_parts x.filter)
-      ∙ ap (Then (list_parts equal)) (joined (last_exprs last) (maybe_parts x.filter)))
+      (joined (list_children equal) (last_exprs last ++ maybe_children x.filter)
+      ∙ ap (Then (list_children equal)) (joined (last_exprs last) (maybe_children x.filter)))
       ∙ ap₂ (λ m es. Index (with_filter x m) index es
-      (over_last last (after_list equal (Then (list_parts equal) bounds))) ordered)
+      (over_last last (after_list equal (Then (list_children equal) bounds))) ordered)
       (ap (over_maybe x.filter) (ap (after_last last) e.1 ∙ l.1) ∙ maybe_alone x.filter) e.0
       ∙ ap (λ m. Index (map_reading f x) index (map_exprs f equal) m ordered)
       (ap (over_last last) e.1 ∙ l.0)
@@ -113,9 +113,9 @@ module _ (f : ExprTree → ExprTree) where
       → over_exprs (Traversal w e colls prune keep) (map f (node_exprs (Traversal w e colls prune keep)))
       ≡ map_node f (Traversal w e colls prune keep)
   traversal_over w e colls prune keep =
-      let p = maybe_over prune (map f (maybe_parts keep)) in
+      let p = maybe_over prune (map f (maybe_children keep)) in
       ap (λ (ps : List ExprTree). over_exprs (Traversal w e colls prune keep) (f e ∷ ps))
-      (joined (maybe_parts prune) (maybe_parts keep))
+      (joined (maybe_children prune) (maybe_children keep))
       ∙ ap₂ (Traversal w (f e) colls) p.0 (ap (over_maybe keep) p.1 ∙ maybe_alone keep)
 
   collect_over : (xs : List Ident) (es : ExprTrees) (gs : AggregateTrees) (i : IntoTree) (s : Stage)
@@ -127,9 +127,9 @@ module _ (f : ExprTree → ExprTree) where
       let e = list_over es arguments in
       let g = aggregates_over gs last in
       ap (over_exprs (Collect xs es gs i s))
-      (joined (list_parts es) (aggregate_exprs gs ++ into_exprs i)
-      ∙ ap (Then (list_parts es)) (joined (aggregate_exprs gs) (into_exprs i)))
-      ∙ ap₂ (λ m j. Collect xs (over_list es (Then (list_parts es) arguments)) m j s)
+      (joined (list_children es) (aggregate_exprs gs ++ into_exprs i)
+      ∙ ap (Then (list_children es)) (joined (aggregate_exprs gs) (into_exprs i)))
+      ∙ ap₂ (λ m j. Collect xs (over_list es (Then (list_children es) arguments)) m j s)
       (ap (over_aggregates gs) e.1 ∙ g.0)
       (ap (over_into i) (ap (after_aggregates gs) e.1 ∙ g.1) ∙ into_alone i)
       ∙ ap (λ m. Collect xs m (map_aggregates f gs) (map_into f i) s) e.0

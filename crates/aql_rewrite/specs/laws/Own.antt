@@ -3,7 +3,7 @@ use Rattle.std.proofs.Common.{ℕ, ◌≡◌, List, [], ◌∷◌, refl}
 use Rattle.aql_tree.specs.declared.syntax.Ident.{Ident}
 use Rattle.aql_tree.specs.Tree.{ExprTree, literal, variable, current, array_literal, object_literal, access}
 use Rattle.aql_tree.specs.Tree.{function_call, unary_of, chain, array_comparison, ternary, range_of, subquery}
-use Rattle.aql_rewrite.specs.OverParts.{over_parts}
+use Rattle.aql_rewrite.specs.OverChildren.{over_children}
 
 abbrev pub own_size : ExprTree → ℕ
 own_size (literal v) = 1
@@ -17,7 +17,7 @@ pub record KeepsOwn (e f : ExprTree) : Type 0 where
   pub same_size : own_size f ≡ own_size e
   pub same_variables : own_variables f ≡ own_variables e
 
-pub own_kept : (e : ExprTree) (ps : List ExprTree) → KeepsOwn e (over_parts e ps)
+pub own_kept : (e : ExprTree) (ps : List ExprTree) → KeepsOwn e (over_children e ps)
 own_kept (literal v) ps = record { same_size = refl; same_variables = refl }
 own_kept (variable x) ps = record { same_size = refl; same_variables = refl }
 own_kept current ps = record { same_size = refl; same_variables = refl }

@@ -10,18 +10,18 @@ use Rattle.aql_rewrite.specs.Placed.{IsWhole}
 use Rattle.aql_rewrite.specs.Places.{Rewriting, First, NoPlace, Reaches, at_once as reached_at_once, next as then_next, IsPass}
 use Rattle.aql_rewrite.specs.Swaps.{SetsNoMore}
 use Rattle.aql_rewrite.specs.laws.Steps.{Refining, Keeping, IsStep, some_step, refines_through_answers, sets_self, sets_through}
-use Rattle.aql_rewrite.specs.Steps.{Steps, at_once, next}
+use Rattle.aql_rewrite.specs.Applications.{Applications, at_once, next}
 
 module _ (R : Rewriting) where
   -- one application that renames nothing, in a plan without fragments
   abbrev Step : Plan → Plan → Type 0
   Step p q = First R false result_uses p q None
 
-  reaches : {p q : Plan} {x y : Bool} → x ≡ false → Steps Plan Step p q x y → Reaches R p q y
+  reaches : {p q : Plan} {x y : Bool} → x ≡ false → Applications Plan Step p q x y → Reaches R p q y
   reaches {p = p} e at_once = subst (λ (c : Bool). Reaches R p p c) (sym e) reached_at_once
   reaches e (next k s) = then_next (reaches e k) s
 
-  pub is_pass : (p q : Plan) (x y : Bool) → x ≡ false → Steps Plan Step p q x y
+  pub is_pass : (p q : Plan) (x y : Bool) → x ≡ false → Applications Plan Step p q x y
       → NoPlace R false result_uses q → IsPass R p q y
   is_pass p q x y e h k = record { reached = reaches e h; ended = k }
 
@@ -35,7 +35,7 @@ module _ (R : Rewriting) where
       one_step : (p q : Plan) → IsWhole false facts p → Step p q → IsStep false facts R p q true
       one_step p q whole h = some_step false facts R refines keeps result_uses p q None refl whole h
 
-      sound : {p q : Plan} {x y : Bool} → IsWhole false facts p → Steps Plan Step p q x y → Sound p q
+      sound : {p q : Plan} {x y : Bool} → IsWhole false facts p → Applications Plan Step p q x y → Sound p q
       sound {p = p} whole at_once = record {
         refines = λ db meets start vs a. a;
         whole = whole;
@@ -52,7 +52,7 @@ module _ (R : Rewriting) where
     -- the rule is one for plans without fragments
     pub pass_sound : (fragments : Bool) → fragments ≡ false → Refining fragments facts R
         → Keeping fragments facts R → (p q : Plan) (x y : Bool) → IsWhole false facts p
-        → Steps Plan Step p q x y → Sound p q
+        → Applications Plan Step p q x y → Sound p q
     pass_sound fragments e refines keeps p q x y whole h =
         sound (subst (λ (k : Bool). Refining k facts R) e refines)
         (subst (λ (k : Bool). Keeping k facts R) e keeps) whole h

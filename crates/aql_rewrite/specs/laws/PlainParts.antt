@@ -8,7 +8,7 @@ use Rattle.aql_tree.specs.Tree.{MemberTrees, no_members, named_then, computed_th
 use Rattle.aql_tree.specs.Tree.{StepTrees, no_steps, name_then, at_then, inline_then}
 use Rattle.aql_tree.specs.Tree.{LinkTrees, no_links, link_then}
 use Rattle.aql_meaning.specs.Plain.{IsPlain, AllPlain, MaybePlain, MembersPlain, StepsPlain, LinksPlain}
-use Rattle.aql_rewrite.specs.Parts.{list_parts, maybe_parts, member_parts, step_parts, link_parts, parts}
+use Rattle.aql_rewrite.specs.Children.{list_children, maybe_children, member_children, step_children, link_children, children}
 
 abbrev pub EachPlain : List ExprTree → Type 0
 EachPlain = AllByRecursion IsPlain
@@ -19,33 +19,33 @@ is_subquery e = false
 
 -- ---- the parts of a plain expression are plain
 
-plain_list_parts : (es : ExprTrees) → AllPlain es → EachPlain (list_parts es)
+plain_list_parts : (es : ExprTrees) → AllPlain es → EachPlain (list_children es)
 plain_list_parts no_exprs h = tt
 plain_list_parts (expr_then e es) h = (h.0, plain_list_parts es h.1)
 
 plain_maybe_parts : (e : MaybeExpr) (es : List ExprTree) → MaybePlain e → EachPlain es
-    → EachPlain (maybe_parts e ++ es)
+    → EachPlain (maybe_children e ++ es)
 plain_maybe_parts no_expr es h k = k
 plain_maybe_parts (one_expr e) es h k = (h, k)
 
-plain_member_parts : (ms : MemberTrees) → MembersPlain ms → EachPlain (member_parts ms)
+plain_member_parts : (ms : MemberTrees) → MembersPlain ms → EachPlain (member_children ms)
 plain_member_parts no_members h = tt
 plain_member_parts (named_then name e ms) h = (h.0, plain_member_parts ms h.1)
 plain_member_parts (computed_then n e ms) h = (h.0, (h.1, plain_member_parts ms h.2))
 
-plain_step_parts : (ss : StepTrees) → StepsPlain ss → EachPlain (step_parts ss)
+plain_step_parts : (ss : StepTrees) → StepsPlain ss → EachPlain (step_children ss)
 plain_step_parts no_steps h = tt
 plain_step_parts (name_then name ss) h = plain_step_parts ss h
 plain_step_parts (at_then e ss) h = (h.0, plain_step_parts ss h.1)
 plain_step_parts (inline_then filter gives ss) h =
-    plain_maybe_parts filter (maybe_parts gives ++ step_parts ss) h.0
-    (plain_maybe_parts gives (step_parts ss) h.1 (plain_step_parts ss h.2))
+    plain_maybe_parts filter (maybe_children gives ++ step_children ss) h.0
+    (plain_maybe_parts gives (step_children ss) h.1 (plain_step_parts ss h.2))
 
-plain_link_parts : (ls : LinkTrees) → LinksPlain ls → EachPlain (link_parts ls)
+plain_link_parts : (ls : LinkTrees) → LinksPlain ls → EachPlain (link_children ls)
 plain_link_parts no_links h = tt
 plain_link_parts (link_then op e ls) h = (h.0, plain_link_parts ls h.1)
 
-pub plain_parts : (e : ExprTree) → IsPlain e → EachPlain (parts e)
+pub plain_parts : (e : ExprTree) → IsPlain e → EachPlain (children e)
 plain_parts (literal v) h = tt
 plain_parts (variable x) h = tt
 plain_parts current h = tt
@@ -62,34 +62,34 @@ plain_parts (subquery q) h = absurd h
 
 -- ---- and back
 
-plain_list : (es : ExprTrees) → EachPlain (list_parts es) → AllPlain es
+plain_list : (es : ExprTrees) → EachPlain (list_children es) → AllPlain es
 plain_list no_exprs h = tt
 plain_list (expr_then e es) h = (h.0, plain_list es h.1)
 
-plain_maybe : (e : MaybeExpr) (es : List ExprTree) → EachPlain (maybe_parts e ++ es)
+plain_maybe : (e : MaybeExpr) (es : List ExprTree) → EachPlain (maybe_children e ++ es)
     → MaybePlain e × EachPlain es
 plain_maybe no_expr es h = (tt, h)
 plain_maybe (one_expr e) es h = (h.0, h.1)
 
-plain_members : (ms : MemberTrees) → EachPlain (member_parts ms) → MembersPlain ms
+plain_members : (ms : MemberTrees) → EachPlain (member_children ms) → MembersPlain ms
 plain_members no_members h = tt
 plain_members (named_then name e ms) h = (h.0, plain_members ms h.1)
 plain_members (computed_then n e ms) h = (h.0, h.1.0, plain_members ms h.1.1)
 
-plain_steps : (ss : StepTrees) → EachPlain (step_parts ss) → StepsPlain ss
+plain_steps : (ss : StepTrees) → EachPlain (step_children ss) → StepsPlain ss
 plain_steps no_steps h = tt
 plain_steps (name_then name ss) h = plain_steps ss h
 plain_steps (at_then e ss) h = (h.0, plain_steps ss h.1)
 plain_steps (inline_then filter gives ss) h =
-    let k = plain_maybe filter (maybe_parts gives ++ step_parts ss) h in
-    let l = plain_maybe gives (step_parts ss) k.1 in
+    let k = plain_maybe filter (maybe_children gives ++ step_children ss) h in
+    let l = plain_maybe gives (step_children ss) k.1 in
     (k.0, l.0, plain_steps ss l.1)
 
-plain_links : (ls : LinkTrees) → EachPlain (link_parts ls) → LinksPlain ls
+plain_links : (ls : LinkTrees) → EachPlain (link_children ls) → LinksPlain ls
 plain_links no_links h = tt
 plain_links (link_then op e ls) h = (h.0, plain_links ls h.1)
 
-pub plain_whole : (e : ExprTree) → is_subquery e ≡ false → EachPlain (parts e) → IsPlain e
+pub plain_whole : (e : ExprTree) → is_subquery e ≡ false → EachPlain (children e) → IsPlain e
 plain_whole (literal v) f h = tt
 plain_whole (variable x) f h = tt
 plain_whole current f h = tt

@@ -12,7 +12,7 @@ use Rattle.aql_plan.specs.Plan.{Plan, Singleton, Over, Node, EnumerateCollection
 use Rattle.aql_plan.specs.Fits.{EndPlain, LastPlain, HasArgument, AllKnown, Fits}
 use Rattle.aql_meaning.specs.declared.grouping.Stage.TheVariants as stage
 use Rattle.aql_plan.specs.Shapes.{Shape, IsOuter, ReadsFragment, ReadsShard, KeepsRowOrder, Shaped, one_row, calculated, with_subquery, plain_rows, ordered_rows, scatter, distribute, remote, lowest, lowest_in_order, other_reading, passing, sorting, gather, gather_in_order, partial, joining, finishing, returning}
-use Rattle.aql_rewrite.specs.Parts.{list_parts, maybe_parts}
+use Rattle.aql_rewrite.specs.Children.{list_children, maybe_children}
 use Rattle.aql_rewrite.specs.NodeExprs.{end_exprs, last_exprs, aggregate_exprs, into_exprs, node_exprs}
 use Rattle.aql_rewrite.specs.Plain.{PlanPlain, NodePlain}
 
@@ -23,11 +23,11 @@ joined : (es fs : List ExprTree) → Plains es → Plains fs → Plains (es ++ f
 joined [] fs h k = k
 joined (e ∷ es) fs h k = (h.0, joined es fs h.1 k)
 
-list_plain : (es : ExprTrees) → AllPlain es → Plains (list_parts es)
+list_plain : (es : ExprTrees) → AllPlain es → Plains (list_children es)
 list_plain no_exprs h = tt
 list_plain (expr_then e es) h = (h.0, list_plain es h.1)
 
-maybe_plain : (e : MaybeExpr) → MaybePlain e → Plains (maybe_parts e)
+maybe_plain : (e : MaybeExpr) → MaybePlain e → Plains (maybe_children e)
 maybe_plain no_expr h = tt
 maybe_plain (one_expr e) h = (h, tt)
 
@@ -41,7 +41,7 @@ last_plain (one_of e) h = (h, tt)
 last_plain (between low high) h = joined (end_exprs low) (end_exprs high) (end_plain low h.0)
     (end_plain high h.1)
 
-argument_plain : (a : Aggregate) (e : MaybeExpr) → HasArgument a e → Plains (maybe_parts e)
+argument_plain : (a : Aggregate) (e : MaybeExpr) → HasArgument a e → Plains (maybe_children e)
 argument_plain count e h = maybe_plain e h
 argument_plain a no_expr h = tt
 argument_plain a (one_expr e) h = (h, tt)
@@ -49,9 +49,10 @@ argument_plain a (one_expr e) h = (h, tt)
 aggregates_plain : (gs : AggregateTrees) → AllKnown gs → Plains (aggregate_exprs gs)
 aggregates_plain no_aggregates h = tt
 aggregates_plain (aggregate_then x name e rest) h =
-    joined (maybe_parts e) (aggregate_exprs rest) (by (aggregate_named name) h.0) (aggregates_plain rest h.1)
+    joined (maybe_children e) (aggregate_exprs rest) (by (aggregate_named name) h.0)
+    (aggregates_plain rest h.1)
   where
-    by : (o : Option Aggregate) → MatchOption o ⊥ (λ a. HasArgument a e) → Plains (maybe_parts e)
+    by : (o : Option Aggregate) → MatchOption o ⊥ (λ a. HasArgument a e) → Plains (maybe_children e)
     by None h = absurd h
     by (Some a) h = argument_plain a e h
 
@@ -64,16 +65,16 @@ into_plain (into x (one_expr e) keep) h = (h, tt)
 fits_plain : (facts : Facts) (n : Node) → Fits facts n → Plains (node_exprs n)
 fits_plain facts (EnumerateCollection x) h = maybe_plain x.filter h.1
 fits_plain facts (Index x index equal last ordered) h =
-    joined (list_parts equal) (last_exprs last ++ maybe_parts x.filter) (list_plain equal h.2)
-    (joined (last_exprs last) (maybe_parts x.filter) (last_plain last h.3) (maybe_plain x.filter h.1))
+    joined (list_children equal) (last_exprs last ++ maybe_children x.filter) (list_plain equal h.2)
+    (joined (last_exprs last) (maybe_children x.filter) (last_plain last h.3) (maybe_plain x.filter h.1))
 fits_plain facts (EnumerateList x e) h = (h, tt)
 fits_plain facts (Traversal w e colls prune keep) h =
-    (h.0, joined (maybe_parts prune) (maybe_parts keep) (maybe_plain prune h.1) (maybe_plain keep h.2))
+    (h.0, joined (maybe_children prune) (maybe_children keep) (maybe_plain prune h.1) (maybe_plain keep h.2))
 fits_plain facts (Calculation x e) h = (h, tt)
 fits_plain facts (Filter e) h = (h, tt)
 fits_plain facts (Sort directions es n) h = list_plain es h.0
 fits_plain facts (Collect xs es gs i s) h =
-    joined (list_parts es) (aggregate_exprs gs ++ into_exprs i) (list_plain es h.0)
+    joined (list_children es) (aggregate_exprs gs ++ into_exprs i) (list_plain es h.0)
     (joined (aggregate_exprs gs) (into_exprs i) (aggregates_plain gs h.1) (into_plain i h.2))
 fits_plain facts (Return distinct e) h = (h, tt)
 fits_plain facts (Distribute coll es) h = list_plain es h.1

@@ -2,8 +2,8 @@
 use Rattle.std.proofs.Common.{List, [], ◌∷◌, ◌++◌}
 use Rattle.std.specs.List.{AllZip}
 use Rattle.aql_tree.specs.Tree.{ExprTree, MaybeExpr, no_expr, one_expr}
-use Rattle.aql_rewrite.specs.Parts.{maybe_parts}
-use Rattle.aql_rewrite.specs.OverParts.{first_or, after_first, after_maybe}
+use Rattle.aql_rewrite.specs.Children.{maybe_children}
+use Rattle.aql_rewrite.specs.OverChildren.{first_or, after_first, after_maybe}
 
 module _ (P : ExprTree → ExprTree → Type 0) where
   pub first_related : (e : ExprTree) (es ps : List ExprTree) → AllZip P (e ∷ es) ps → P e (first_or e ps)
@@ -15,7 +15,7 @@ module _ (P : ExprTree → ExprTree → Type 0) where
   rest_related e es [] h = absurd h
   rest_related e es (p ∷ ps) h = h.1
 
-  pub after_maybe_related : (e : MaybeExpr) (es ps : List ExprTree) → AllZip P (maybe_parts e ++ es) ps
+  pub after_maybe_related : (e : MaybeExpr) (es ps : List ExprTree) → AllZip P (maybe_children e ++ es) ps
       → AllZip P es (after_maybe e ps)
   after_maybe_related no_expr es ps h = h
   after_maybe_related (one_expr e) es ps h = rest_related e es ps h

@@ -11,10 +11,10 @@ use Rattle.aql_tree.specs.Tree.{MemberTrees, no_members, named_then, computed_th
 use Rattle.aql_tree.specs.Tree.{StepTrees, no_steps, name_then, at_then, inline_then}
 use Rattle.aql_tree.specs.Tree.{LinkTrees, no_links, link_then}
 use Rattle.aql_meaning.specs.Plain.{IsPlain}
-use Rattle.aql_meaning.specs.Places.{put, put_all, put_maybe, put_members, put_steps, put_links}
-use Rattle.aql_rewrite.specs.Parts.{list_parts, maybe_parts, member_parts, step_parts, link_parts, parts}
-use Rattle.aql_rewrite.specs.OverParts.{first_or, after_first, over_list, over_maybe, after_maybe}
-use Rattle.aql_rewrite.specs.OverParts.{over_members, over_steps, over_links, over_parts}
+use Rattle.aql_meaning.specs.Substitution.{put, put_all, put_maybe, put_members, put_steps, put_links}
+use Rattle.aql_rewrite.specs.Children.{list_children, maybe_children, member_children, step_children, link_children, children}
+use Rattle.aql_rewrite.specs.OverChildren.{first_or, after_first, over_list, over_maybe, after_maybe}
+use Rattle.aql_rewrite.specs.OverChildren.{over_members, over_steps, over_links, over_children}
 use Rattle.aql_rewrite.specs.declared.swap.Rename.{Rename}
 use Rattle.aql_rewrite.specs.Plain.{variable_in}
 use Rattle.aql_rewrite.specs.Renames.{each, renaming, put_each}
@@ -40,12 +40,12 @@ module _ (rs : List Rename) where
   abbrev New : List ExprTree → List ExprTree
   New es = map (put_each rs) es
 
-  list_over : (es : ExprTrees) → over_list es (New (list_parts es)) ≡ each all_put rs es
+  list_over : (es : ExprTrees) → over_list es (New (list_children es)) ≡ each all_put rs es
   list_over no_exprs = sym (still all_put no_exprs (λ r. refl) rs)
   list_over (expr_then e es) = ap (expr_then (put_each rs e)) (list_over es)
       ∙ sym (through_two renaming all_put all_put expr_then (λ r a b. refl) rs e es)
 
-  members_over : (ms : MemberTrees) → over_members ms (New (member_parts ms)) ≡ each members_put rs ms
+  members_over : (ms : MemberTrees) → over_members ms (New (member_children ms)) ≡ each members_put rs ms
   members_over no_members = sym (still members_put no_members (λ r. refl) rs)
   members_over (named_then name e ms) = ap (named_then name (put_each rs e)) (members_over ms)
       ∙ sym (through_two renaming members_put members_put (named_then name) (λ r a b. refl) rs e ms)
@@ -58,40 +58,40 @@ module _ (rs : List Rename) where
   joined (e ∷ es) fs = ap (λ (ds : List ExprTree). put_each rs e ∷ ds) (joined es fs)
 
   maybe_over : (e : MaybeExpr) (more : List ExprTree)
-      → (over_maybe e (New (maybe_parts e) ++ more) ≡ each maybe_put rs e)
-      × (after_maybe e (New (maybe_parts e) ++ more) ≡ more)
+      → (over_maybe e (New (maybe_children e) ++ more) ≡ each maybe_put rs e)
+      × (after_maybe e (New (maybe_children e) ++ more) ≡ more)
   maybe_over no_expr more = (sym (still maybe_put no_expr (λ r. refl) rs), refl)
   maybe_over (one_expr e) more = (sym (through renaming maybe_put one_expr (λ r a. refl) rs e), refl)
 
-  steps_over : (ss : StepTrees) → over_steps ss (New (step_parts ss)) ≡ each steps_put rs ss
+  steps_over : (ss : StepTrees) → over_steps ss (New (step_children ss)) ≡ each steps_put rs ss
   steps_over no_steps = sym (still steps_put no_steps (λ r. refl) rs)
   steps_over (name_then name ss) = ap (name_then name) (steps_over ss)
       ∙ sym (through steps_put steps_put (name_then name) (λ r a. refl) rs ss)
   steps_over (at_then e ss) = ap (at_then (put_each rs e)) (steps_over ss)
       ∙ sym (through_two renaming steps_put steps_put at_then (λ r a b. refl) rs e ss)
   steps_over (inline_then filter gives ss) =
-      let rest = New (step_parts ss) in
-      let more = New (maybe_parts gives) ++ rest in
+      let rest = New (step_children ss) in
+      let more = New (maybe_children gives) ++ rest in
       let f = maybe_over filter more in
       let g = maybe_over gives rest in
       ap (over_steps (inline_then filter gives ss))
-      (joined (maybe_parts filter) (maybe_parts gives ++ step_parts ss)
-      ∙ ap (λ (ds : List ExprTree). New (maybe_parts filter) ++ ds)
-      (joined (maybe_parts gives) (step_parts ss)))
+      (joined (maybe_children filter) (maybe_children gives ++ step_children ss)
+      ∙ ap (λ (ds : List ExprTree). New (maybe_children filter) ++ ds)
+      (joined (maybe_children gives) (step_children ss)))
       ∙ ap₂ (λ a b. inline_then a b (over_steps ss (after_maybe gives (after_maybe filter
-      (New (maybe_parts filter) ++ more))))) f.0 (ap (over_maybe gives) f.1 ∙ g.0)
+      (New (maybe_children filter) ++ more))))) f.0 (ap (over_maybe gives) f.1 ∙ g.0)
       ∙ ap (inline_then (each maybe_put rs filter) (each maybe_put rs gives))
       (ap (over_steps ss) (ap (after_maybe gives) f.1 ∙ g.1) ∙ steps_over ss)
       ∙ sym (through_three maybe_put maybe_put steps_put steps_put inline_then (λ r a b c. refl) rs filter
       gives ss)
 
-  links_over : (ls : LinkTrees) → over_links ls (New (link_parts ls)) ≡ each links_put rs ls
+  links_over : (ls : LinkTrees) → over_links ls (New (link_children ls)) ≡ each links_put rs ls
   links_over no_links = sym (still links_put no_links (λ r. refl) rs)
   links_over (link_then op e ls) = ap (link_then op (put_each rs e)) (links_over ls)
       ∙ sym (through_two renaming links_put links_put (link_then op) (λ r a b. refl) rs e ls)
 
   ternary_over : (test : ExprTree) (middle : MaybeExpr) (other : ExprTree)
-      → over_parts (ternary test middle other) (New (parts (ternary test middle other)))
+      → over_children (ternary test middle other) (New (children (ternary test middle other)))
       ≡ ternary (put_each rs test) (each maybe_put rs middle) (put_each rs other)
   ternary_over test no_expr other =
       ap (λ m. ternary (put_each rs test) m (put_each rs other))
@@ -101,7 +101,7 @@ module _ (rs : List Rename) where
       (sym (through renaming maybe_put one_expr (λ r a. refl) rs e))
 
   pub whole_each : (e : ExprTree) → IsPlain e → variable_in e ≡ None
-      → over_parts e (New (parts e)) ≡ put_each rs e
+      → over_children e (New (children e)) ≡ put_each rs e
   whole_each (literal v) h n = sym (still renaming (literal v) (λ r. refl) rs)
   whole_each (variable z) h n = cc
   whole_each current h n = sym (still renaming current (λ r. refl) rs)

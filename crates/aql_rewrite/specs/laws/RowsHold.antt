@@ -4,7 +4,7 @@ use Rattle.std.proofs.Common.{◌≡◌, ℕ, List, [], ◌∷◌, ◌++◌, map
 use Rattle.std.specs.Prelude.{Option, Some, None, filter, option_to_list}
 use Rattle.std.specs.List.{AllZip, AllByRecursion}
 use Rattle.aql_value.specs.Datum.{Datum}
-use Rattle.aql_value.specs.Parts.{list, elements}
+use Rattle.aql_value.specs.Contents.{list, elements}
 use Rattle.aql_tree.specs.declared.syntax.Ident.{Ident}
 use Rattle.aql_tree.specs.Tree.{TraversalShape, ExprTree, ExprTrees}
 use Rattle.aql_meaning.specs.AtRows.{values_of, keys_of, passes}
@@ -16,7 +16,7 @@ use Rattle.aql_meaning.specs.laws.RowByRow.{each_related}
 use Rattle.aql_meaning.specs.laws.Shuffles.{alike_permutation}
 use Rattle.aql_plan.specs.Plan.{Reading, Plan, Over, Node, EnumerateCollection, Index, EnumerateList, Traversal, Calculation, Subquery, Filter, Sort, Limit, Collect, Return, NoResults, Scatter, Distribute, Remote, Gather}
 use Rattle.aql_plan.specs.Needs.{sets}
-use Rattle.aql_plan.specs.Runs.{World, Outside, read, read_in_bounds, Indexed, Runs, result_of}
+use Rattle.aql_plan.specs.Runs.{Dataset, Outside, read, read_in_bounds, Indexed, Runs, result_of}
 use Rattle.aql_plan.specs.Shapes.{IsNoFragment}
 use Rattle.aql_plan_laws.specs.laws.Carried.{all_parts}
 use Rattle.aql_plan_laws.specs.laws.Lists.{take_related, drop_related, filter_related}
@@ -56,7 +56,7 @@ module _ (P : Row → Type 0) where
   each_holds y f rows lists h =
       each_related Holds Holds (bind y) (bind y) (set_both y f) rows rows lists (beside rows h)
 
-  indexed_hold : (w : World) (x : Reading) → Leaves x.var → (index : ℕ) (equal : ExprTrees)
+  indexed_hold : (w : Dataset) (x : Reading) → Leaves x.var → (index : ℕ) (equal : ExprTrees)
       (last : Last ExprTree) (ordered : Option Bool) (rows out : List Row) → AllByRecursion P rows
       → Indexed w Outside x index equal last ordered rows out → AllByRecursion P out
   indexed_hold w x f index equal last None rows out h g =
@@ -77,7 +77,8 @@ module _ (P : Row → Type 0) where
   values_hold y f (row ∷ rows) [] h = tt
   values_hold y f (row ∷ rows) (v ∷ vs) h = (f row v h.0, values_hold y f rows vs h.1)
 
-  queried_hold : (y : Ident) → Leaves y → (w : World) (s : Plan) (rows out : List Row) → AllByRecursion P rows
+  queried_hold : (y : Ident) → Leaves y → (w : Dataset) (s : Plan) (rows out : List Row)
+      → AllByRecursion P rows
       → AllZip (λ row given. (results : List Row) × Runs s w Outside row results
       × (given ≡ bind y row (list (map result_of results)))) rows out → AllByRecursion P out
   queried_hold y f w s [] [] h g = tt
@@ -88,7 +89,7 @@ module _ (P : Row → Type 0) where
     queried_hold y f w s rows out h.1 g.1,
   )
 
-  path_holds : (w : World) (shape : TraversalShape)
+  path_holds : (w : Dataset) (shape : TraversalShape)
       → AllByRecursion Leaves (shape.vertex ∷ (option_to_list shape.edge ++ option_to_list shape.path))
       → (r s : Row) (t : Path) → Holds r s → Holds (path_row w.db shape r t) (path_row w.db shape s t)
   path_holds w shape f r s t h =
@@ -99,7 +100,7 @@ module _ (P : Row → Type 0) where
 
   -- what holds of the rows of a node's input holds of the node's
   pub over_holds : (n : Node) → gives_new_rows n ≡ false → IsNoFragment n → AllByRecursion Leaves (sets n)
-      → (b : Plan) (w : World) (start : Row)
+      → (b : Plan) (w : Dataset) (start : Row)
       → ((rows : List Row) → Runs b w Outside start rows → AllByRecursion P rows)
       → (out : List Row) → Runs (Over b n) w Outside start out → AllByRecursion P out
   over_holds (EnumerateCollection x) o i f b w start h out g =

@@ -11,7 +11,7 @@ use Rattle.std.specs.declared.cmp.Ordering.TheVariants.{Less, Equal, Greater}
 use Rattle.aql_value.specs.Datum.{Datum}
 use Rattle.aql_value.specs.Order.{Compares}
 use Rattle.aql_value.specs.Compare.{compare}
-use Rattle.aql_value.specs.Parts.{same}
+use Rattle.aql_value.specs.Contents.{same}
 use Rattle.aql_value.specs.laws.Ranks.{datum_ranks}
 use Rattle.aql_value.specs.laws.Strict.{not_itself}
 use Rattle.aql_value.specs.laws.Keyed.{same_from_equal}

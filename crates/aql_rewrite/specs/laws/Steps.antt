@@ -10,7 +10,7 @@ use Rattle.aql_plan.specs.Above.{input_inside}
 use Rattle.aql_plan.specs.Variables.{vars_of, set_once, vars_set}
 use Rattle.aql_plan.specs.Refines.{Refines}
 use Rattle.aql_rewrite.specs.declared.swap.Rename.{Rename}
-use Rattle.aql_rewrite.specs.Places.{renamed_by, Rewriting, NoPlace, First, Stepped, Reaches, at_once, next}
+use Rattle.aql_rewrite.specs.Places.{renamed_by, Rewriting, NoPlace, First, AppliesOnce, Reaches, at_once, next}
 use Rattle.aql_rewrite.specs.Placed.{IsWhole, Placed}
 use Rattle.aql_rewrite.specs.Swaps.{Replaced, SetsNoMore, KeepsPlaced}
 use Rattle.aql_rewrite.specs.laws.PlacedBelow.{whole_placed, placed_body}
@@ -77,7 +77,7 @@ module _ (k : Bool) (facts : Facts) where
 
     -- the plan after one application, or after none
     pub record IsStep (p q : Plan) (changed : Bool) : Type 0 where
-      pub stepped : Stepped R p q changed
+      pub stepped : AppliesOnce R p q changed
       pub refines : Refines facts q p
       pub whole : IsWhole k facts q
       pub sets : SetsNoMore p q
@@ -109,12 +109,12 @@ pub refines_through_answers : (facts : Facts) (p q s : Plan) → Refines facts s
 refines_through_answers facts p q s f g db meets start vs a = g db meets start vs (f db meets start vs a)
 
 pub stepped_first : (R : Rewriting) (p q : Plan) (changed : Bool) → not changed ≡ false
-    → Stepped R p q changed → (r : Option Rename) × First R false result_uses p q r
+    → AppliesOnce R p q changed → (r : Option Rename) × First R false result_uses p q r
 stepped_first R p q true e h = h
 stepped_first R p q false e h = absurd (true≢false e)
 
 pub reaches_more : (R : Rewriting) (p q s : Plan) (c changed : Bool) → Reaches R p q c → not changed ≡ false
-    → Stepped R q s changed → Reaches R p s true
+    → AppliesOnce R q s changed → Reaches R p s true
 reaches_more R p q s c changed h e f = next h (stepped_first R q s changed e f).1
 
 -- what holds at first, and stays at each application, holds after all

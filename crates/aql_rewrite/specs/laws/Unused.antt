@@ -3,13 +3,13 @@ use Rattle.std.proofs.Common.{◌≡◌, ◌∙◌, List, [], ◌∷◌, Bool, t
 use Rattle.std.specs.Prelude.{Option, Some, None, ◌||◌, unwrap_or}
 use Rattle.std.proofs.lemmas.Bool.{or_parts}
 use Rattle.aql_value.specs.Datum.{Datum, null}
-use Rattle.aql_value.specs.Parts.{at_name}
+use Rattle.aql_value.specs.Contents.{at_name}
 use Rattle.aql_tree.specs.declared.syntax.Ident.{Ident}
 use Rattle.aql_meaning.specs.Row.{Row, bind, same_ident}
-use Rattle.aql_meaning.specs.Uses.{Use, Whole, Part, Uses, used_variable, AgreeAt, Agree, is_used}
+use Rattle.aql_meaning.specs.Uses.{Use, Whole, Attribute, Uses, used_variable, AgreeAt, Agree, is_used}
 use Rattle.aql_plan.specs.Variables.{are_among}
 use Rattle.aql_plan_laws.specs.laws.Idents.{same_is}
-use Rattle.aql_rewrite.specs.Swaps.{Kept}
+use Rattle.aql_rewrite.specs.Swaps.{KeepsVariables}
 use Rattle.aql_rewrite.specs.laws.Among.{has, both}
 
 other_value : {X : Type 0} (b : Bool) (f : Option Datum → X) (v : Datum) (o : Option Datum) → b ≡ false
@@ -20,7 +20,7 @@ other_value false f v o h = refl
 agree_at : (u : Use) (x : Ident) (row : Row) (v : Datum) → same_ident x (used_variable u) ≡ false
     → AgreeAt u row (bind x row v)
 agree_at (Whole y) x row v h = other_value (same_ident x y) (λ o. unwrap_or o null) v (row y) h
-agree_at (Part y name) x row v h =
+agree_at (Attribute y name) x row v h =
     other_value (same_ident x y) (λ o. at_name (unwrap_or o null) name) v (row y) h
 
 pub agree_unused : (us : Uses) (x : Ident) (row : Row) (v : Datum) → is_used x us ≡ false
@@ -41,7 +41,8 @@ used_other us x z h g = by (same_ident z x) refl
         absurd (true≢false (sym (subst (λ (y : Ident). is_used y us ≡ true) (same_is z x e) g) ∙ h))
 
 -- all others that are used are still there
-pub one_gone : (us : Uses) (x : Ident) (xs : List Ident) → is_used x us ≡ false → Kept None us (x ∷ xs) xs
+pub one_gone : (us : Uses) (x : Ident) (xs : List Ident) → is_used x us ≡ false
+    → KeepsVariables None us (x ∷ xs) xs
 one_gone us x xs h z g m = sym (ap (λ (b : Bool). b || has z xs) (used_other us x z h g)) ∙ m
 
 -- ---- variables that are not there

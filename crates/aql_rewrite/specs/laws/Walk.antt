@@ -14,7 +14,7 @@ use Rattle.aql_plan.specs.Used.{uses_tree}
 use Rattle.aql_rewrite.specs.declared.swap.Rename.{Rename}
 use Rattle.aql_rewrite.specs.Nodes.{uses_alone, gives_new_rows, is_collect, over_renamed}
 use Rattle.aql_rewrite.specs.Places.{Rewriting, Stays, NoPlace, NoPlaceAt, First, below, here, body}
-use Rattle.aql_rewrite.specs.Walks.{NoPlaceBelow, FirstBelow, NoPlaceHere, FirstHere}
+use Rattle.aql_rewrite.specs.InputPlaces.{NoPlaceBelow, FirstBelow, NoPlaceHere, FirstHere}
 use Rattle.aql_rewrite.specs.View.{above_uses}
 use Rattle.aql_rewrite.specs.laws.Levels.{nearest_first}
 use Rattle.aql_rewrite.specs.Placed.{IsWhole, Placed, IsPlaced}

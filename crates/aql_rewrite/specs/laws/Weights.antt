@@ -4,7 +4,7 @@ use Rattle.std.specs.Prelude.{Option, Some, None}
 use Rattle.aql_tree.specs.declared.syntax.Ident.{Ident}
 use Rattle.aql_tree.specs.declared.syntax.Ident.TheVariants.{Num}
 use Rattle.aql_tree.specs.Tree.{ExprTree, variable}
-use Rattle.aql_meaning.specs.Places.{put}
+use Rattle.aql_meaning.specs.Substitution.{put}
 use Rattle.aql_plan.specs.Plan.{Plan, Singleton, Over, Node, Subquery}
 use Rattle.aql_plan.specs.Nodes.{weight, weight_in}
 use Rattle.aql_plan.specs.Exprs.{map_plan, map_node}

@@ -7,7 +7,7 @@ use Rattle.std.specs.List.{AllZip, AllByRecursion}
 use Rattle.std.proofs.lemmas.Bool.{or_parts}
 use Rattle.aql_value.specs.Datum.{Datum, null, boolean}
 use Rattle.aql_value.specs.Truth.{truth}
-use Rattle.aql_value.specs.Parts.{elements}
+use Rattle.aql_value.specs.Contents.{elements}
 use Rattle.aql_func.specs.Objects.{id_text}
 use Rattle.aql_tree.specs.declared.syntax.Ident.{Ident}
 use Rattle.aql_tree.specs.Tree.{TraversalShape, ExprTree, ExprTrees, MaybeExpr, no_expr, one_expr}
@@ -24,7 +24,7 @@ use Rattle.aql_meaning.specs.laws.RowByRow.{each_related, each_own_related}
 use Rattle.aql_meaning.specs.laws.Shuffles.{alike_permutation}
 use Rattle.aql_plan.specs.Plan.{Node, EnumerateCollection, EnumerateList, Traversal, Sort}
 use Rattle.aql_plan.specs.Needs.{sets, own_uses}
-use Rattle.aql_plan.specs.Runs.{World, Outside, read, edges_in, Gives}
+use Rattle.aql_plan.specs.Runs.{Dataset, Outside, read, edges_in, Gives}
 use Rattle.aql_plan_laws.specs.laws.Carried.{all_parts}
 use Rattle.aql_plan_laws.specs.laws.Idents.{same_is}
 use Rattle.aql_plan_laws.specs.laws.Lists.{map_equal, filter_related}
@@ -94,7 +94,7 @@ module _ (x : Ident) (V : Row → Datum → Type 0) where
 
   -- ---- traversals
 
-  module _ (w : World) (shape : TraversalShape) (colls : List ℕ) (free : IsFree x V shape.vertex)
+  module _ (w : Dataset) (shape : TraversalShape) (colls : List ℕ) (free : IsFree x V shape.vertex)
       (edge_free : AllByRecursion (IsFree x V) (option_to_list shape.edge))
       (path_free : AllByRecursion (IsFree x V) (option_to_list shape.path)) where
     path_more : (g row : Row) → More g row → (t : Path)
@@ -131,7 +131,7 @@ module _ (x : Ident) (V : Row → Datum → Type 0) where
       (ap (λ (b : Bool). b || is_used x us) k.0 ∙ l.0, l.1)
 
   pub gives_bound : (n : Node) → enumerates_or_sorts n ≡ true → AllByRecursion (IsFree x V) (sets n)
-      → is_used x (own_uses n) ≡ false → (w : World) (start : Row) (ins rows out : List Row)
+      → is_used x (own_uses n) ≡ false → (w : Dataset) (start : Row) (ins rows out : List Row)
       → AllZip More ins rows → Gives n w Outside start ins out
       → (other : List Row) × Gives n w Outside start rows other × AllZip More out other
   gives_bound (EnumerateCollection y) o free u w start ins rows out h g =

@@ -16,9 +16,9 @@ use Rattle.aql_plan.specs.declared.facts.Facts.{Facts}
 use Rattle.aql_plan.specs.Needs.{sets, under, result_uses}
 use Rattle.aql_plan.specs.Nodes.{body_in, weight}
 use Rattle.aql_plan.specs.Plan.{Plan, Over, Node, Calculation, Subquery, Collect, Return, top}
-use Rattle.aql_plan.specs.Refines.{world}
+use Rattle.aql_plan.specs.Refines.{dataset}
 use Rattle.aql_plan.specs.Renaming.{renamed}
-use Rattle.aql_plan.specs.Runs.{World, Outside, Runs}
+use Rattle.aql_plan.specs.Runs.{Dataset, Outside, Runs}
 use Rattle.aql_plan.specs.Shapes.{HasNoFragment}
 use Rattle.aql_plan.specs.Variables.{vars_of, FindsAll, vars_set, set_once, count}
 use Rattle.aql_plan_laws.specs.laws.Agreement.{agree_self}
@@ -95,7 +95,7 @@ also_set P (Return distinct e) o h = absurd (true≢false o)
 also_set P n o h = h
 
 rows_have : (facts : Facts) (outer : List Ident) {e : ExprTree} {w : Ident} {p : Plan} (away : List Ident)
-    (us : Uses) → Calculates e w p → Placed false false facts outer away us p → (db : World) (start : Row)
+    (us : Uses) → Calculates e w p → Placed false false facts outer away us p → (db : Dataset) (start : Row)
     → (out : List Row) → Runs p db Outside start out → AllByRecursion (Has e w) out
 rows_have facts outer {e} {w} away us (here {b = b}) placed db start out g =
     subst (λ (rows : List Row). AllByRecursion (Has e w) rows) (sym g.2) (each g.0)
@@ -150,7 +150,7 @@ redundant_refine facts outer away _ _ _ _ placed
         (out, g, refl),
         agree_rows us (Num v) (Num w) e out (rows_have facts outer (Num v ∷ away) (uses e ++ us) c
             (placed_below false false facts outer away us (Calculation (Num v) e) b placed)
-            (world facts db) start out g),
+            (dataset facts db) start out g),
       )),
       counts_itself (Num v) (vars_set b),
       more (same_ident (Num w) (Num v)) (count (Num w) (vars_set b)) 1 (set_below c),

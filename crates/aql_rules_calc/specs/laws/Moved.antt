@@ -5,7 +5,7 @@ use Rattle.std.specs.List.{AllZip, AllByRecursion}
 use Rattle.std.proofs.lemmas.Bool.{or_right, and_parts, not-true, or_parts}
 use Rattle.std.proofs.lemmas.List.Folds.{list_any-append}
 use Rattle.aql_value.specs.Datum.{Datum, null}
-use Rattle.aql_value.specs.Parts.{list}
+use Rattle.aql_value.specs.Contents.{list}
 use Rattle.aql_tree.specs.declared.syntax.Ident.{Ident}
 use Rattle.aql_tree.specs.Tree.{TraversalShape, ExprTree, variable, ExprTrees, MaybeExpr}
 use Rattle.aql_meaning.specs.AtRows.{value_of, values_of}
@@ -18,8 +18,8 @@ use Rattle.aql_plan.specs.Exprs.{map_plan, map_node}
 use Rattle.aql_plan.specs.Needs.{sets, own_uses, under, needs, result_uses}
 use Rattle.aql_plan.specs.Nodes.{over}
 use Rattle.aql_plan.specs.Plan.{Reading, Plan, Singleton, Over, Node, EnumerateCollection, EnumerateList, Traversal, Calculation, Subquery, Sort, top}
-use Rattle.aql_plan.specs.Refines.{world, RefinesFor}
-use Rattle.aql_plan.specs.Runs.{World, Outside, Runs, Gives, result_of}
+use Rattle.aql_plan.specs.Refines.{dataset, RefinesFor}
+use Rattle.aql_plan.specs.Runs.{Dataset, Outside, Runs, Gives, result_of}
 use Rattle.aql_plan.specs.Shapes.{Rows, Shaped, calculated, with_subquery, plain_rows, lowest, other_reading, passing, KeepsShape}
 use Rattle.aql_plan.specs.Variables.{vars_of, FindsAll, vars_set, set_once, count}
 use Rattle.aql_plan_laws.specs.laws.Agreement.{rows_agree, runs_agree}
@@ -30,7 +30,7 @@ use Rattle.aql_rewrite.specs.declared.swap.Rename.{Rename}
 use Rattle.aql_rewrite.specs.Nodes.{uses_alone}
 use Rattle.aql_rewrite.specs.Places.{First}
 use Rattle.aql_rewrite.specs.Placed.{IsWhole, Placed}
-use Rattle.aql_rewrite.specs.Swaps.{Replaced, Kept, KeepsPlaced}
+use Rattle.aql_rewrite.specs.Swaps.{Replaced, KeepsVariables, KeepsPlaced}
 use Rattle.aql_rewrite.specs.laws.Among.{has}
 use Rattle.aql_rewrite.specs.laws.Carried.{Lowers, Lifts, renamed_lowers, first_lowers}
 use Rattle.aql_rewrite.specs.laws.Levels.{used_either}
@@ -46,14 +46,14 @@ use Rattle.aql_rewrite.specs.laws.Unused.{agree_unused, used_other, unused_from}
 abbrev calculated_by : ExprTree → Row → Datum → Type 0
 calculated_by e row v = v ≡ value_of e row
 
-abbrev queried : World → Plan → Row → Datum → Type 0
+abbrev queried : Dataset → Plan → Row → Datum → Type 0
 queried w s row v = (results : List Row) × Runs s w Outside row results × (v ≡ list (map result_of results))
 
 calculated_free : (e : ExprTree) (y : Ident) → is_used y (uses e) ≡ false → (row : Row) (v d : Datum)
     → calculated_by e row v → calculated_by e (bind y row d) v
 calculated_free e y h row v d k = k ∙ value_same e null row (bind y row d) (agree_unused (uses e) y row d h)
 
-queried_free : (w : World) (s : Plan) (y : Ident) → is_used y (needs s result_uses) ≡ false
+queried_free : (w : Dataset) (s : Plan) (y : Ident) → is_used y (needs s result_uses) ≡ false
     → (row : Row) (v d : Datum) → queried w s row v → queried w s (bind y row d) v
 queried_free w s y h row v d k =
     let a = runs_agree s result_uses w Outside Outside row (bind y row d) k.0 tt
@@ -92,7 +92,7 @@ module _ (x : Ident) (e : ExprTree) where
   calculated_back (g ∷ out) (row ∷ rows) h =
       ap₂ (λ r rs. r ∷ rs) (h.0.2 ∙ ap (bind x row) h.0.1) (calculated_back out rows h.1)
 
-module _ (w : World) (x : Ident) (s : Plan) where
+module _ (w : Dataset) (x : Ident) (s : Plan) where
   abbrev Given : Row → Row → Type 0
   Given row g = (results : List Row) × Runs s w Outside row results
       × (g ≡ bind x row (list (map result_of results)))
@@ -133,7 +133,7 @@ also_passed : (n : Node) → enumerates n ≡ true → enumerates_or_sorts n ≡
 also_passed (Sort directions es n) h = refl
 also_passed n h = h
 
-runs_over : {n : Node} → Passed n → (b : Plan) (w : World) (start : Row) (out : List Row)
+runs_over : {n : Node} → Passed n → (b : Plan) (w : Dataset) (start : Row) (out : List Row)
     → Runs (Over b n) w Outside start out
     → (rows : List Row) × Runs b w Outside start rows × Gives n w Outside start rows out
 runs_over (reads y) b w start out h = h
@@ -141,7 +141,7 @@ runs_over (lists y e) b w start out h = h
 runs_over (walks shape e colls prune keep) b w start out h = h
 runs_over (sorts directions es n) b w start out h = h
 
-run_over : {n : Node} → Passed n → (b : Plan) (w : World) (start : Row) (rows out : List Row)
+run_over : {n : Node} → Passed n → (b : Plan) (w : Dataset) (start : Row) (rows out : List Row)
     → Runs b w Outside start rows → Gives n w Outside start rows out → Runs (Over b n) w Outside start out
 run_over (reads y) b w start rows out h g = (rows, h, g)
 run_over (lists y e) b w start rows out h g = (rows, h, g)
@@ -191,7 +191,7 @@ module _ {facts : Facts} {outer away : List Ident} {us : Uses} {b : Plan} {n : N
       → Placed false false facts outer away us (Over (Over b n) (Calculation x e))
       → RefinesFor us facts (Over (Over b (Calculation x e)) n) (Over (Over b n) (Calculation x e))
   calculation_refines x e h placed = λ db meets start out g.
-      let w = world facts db in
+      let w = dataset facts db in
       let set = counts_itself x [] in
       let a = runs_over p (Over b (Calculation x e)) w start out g in
       let more = subst (λ (ins : List Row). AllZip (λ g row. Bound x (calculated_by e) row g) ins a.1.0)
@@ -208,7 +208,7 @@ module _ {facts : Facts} {outer away : List Ident} {us : Uses} {b : Plan} {n : N
       → Placed false false facts outer away us (Over (Over b n) (Subquery x s))
       → RefinesFor us facts (Over (Over b (Subquery x s)) n) (Over (Over b n) (Subquery x s))
   subquery_refines x s h placed = λ db meets start out g.
-      let w = world facts db in
+      let w = dataset facts db in
       let set = counts_itself x (vars_set s) in
       let a = runs_over p (Over b (Subquery x s)) w start out g in
       let k = gives_bound x (queried w s) n o
@@ -297,7 +297,7 @@ module _ (outer : List Ident) (b : Plan) (upper : Node) (x : Ident)
       ((k.0.0, below.0, below.1, below.2), above.0, above.1, above.2)
 
   vars_down : (us : Uses)
-      → Kept None us (vars_of outer (Over (Over b n) upper)) (vars_of outer (Over (Over b upper) n))
+      → KeepsVariables None us (vars_of outer (Over (Over b n) upper)) (vars_of outer (Over (Over b upper) n))
   vars_down us z g m = subst (λ (ys : List Ident). has z ys ≡ true)
       (sym (rows_of p outer (Over b upper) ∙ ap (λ (ys : List Ident). sets n ++ ys) (found b)))
       (turned x z (sets n) (vars_of outer b)

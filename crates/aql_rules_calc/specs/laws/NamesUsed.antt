@@ -11,7 +11,7 @@ use Rattle.std.proofs.lemmas.List.Sums.{fold-append}
 use Rattle.std.proofs.lemmas.Bool.{or_parts}
 use Rattle.aql_tree.specs.declared.syntax.Ident.{Ident}
 use Rattle.aql_meaning.specs.Row.{same_ident}
-use Rattle.aql_meaning.specs.Uses.{Use, Whole, Part, Uses}
+use Rattle.aql_meaning.specs.Uses.{Use, Whole, Attribute, Uses}
 use Rattle.aql_plan.specs.declared.uses.Use as code
 use Rattle.aql_plan.specs.Used.{uses_tree}
 use Rattle.aql_plan_laws.specs.laws.Idents.{same_self}
@@ -35,7 +35,7 @@ name_more (m ∷ names) name = by (slice_cmp nat_cmp name m) (name_more names na
 
 use_more : (x : Ident) (u : Use) (names : List (List ℕ)) → length names ≤ length (with_use x names u)
 use_more x (Whole y) names = omega arith
-use_more x (Part y name) names = by (same_ident x y)
+use_more x (Attribute y name) names = by (same_ident x y)
   where
     by : (b : Bool) → length names ≤ length (cond b (with_name names name) names)
     by true = name_more names name
@@ -79,7 +79,7 @@ added_then false before mid after x us vs h k = λ whole most.
 
 pub name_added : (x : Ident) (before after : List (List ℕ)) (name : List ℕ) (b : Bool)
     → after ≡ with_name before name → IsTrue b ↔ (length after ≤ 5)
-    → AreAdded b before x (Part x name ∷ []) after
+    → AreAdded b before x (Attribute x name ∷ []) after
 name_added x before after name true e f = (
   e ∙ sym (ap (λ (b : Bool). cond b (with_name before name) before) (same_self x)),
   refl,

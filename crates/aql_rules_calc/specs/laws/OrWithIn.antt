@@ -6,7 +6,7 @@ use Rattle.std.specs.List.{list_any}
 use Rattle.std.proofs.lemmas.Bool.{or_cases, or_left, or_right}
 use Rattle.std.proofs.lemmas.List.Folds.{list_any-append}
 use Rattle.aql_value.specs.Datum.{Datum, boolean}
-use Rattle.aql_value.specs.Parts.{list, elements, same, is_in}
+use Rattle.aql_value.specs.Contents.{list, elements, same, is_in}
 use Rattle.aql_value.specs.laws.Lists.{datum_list-array_of}
 use Rattle.aql_value.specs.declared.operators.BinOp.TheVariants.{Or, Eq, IsIn}
 use Rattle.aql_tree.specs.Tree.{ExprTree, array_literal, chain, ExprTrees, no_exprs, expr_then, LinkTrees}
@@ -16,7 +16,7 @@ use Rattle.aql_meaning.specs.Row.{Row}
 use Rattle.aql_meaning.specs.Value.{value, values, links_value}
 use Rattle.aql_meaning.specs.Plain.{IsPlain, AllPlain}
 use Rattle.aql_rewrite.specs.Keeps.{uses_variable, uses_current, Keeps}
-use Rattle.aql_rewrite.specs.Parts.{list_parts, link_parts}
+use Rattle.aql_rewrite.specs.Children.{list_children, link_children}
 use Rattle.aql_rewrite.specs.Size.{size, list_size, size_all}
 use Rattle.aql_rewrite.specs.laws.Constants.{constant_plain}
 use Rattle.aql_rewrite.specs.laws.PartSizes.{size_split}
@@ -28,11 +28,11 @@ use Rattle.aql_rules_calc.specs.ReplaceOrWithIn.{by_in}
 
 -- ---- lists of expressions
 
-pub listed : (ks : List ExprTree) → list_parts (trees ks) ≡ ks
+pub listed : (ks : List ExprTree) → list_children (trees ks) ≡ ks
 listed [] = refl
 listed (k ∷ ks) = ap (λ (es : List ExprTree). k ∷ es) (listed ks)
 
-trees_back : (es : ExprTrees) → trees (list_parts es) ≡ es
+trees_back : (es : ExprTrees) → trees (list_children es) ≡ es
 trees_back no_exprs = refl
 trees_back (expr_then e es) = ap (expr_then e) (trees_back es)
 
@@ -50,12 +50,12 @@ module _ (cur : Datum) (row : Row) where
   abbrev at : List ExprTree → List Datum
   at es = map (λ e. value e cur row) es
 
-  values_at : (es : ExprTrees) → values es cur row ≡ at (list_parts es)
+  values_at : (es : ExprTrees) → values es cur row ≡ at (list_children es)
   values_at no_exprs = refl
   values_at (expr_then e es) = ap (λ (vs : List Datum). value e cur row ∷ vs) (values_at es)
 
   in_list : (es : ExprTrees) (v : Datum)
-      → is_in (elements (list (values es cur row))) v ≡ is_in (at (list_parts es)) v
+      → is_in (elements (list (values es cur row))) v ≡ is_in (at (list_children es)) v
   in_list es v = ap (λ (vs : List Datum). is_in vs v) (datum_list-array_of (values es cur row) ∙ values_at es)
 
   both_in : (xs ys : List ExprTree) (v : Datum)
@@ -74,7 +74,7 @@ module _ (cur : Datum) (row : Row) where
     part_value _ _ (equal_to {k = k} p c) = ap boolean (or_false (same (value e cur row) (value k cur row)))
     part_value _ _ (one_of {k = k} {ks = ks} p c) = ap boolean (in_list (expr_then k ks) (value e cur row))
 
-    links_in : (ls : LinkTrees) (ks : List ExprTree) → each_or ls ≡ true → AllCompare e (link_parts ls) ks
+    links_in : (ls : LinkTrees) (ks : List ExprTree) → each_or ls ≡ true → AllCompare e (link_children ls) ks
         → (a : Bool) → links_value ls cur row (boolean a) ≡ boolean (a || is_in (at ks) (value e cur row))
     links_in no_links _ o no_more a = ap boolean (or_false a)
     links_in (link_then Or d ls) _ o (compares_then {ks = ks} {js = js} h k) a =
@@ -87,7 +87,7 @@ module _ (cur : Datum) (row : Row) where
     links_in (link_then op d ls) ks o h a = absurd (true≢false (sym o))
 
     whole_in : (d : ExprTree) (ls : LinkTrees) (ks : List ExprTree) → each_or ls ≡ true
-        → AllCompare e (d ∷ link_parts ls) ks
+        → AllCompare e (d ∷ link_children ls) ks
         → links_value ls cur row (value d cur row) ≡ boolean (is_in (at ks) (value e cur row))
     whole_in d ls _ o (compares_then {ks = ks} {js = js} h k) =
         let v = value e cur row in
@@ -108,8 +108,8 @@ some_or (link_then op e ls) h = h
 
 -- a test that holds of an expression where it holds of a part
 module _ (e : ExprTree) (T : ExprTree → Bool)
-    (chains : (d : ExprTree) (ls : LinkTrees) → T (chain d ls) ≡ list_any T (d ∷ link_parts ls))
-    (lists : (es : ExprTrees) → T (array_literal es) ≡ list_any T (list_parts es)) where
+    (chains : (d : ExprTree) (ls : LinkTrees) → T (chain d ls) ≡ list_any T (d ∷ link_children ls))
+    (lists : (es : ExprTrees) → T (array_literal es) ≡ list_any T (list_children es)) where
   part_there : (d : ExprTree) (ks : List ExprTree) → Compares e d ks → (T e || list_any T ks) ≡ true
       → T d ≡ true
   part_there _ _ (equal_to {k = k} p c) h = chains e (link_then Eq k no_links) ∙ h
@@ -129,14 +129,14 @@ module _ (e : ExprTree) (T : ExprTree → Bool)
   first_there : (d : ExprTree) (ds ks : List ExprTree) → AllCompare e (d ∷ ds) ks → T e ≡ true → T d ≡ true
   first_there d ds _ (compares_then {ks = ks} k l) h = part_there d ks k (or_left (T e) (list_any T ks) h)
 
-  whole_there : (d : ExprTree) (ls : LinkTrees) (ks : List ExprTree) → AllCompare e (d ∷ link_parts ls) ks
+  whole_there : (d : ExprTree) (ls : LinkTrees) (ks : List ExprTree) → AllCompare e (d ∷ link_children ls) ks
       → T (operation e IsIn (array_literal (trees ks))) ≡ true → T (chain d ls) ≡ true
   whole_there d ls ks k h =
       let array = array_literal (trees ks) in
       chains d ls
       ∙ elim (or_cases (T e) (T array || false) (sym (chains e (link_then IsIn array no_links)) ∙ h)) [
-        | inl g ↦ or_left (T d) (list_any T (link_parts ls)) (first_there d (link_parts ls) ks k g)
-        | inr g ↦ each_there (d ∷ link_parts ls) ks k
+        | inl g ↦ or_left (T d) (list_any T (link_children ls)) (first_there d (link_children ls) ks k g)
+        | inr g ↦ each_there (d ∷ link_children ls) ks k
             (ap (list_any T) (sym (listed ks)) ∙ sym (lists (trees ks)) ∙ or_false (T array) ∙ g)
       ]
 
@@ -201,10 +201,10 @@ two_parts e d f ds _ (compares_then {ks = ks} k (compares_then {ks = hs} {js = j
 pub replaces_fall : (p q : ExprTree) → Replaces p q → size q < size p
 replaces_fall _ _ (by_in {e = e} {d = d} {ls = ls} {ks = ks} o c h) = by ls o h
   where
-    by : (ls : LinkTrees) → is_or_chain ls ≡ true → AllCompare e (d ∷ link_parts ls) ks
+    by : (ls : LinkTrees) → is_or_chain ls ≡ true → AllCompare e (d ∷ link_children ls) ks
         → size (operation e IsIn (array_literal (trees ks))) < size (chain d ls)
     by no_links o h = absurd (true≢false (sym o))
     by (link_then op f ls) o h =
-        let k = two_parts e d f (link_parts ls) ks h in
+        let k = two_parts e d f (link_children ls) ks h in
         let s = size_split (chain d (link_then op f ls)) in
         omega (arith, k, s)

@@ -10,7 +10,7 @@ use Rattle.std.proofs.lemmas.Bool.{or_cases, or_left, or_right, and_from, or_par
 use Rattle.std.proofs.lemmas.Map.Text.{is_eq-slice_cmp}
 use Rattle.std.proofs.lemmas.Slice.Eq.{bytes_eq-Decides}
 use Rattle.aql_value.specs.Datum.{Datum, null}
-use Rattle.aql_value.specs.Parts.{at_name, attributes}
+use Rattle.aql_value.specs.Contents.{at_name, attributes}
 use Rattle.aql_value.specs.Attributes.{attribute}
 use Rattle.aql_value.specs.laws.Lists.{fields_list-object_of}
 use Rattle.aql_tree.specs.declared.syntax.Ident.{Ident}
@@ -19,9 +19,9 @@ use Rattle.aql_tree.specs.Tree.{ExprTree, variable, ExprTrees}
 use Rattle.aql_meaning.specs.AtRows.{passes}
 use Rattle.aql_meaning.specs.Clauses.{with_each}
 use Rattle.aql_meaning.specs.Documents.{Last, projection, documents_kept, Scanned, InIndexOrder, ScannedInOrder}
-use Rattle.aql_meaning.specs.Places.{put}
+use Rattle.aql_meaning.specs.Substitution.{put}
 use Rattle.aql_meaning.specs.Row.{Row, bind, same_ident}
-use Rattle.aql_meaning.specs.Uses.{Use, Whole, Part, Uses, AgreeAt, Agree}
+use Rattle.aql_meaning.specs.Uses.{Use, Whole, Attribute, Uses, AgreeAt, Agree}
 use Rattle.aql_meaning.specs.laws.Shuffles.{alike_permutation}
 use Rattle.aql_plan.specs.declared.facts.Facts.{Facts}
 use Rattle.aql_plan.specs.declared.facts.IndexFact.{IndexFact}
@@ -30,8 +30,8 @@ use Rattle.aql_plan.specs.Fits.{Fits, IndexFits, KeepsOrder, exprs_in}
 use Rattle.aql_plan.specs.Exprs.{map_plan, map_node}
 use Rattle.aql_plan.specs.Needs.{result_uses}
 use Rattle.aql_plan.specs.Plan.{Reading, Plan, Singleton, Over, Node, EnumerateCollection, Index, Subquery, top}
-use Rattle.aql_plan.specs.Refines.{world}
-use Rattle.aql_plan.specs.Runs.{World, Outside, read, read_in_bounds, Indexed}
+use Rattle.aql_plan.specs.Refines.{dataset}
+use Rattle.aql_plan.specs.Runs.{Dataset, Outside, read, read_in_bounds, Indexed}
 use Rattle.aql_plan.specs.Shapes.{plain_rows, ordered_rows, lowest, lowest_in_order, other_reading, passing, KeepsShape}
 use Rattle.aql_plan_laws.specs.laws.Idents.{same_self}
 use Rattle.aql_plan_laws.specs.laws.Lists.{append_related}
@@ -83,7 +83,7 @@ new_among name (m ∷ names) = by (slice_cmp nat_cmp name m) refl (new_among nam
 stays_with_use : (x : Ident) (n : List ℕ) (u : Use) (names : List (List ℕ)) → among names n ≡ true
     → among (with_use x names u) n ≡ true
 stays_with_use x n (Whole y) names h = h
-stays_with_use x n (Part y name) names h = by (same_ident x y)
+stays_with_use x n (Attribute y name) names h = by (same_ident x y)
   where
     by : (b : Bool) → among (cond b (with_name names name) names) n ≡ true
     by true = stays_among n name names h
@@ -98,7 +98,7 @@ stays_with_uses x n (u ∷ us) names h =
 -- x is used by these names alone
 abbrev IsCovered : Ident → List (List ℕ) → Use → Type 0
 IsCovered x names (Whole y) = same_ident x y ≡ false
-IsCovered x names (Part y name) = same_ident x y ≡ true → among names name ≡ true
+IsCovered x names (Attribute y name) = same_ident x y ≡ true → among names name ≡ true
 
 covered : (x : Ident) (us : Uses) (before : List (List ℕ)) → used_whole x us ≡ false
     → AllByRecursion (IsCovered x (fold (with_use x) before us)) us
@@ -109,7 +109,7 @@ covered x (u ∷ us) before h =
   where
     first : (u : Use) → is_whole x u ≡ false → IsCovered x (fold (with_use x) (with_use x before u) us) u
     first (Whole y) h = h
-    first (Part y name) h = λ e.
+    first (Attribute y name) h = λ e.
         stays_with_uses x name us (cond (same_ident x y) (with_name before name) before)
         (subst (λ (b : Bool). among (cond b (with_name before name) before) name ≡ true) (sym e)
         (new_among name before))
@@ -162,7 +162,7 @@ module _ (x : Ident) (names : List (List ℕ)) where
           ≡ unwrap_or (cond b (Some d) (row y)) null
       by true e = absurd (true≢false e)
       by false e = refl
-  agree_at (Part y n) h row d = by (same_ident x y) h
+  agree_at (Attribute y n) h row d = by (same_ident x y) h
     where
       by : (b : Bool) → (b ≡ true → among names n ≡ true)
           → at_name (unwrap_or (cond b (Some (projection (Some names) d)) (row y)) null) n
@@ -245,7 +245,7 @@ in_order_agree us x names cover order descending pass reads attrs whole rows out
       subst (λ (o : List Row). AllZip (Agree us) o (with_each (bind x) rows k.0)) (sym g.2) k.2,
     )
 
-indexed_agree : (us : Uses) (w : World) (x : Reading) (names : List (List ℕ)) → x.attrs ≡ None
+indexed_agree : (us : Uses) (w : Dataset) (x : Reading) (names : List (List ℕ)) → x.attrs ≡ None
     → AllByRecursion (IsCovered x.var names) us
     → (index : ℕ) (equal : ExprTrees) (last : Last ExprTree) (ordered : Option Bool) (rows out : List Row)
     → Indexed w Outside (keeping names x) index equal last ordered rows out
@@ -262,7 +262,7 @@ pub reduces_refine : (facts : Facts) (us : Uses) (p q : Plan) (r : Option Rename
     → Replaced false facts us p q r
 reduces_refine facts _ _ _ _ (enumeration {us = us} {x = x} h) = λ db meets start out g.
     let k = scanned_agree us x.var (names_used x.var us) (covered x.var us [] h.1) (passes x.filter)
-    (λ row. read (world facts db) x.coll x.shard Outside) x.attrs h.0 g.0 out g.2 in
+    (λ row. read (dataset facts db) x.coll x.shard Outside) x.attrs h.0 g.0 out g.2 in
     (k.0, (g.0, g.1, k.1), k.2)
 reduces_refine facts _ _ _ _
     (by_index {us = us} {x = x} {index = index} {equal = equal} {last = last} {ordered = ordered} h) =
@@ -270,14 +270,14 @@ reduces_refine facts _ _ _ _
     let vs = us ++ order_uses facts x index ordered in
     let names = names_used x.var vs in
     let cover = covered_front x.var names us (order_uses facts x index ordered) (covered x.var vs [] h.1) in
-    let k = indexed_agree us (world facts db) x names h.0 cover index equal last ordered g.0 out g.2 in
+    let k = indexed_agree us (dataset facts db) x names h.0 cover index equal last ordered g.0 out g.2 in
     (k.0, (g.0, g.1, k.1), k.2)
 
 -- ---- a well-formed plan stays so
 
 -- the attributes that count as looked at are kept
 order_kept : (x : Ident) (names : List (List ℕ)) (order : List (List ℕ)) → same_ident x x ≡ true
-    → AllByRecursion (IsCovered x names) (map (λ name. Part x name) order)
+    → AllByRecursion (IsCovered x names) (map (λ name. Attribute x name) order)
     → list_all (λ a. list_any (bytes_eq a) names) order ≡ true
 order_kept x names [] e h = refl
 order_kept x names (n ∷ order) e h =
@@ -442,7 +442,7 @@ reduces_changes facts _ _ _ _
 module _ (facts : Facts) (us : Uses) (b : Plan) where
   -- what is used above, and the attributes of an order
   abbrev asked : Ident → List (List ℕ) → Uses
-  asked x order = us ++ map (λ name. Part x name) order
+  asked x order = us ++ map (λ name. Attribute x name) order
 
   -- what is read whole, and what is said of its variable and its order
   found : (attrs : Option (List (List ℕ))) (y x : Ident) (own order : List (List ℕ))
@@ -504,7 +504,7 @@ module _ (facts : Facts) (us : Uses) (b : Plan) where
 
 pub kept_reduces : (facts : Facts) (us : Uses) (p : Plan) (x : Ident) (order : List (List ℕ))
     (kept : Option (List (List ℕ))) → read_whole facts (top p) ≡ Some (x, order)
-    → AreKept kept x (us ++ map (λ name. Part x name) order)
+    → AreKept kept x (us ++ map (λ name. Attribute x name) order)
     → MatchOption kept (Stays (Reduces facts) us p) (λ names. Reduces facts us p (with_attrs names p) None)
 kept_reduces facts us Singleton x order kept h k = cc
 kept_reduces facts us (Over b n) x order None h k = node_stays facts us b n x order [] h k

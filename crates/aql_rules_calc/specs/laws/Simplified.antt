@@ -5,7 +5,7 @@ use Rattle.std.specs.Prelude.{Option, Some, ◌||◌, unwrap_or, bytes_eq}
 use Rattle.std.specs.List.{list_any}
 use Rattle.std.proofs.lemmas.Bool.{or_cases, or_left, or_right}
 use Rattle.aql_value.specs.Datum.{Datum, null}
-use Rattle.aql_value.specs.Parts.{at_name}
+use Rattle.aql_value.specs.Contents.{at_name}
 use Rattle.aql_value.specs.Attributes.{with_attribute, attribute}
 use Rattle.aql_value.specs.laws.Lists.{fields_list-object_of}
 use Rattle.aql_func.specs.Objects.{with_all}
@@ -18,7 +18,7 @@ use Rattle.aql_meaning.specs.Value.{value, members, steps_value}
 use Rattle.aql_meaning.specs.Expressions.{object_value}
 use Rattle.aql_meaning.specs.Plain.{IsPlain, MembersPlain, StepsPlain}
 use Rattle.aql_rewrite.specs.Keeps.{uses_variable, uses_current, steps_current, Keeps}
-use Rattle.aql_rewrite.specs.Parts.{member_parts, step_parts}
+use Rattle.aql_rewrite.specs.Children.{member_children, step_children}
 use Rattle.aql_rewrite.specs.Size.{size, members_size, steps_size}
 use Rattle.aql_rewrite.specs.laws.Constants.{constant_value as one_value}
 use Rattle.aql_rules_calc.specs.SimplifyConditions.{is_literal, all_named, last_of, with_steps}
@@ -65,7 +65,7 @@ steps_after e (inline_then filter gives ss) cur row = refl
 -- a test that holds of an expression where it holds of a part or of a step
 module _ (T : ExprTree → Bool) (G : StepTrees → Bool)
     (accesses : (e : ExprTree) (ss : StepTrees) → T (access e ss) ≡ (T e || G ss))
-    (objects : (ms : MemberTrees) → T (object_literal ms) ≡ list_any T (member_parts ms)) where
+    (objects : (ms : MemberTrees) → T (object_literal ms) ≡ list_any T (member_children ms)) where
   with_steps_there : (e : ExprTree) (ss : StepTrees) → T (with_steps e ss) ≡ true → (T e || G ss) ≡ true
   with_steps_there e no_steps h = or_left (T e) (G no_steps) h
   with_steps_there e (name_then name ss) h = sym (accesses e (name_then name ss)) ∙ h
@@ -73,13 +73,13 @@ module _ (T : ExprTree → Bool) (G : StepTrees → Bool)
   with_steps_there e (inline_then filter gives ss) h = sym (accesses e (inline_then filter gives ss)) ∙ h
 
   last_there : (name : List ℕ) (ms : MemberTrees) (before : ExprTree) → T (last_of name ms before) ≡ true
-      → (T before || list_any T (member_parts ms)) ≡ true
+      → (T before || list_any T (member_children ms)) ≡ true
   last_there name no_members before h = or_left (T before) false h
   last_there name (named_then n e ms) before h =
       by (bytes_eq name n) (last_there name ms (cond (bytes_eq name n) e before) h)
     where
       rest : Bool
-      rest = list_any T (member_parts ms)
+      rest = list_any T (member_children ms)
 
       by : (b : Bool) → (T (cond b e before) || rest) ≡ true → (T before || (T e || rest)) ≡ true
       by true h = or_right (T before) (T e || rest) h
@@ -88,7 +88,7 @@ module _ (T : ExprTree → Bool) (G : StepTrees → Bool)
         | inr g ↦ or_right (T before) (T e || rest) (or_right (T e) rest g)
       ]
   last_there name (computed_then n e ms) before h =
-      let rest = list_any T (member_parts ms) in
+      let rest = list_any T (member_children ms) in
       elim (or_cases (T before) rest (last_there name ms before h)) [
         | inl g ↦ or_left (T before) (T n || (T e || rest)) g
         | inr g ↦ or_right (T before) (T n || (T e || rest))
@@ -103,7 +103,7 @@ module _ (T : ExprTree → Bool) (G : StepTrees → Bool)
       accesses (object_literal ms) (name_then name ss)
       ∙ elim (or_cases (T e) (G ss) (with_steps_there e ss h)) [
         | inl g ↦ or_left (T (object_literal ms)) (G (name_then name ss)) (objects ms
-            ∙ ap (λ (b : Bool). b || list_any T (member_parts ms)) (sym empty)
+            ∙ ap (λ (b : Bool). b || list_any T (member_children ms)) (sym empty)
             ∙ last_there name ms (literal null) g)
         | inr g ↦ or_right (T (object_literal ms)) (G (name_then name ss)) (same ∙ g)
       ]
@@ -139,7 +139,7 @@ simplifies_keep _ _ (to_member {ms = ms} {name = name} {ss = ss} o c) = record {
       (last_plain name ms (literal null) g.0 tt) g.1;
   same_value = λ g cur row. steps_after (last_of name ms (literal null)) ss cur row
       ∙ ap (steps_value ss cur row) (sym (member_value cur row name ms o));
-  no_variable = λ x. member_there (uses_variable x) (λ ss. list_any (uses_variable x) (step_parts ss))
+  no_variable = λ x. member_there (uses_variable x) (λ ss. list_any (uses_variable x) (step_children ss))
       (access_variables x) (object_variables x) name ms ss refl refl;
   no_current = member_there uses_current steps_current (λ e ss. refl) object_current name ms ss refl refl;
 }

@@ -2,7 +2,7 @@
 use Rattle.std.proofs.Common.{◌≡◌, ◌∙◌, ℕ, suc, ◌<◌, ◌≤◌, List, [], ◌∷◌, ◌++◌, map, Bool, true, false, true≢false, cond, refl, ap, sym, subst₂, arith, ◌+◌}
 use Rattle.std.specs.Prelude.{not, Option, None}
 use Rattle.std.specs.List.{AllZip}
-use Rattle.aql_value.specs.Parts.{list}
+use Rattle.aql_value.specs.Contents.{list}
 use Rattle.aql_tree.specs.declared.syntax.Ident.{Ident}
 use Rattle.aql_tree.specs.Tree.{ExprTree}
 use Rattle.aql_meaning.specs.AtRows.{value_of, values_of}
@@ -13,7 +13,7 @@ use Rattle.aql_plan.specs.declared.facts.Facts.{Facts}
 use Rattle.aql_plan.specs.Plan.{Plan, Singleton, Over, Node, Calculation, Subquery, top}
 use Rattle.aql_plan.specs.Needs.{result_uses}
 use Rattle.aql_plan.specs.Nodes.{over, weight}
-use Rattle.aql_plan.specs.Refines.{world}
+use Rattle.aql_plan.specs.Refines.{dataset}
 use Rattle.aql_plan.specs.Runs.{Outside, Runs, result_of}
 use Rattle.aql_plan.specs.Shapes.{calculated, with_subquery as subquery_shaped, plain_rows, lowest, other_reading, passing, KeepsShape}
 use Rattle.aql_plan.specs.Variables.{vars_of, vars_set, count}
@@ -52,9 +52,9 @@ removes_refine facts _ _ _ _ (calculation {us = us} {x = x} {e = e} h) = λ db m
     (with_values x out (values_of e out), (out, g, refl), bound_more us x e h out)
 removes_refine facts _ _ _ _ (with_subquery {us = us} {s = s} {x = x} h) = λ db meets start out g.
     let k = given_more us
-    (λ row given. (results : List Row) × Runs s (world facts db) Outside row results
+    (λ row given. (results : List Row) × Runs s (dataset facts db) Outside row results
     × (given ≡ bind x row (list (map result_of results))))
-    (λ row. let a = some_run s (world facts db) Outside row in (
+    (λ row. let a = some_run s (dataset facts db) Outside row in (
       bind x row (list (map result_of a.0)),
       (a.0, a.1, refl),
       agree_unused us x row (list (map result_of a.0)) h,

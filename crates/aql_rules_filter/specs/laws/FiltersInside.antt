@@ -17,8 +17,8 @@ use Rattle.aql_plan.specs.declared.facts.Facts.{Facts}
 use Rattle.aql_plan.specs.Facts.{attributes_in}
 use Rattle.aql_plan.specs.Needs.{result_uses}
 use Rattle.aql_plan.specs.Plan.{Reading, Plan, Singleton, Over, Node, EnumerateCollection, Index, Filter, top}
-use Rattle.aql_plan.specs.Runs.{World, Outside, read, read_in_bounds, Indexed}
-use Rattle.aql_plan.specs.Refines.{world}
+use Rattle.aql_plan.specs.Runs.{Dataset, Outside, read, read_in_bounds, Indexed}
+use Rattle.aql_plan.specs.Refines.{dataset}
 use Rattle.aql_plan.specs.Shapes.{Shape, Rows, Shaped, plain_rows, ordered_rows}
 use Rattle.aql_plan.specs.Variables.{vars_of}
 use Rattle.aql_plan_laws.specs.laws.Agreement.{rows_agree}
@@ -110,7 +110,7 @@ module _ (v : Ident) (own : MaybeExpr) (c : ExprTree) where
         (with_each (bind v) rows k.0, (k.0, k.1, refl), h.2 ∙ k.2)
 
 -- the same of an Index, in any order or in its own
-indexed_kept : (w : World) (x : Reading) (index : ℕ) (equal : ExprTrees) (last : Last ExprTree)
+indexed_kept : (w : Dataset) (x : Reading) (index : ℕ) (equal : ExprTrees) (last : Last ExprTree)
     (ordered : Option Bool) (c : ExprTree) (rows out : List Row) → x.attrs ≡ None
     → Indexed w Outside (with_condition x c) index equal last ordered rows out
     → (mid : List Row) × Indexed w Outside x index equal last ordered rows mid × (out ≡ filter (holds c) mid)
@@ -139,7 +139,7 @@ indexed_kept w x index equal last (Some descending) c rows out e h =
 pub moves_in_refine : (facts : Facts) (us : Uses) (p q : Plan) (r : Option Rename) → MovesIn us p q r
     → Replaced false facts us p q r
 moves_in_refine facts _ _ _ _ (into_enumerate {us = us} {x = x} {c = c} e) = λ db meets start out g.
-    let w = world facts db in
+    let w = dataset facts db in
     let documents = λ (row : Row). read w x.coll x.shard Outside in
     let k = scanned_kept x.var x.filter c documents g.0 out
     (subst (λ (names : Option (List (List ℕ))).
@@ -161,7 +161,7 @@ moves_in_refine facts _ _ _ _
     (into_index {us = us} {x = x} {index = index} {equal = equal} {last = last} {ordered = ordered}
     {c = c} e) =
     λ db meets start out g.
-    let k = indexed_kept (world facts db) x index equal last ordered c g.0 out e g.2 in
+    let k = indexed_kept (dataset facts db) x index equal last ordered c g.0 out e g.2 in
     (out, (k.0, (g.0, g.1, k.1), k.2 ∙ sym (filtered c k.0)), rows_agree us out)
 
 -- ---- a well-formed plan stays so

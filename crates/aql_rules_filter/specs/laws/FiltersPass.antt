@@ -6,7 +6,7 @@ use Rattle.std.specs.List.{AllZip}
 use Rattle.std.proofs.lemmas.List.Elements.{filter-append}
 use Rattle.aql_value.specs.Database.{Database}
 use Rattle.aql_value.specs.Datum.{Datum}
-use Rattle.aql_value.specs.Parts.{list, elements}
+use Rattle.aql_value.specs.Contents.{list, elements}
 use Rattle.aql_func.specs.Objects.{id_text}
 use Rattle.aql_tree.specs.declared.syntax.Ident.{Ident}
 use Rattle.aql_tree.specs.Tree.{ExprTree, ExprTrees, no_expr, TraversalShape}
@@ -21,7 +21,7 @@ use Rattle.aql_meaning.specs.laws.SomeOrder.{keyed_order}
 use Rattle.aql_plan.proofs.SomeRun.{some_run}
 use Rattle.aql_plan.specs.Needs.{sets}
 use Rattle.aql_plan.specs.Plan.{Node, EnumerateCollection, EnumerateList, Traversal, Calculation, Subquery, Sort}
-use Rattle.aql_plan.specs.Runs.{World, Outside, read, edges_in, result_of, Runs, Gives}
+use Rattle.aql_plan.specs.Runs.{Dataset, Outside, read, edges_in, result_of, Runs, Gives}
 use Rattle.aql_rules_filter.specs.MoveFiltersUp.{may_swap, none_used}
 use Rattle.aql_rules_filter.specs.laws.Filtered.{holds, filter_swap}
 use Rattle.aql_rewrite.specs.laws.Flat.{each_flat, flat_filter, all_alike, filter_map}
@@ -218,7 +218,7 @@ module _ (c : ExprTree) where
 
 -- ---- the nodes
 
-pub filter_after : (n : Node) (c : ExprTree) (w : World) (start : Row) (rows out : List Row)
+pub filter_after : (n : Node) (c : ExprTree) (w : Dataset) (start : Row) (rows out : List Row)
     → may_swap n ≡ true → none_used (sets n) (uses c) ≡ true
     → Gives n w Outside start (filter (holds c) rows) out
     → (mid : List Row) × Gives n w Outside start rows mid × (out ≡ filter (holds c) mid)

@@ -12,7 +12,7 @@ use Rattle.aql_plan.specs.declared.facts.Facts.{Facts}
 use Rattle.aql_plan.specs.Plan.{Plan, Over, Filter, NoResults}
 use Rattle.aql_plan.specs.Needs.{result_uses}
 use Rattle.aql_plan.specs.Runs.{Outside}
-use Rattle.aql_plan.specs.Refines.{world}
+use Rattle.aql_plan.specs.Refines.{dataset}
 use Rattle.aql_plan.specs.Shapes.{Shape, Shaped, plain_rows}
 use Rattle.aql_plan_laws.specs.laws.Agreement.{rows_agree}
 use Rattle.aql_plan.proofs.SomeRun.{some_run}
@@ -37,7 +37,7 @@ removes_refine facts _ _ _ _ (passing {us = us} {v = v} e) = λ db meets start o
   rows_agree us out,
 )
 removes_refine facts _ _ _ _ (failing {us = us} {b = b} {v = v} e) = λ db meets start out g.
-    let some = some_run b (world facts db) Outside start in (
+    let some = some_run b (dataset facts db) Outside start in (
       out,
       (
         some.0,

@@ -18,7 +18,7 @@ use Rattle.aql_plan.specs.Nodes.{over}
 use Rattle.aql_plan.specs.Needs.{sets, result_uses}
 use Rattle.aql_plan.specs.Plan.{Plan, Singleton, Over, Node, EnumerateCollection, EnumerateList, Traversal, Calculation, Subquery, Filter, Sort, top}
 use Rattle.aql_plan.specs.Runs.{Outside, Runs, Gives}
-use Rattle.aql_plan.specs.Refines.{world, RefinesFor}
+use Rattle.aql_plan.specs.Refines.{dataset, RefinesFor}
 use Rattle.aql_plan.specs.Shapes.{Shape, Rows, Shaped, calculated, with_subquery, plain_rows, ordered_rows, gather, gather_in_order, finishing}
 use Rattle.aql_plan.specs.Variables.{vars_of, FindsAll}
 use Rattle.aql_plan_laws.specs.laws.Agreement.{rows_agree}
@@ -41,18 +41,18 @@ use Rattle.aql_rules_filter.specs.laws.Unused.{among_others}
 -- what a Filter below a node gives, one over it gives
 abbrev Same : Uses → Facts → Plan → ExprTree → Node → Type 0
 Same us facts b c n = (db : Database) → Meets facts db → (start : Row) (out : List Row)
-    → ((rows : List Row) × ((ins : List Row) × Runs b (world facts db) Outside start ins
-    × (rows ≡ filter_true ins (values_of c ins))) × Gives n (world facts db) Outside start rows out)
-    → (other : List Row) × ((mid : List Row) × ((ins : List Row) × Runs b (world facts db) Outside start ins
-    × Gives n (world facts db) Outside start ins mid) × (other ≡ filter_true mid (values_of c mid)))
+    → ((rows : List Row) × ((ins : List Row) × Runs b (dataset facts db) Outside start ins
+    × (rows ≡ filter_true ins (values_of c ins))) × Gives n (dataset facts db) Outside start rows out)
+    → (other : List Row) × ((mid : List Row) × ((ins : List Row) × Runs b (dataset facts db) Outside start ins
+    × Gives n (dataset facts db) Outside start ins mid) × (other ≡ filter_true mid (values_of c mid)))
     × AllZip (Agree us) out other
 
 with_rows : (us : Uses) (facts : Facts) (b : Plan) (c : ExprTree) (n : Node) → may_swap n ≡ true
     → none_used (sets n) (uses c) ≡ true → Same us facts b c n
 with_rows us facts b c n l u db meets start out g =
     let ins = g.1.0 in
-    let k = filter_after n c (world facts db) start ins out l u
-    (subst (λ (xs : List Row). Gives n (world facts db) Outside start xs out)
+    let k = filter_after n c (dataset facts db) start ins out l u
+    (subst (λ (xs : List Row). Gives n (dataset facts db) Outside start xs out)
     (g.1.2 ∙ filtered c ins) g.2) in
     (out, (k.0, (ins, g.1.1, k.1), k.2 ∙ sym (filtered c k.0)), rows_agree us out)
 

@@ -16,7 +16,7 @@ use Rattle.aql_meaning.specs.Plain.{IsPlain, MaybePlain, LinksPlain}
 use Rattle.aql_meaning.specs.Row.{Row}
 use Rattle.aql_meaning.specs.Uses.{uses, maybe_uses, link_uses}
 use Rattle.aql_meaning.specs.Value.{links_value}
-use Rattle.aql_plan.specs.FirstPlan.{is_and, all_and, right_sides, parts}
+use Rattle.aql_plan.specs.FirstPlan.{is_and, all_and, right_sides, conjuncts}
 use Rattle.aql_plan.specs.Variables.{are_among}
 use Rattle.aql_rewrite.specs.laws.Among.{among_join, among_split}
 use Rattle.aql_rules_filter.specs.Conditions.{filter_items, and_links, all_of, joined}
@@ -55,7 +55,7 @@ links_hold row (link_then op e ls) a h =
     ∙ ap (λ b. b && list_all (λ d. holds d row) (right_sides ls)) (truth_and a (value_of e row))
     ∙ and_assoc (truth a) (holds e row) (list_all (λ d. holds d row) (right_sides ls))
 
-pub parts_hold : (row : Row) (e : ExprTree) → list_all (λ d. holds d row) (parts e) ≡ holds e row
+pub parts_hold : (row : Row) (e : ExprTree) → list_all (λ d. holds d row) (conjuncts e) ≡ holds e row
 parts_hold row (chain e ls) = by (all_and ls) refl
   where
     by : (b : Bool) → all_and ls ≡ b
@@ -86,8 +86,8 @@ all_hold row (e ∷ f ∷ fs) =
 pub joined_holds : (first : MaybeExpr) (second : ExprTree) (row : Row)
     → holds (joined first second) row ≡ (passes first row && holds second row)
 joined_holds first second row =
-    all_hold row (filter_items first ++ parts second)
-    ∙ list_all-append (λ d. holds d row) (filter_items first) (parts second)
+    all_hold row (filter_items first ++ conjuncts second)
+    ∙ list_all-append (λ d. holds d row) (filter_items first) (conjuncts second)
     ∙ ap₂ (λ a b. a && b) (items_hold row first) (parts_hold row second)
 
 -- ---- what items have, a condition has
@@ -96,7 +96,7 @@ module _ (P : ExprTree → Type 0)
     (split : (e : ExprTree) (ls : LinkTrees) → P (chain e ls) → P e × AllByRecursion P (right_sides ls))
     (join : (e : ExprTree) (es : List ExprTree) → P e → AllByRecursion P es → P (chain e (and_links es)))
     (empty : P (literal (boolean true))) where
-  parts_have : (e : ExprTree) → P e → AllByRecursion P (parts e)
+  parts_have : (e : ExprTree) → P e → AllByRecursion P (conjuncts e)
   parts_have (chain e ls) h = by (all_and ls)
     where
       by : (b : Bool) → AllByRecursion P (cond b (e ∷ right_sides ls) (chain e ls ∷ []))
@@ -115,11 +115,11 @@ module _ (P : ExprTree → Type 0)
   all_has (e ∷ f ∷ fs) h = join e (f ∷ fs) h.0 h.1
 
   one_has : (first second : ExprTree) → P first → P second → P (joined (one_expr first) second)
-  one_has first second h k = all_has (parts first ++ parts second)
-      (both_have (parts first) (parts second) (parts_have first h) (parts_have second k))
+  one_has first second h k = all_has (conjuncts first ++ conjuncts second)
+      (both_have (conjuncts first) (conjuncts second) (parts_have first h) (parts_have second k))
 
   alone_has : (second : ExprTree) → P second → P (joined no_expr second)
-  alone_has second k = all_has (parts second) (parts_have second k)
+  alone_has second k = all_has (conjuncts second) (parts_have second k)
 
 -- no subquery
 

@@ -24,7 +24,7 @@ use Rattle.aql_plan_laws.specs.laws.Idents.{same_is, same_swapped}
 use Rattle.aql_rewrite.specs.declared.swap.Rename.{Rename}
 use Rattle.aql_rewrite.specs.Places.{First}
 use Rattle.aql_rewrite.specs.Placed.{Placed, IsWhole}
-use Rattle.aql_rewrite.specs.Swaps.{Replaced, Kept, KeepsPlaced}
+use Rattle.aql_rewrite.specs.Swaps.{Replaced, KeepsVariables, KeepsPlaced}
 use Rattle.aql_rewrite.specs.laws.Among.{has, both, and_true, among_join, among_split}
 use Rattle.aql_rewrite.specs.Sums.{total}
 use Rattle.aql_rules_filter.specs.OptimizeTraversals.{with_vars, tests_use, is_gone, Optimizes, edge_goes, path_goes, filter_goes_in}
@@ -113,7 +113,7 @@ among_left (u ∷ us) x xs ys h k =
     parted false b h = (refl, h)
 
 kept_left : (us : Uses) (x : Ident) (xs ys : List Ident) → is_used x us ≡ false
-    → Kept None us (xs ++ x ∷ ys) (xs ++ ys)
+    → KeepsVariables None us (xs ++ x ∷ ys) (xs ++ ys)
 kept_left us x xs ys h z used k = has_left z x xs ys (other_one x z us h used) k
 
 fewer_left : (z x : Ident) (xs ys : List Ident) → count z (xs ++ ys) ≤ count z (xs ++ x ∷ ys)

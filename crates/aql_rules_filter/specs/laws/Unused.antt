@@ -1,4 +1,5 @@
--- A condition does not look at a variable that it does not use; what is used is there without those that are not.
+-- A condition does not look at a variable that it does not use; what is used is there without those that are
+-- not.
 use Rattle.std.proofs.Common.{◌≡◌, ◌∙◌, List, [], ◌∷◌, ◌++◌, Bool, true, false, true≢false, refl, ap, sym}
 use Rattle.std.specs.Prelude.{◌||◌, not, Option, Some, None, option_to_list}
 use Rattle.std.proofs.lemmas.Bool.{and_parts, not-true, or_parts}

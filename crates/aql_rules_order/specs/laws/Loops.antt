@@ -16,8 +16,8 @@ use Rattle.aql_meaning.specs.laws.Rows.{binds_swap}
 use Rattle.aql_meaning.specs.laws.Shuffles.{shuffle, flat_permuted}
 use Rattle.aql_plan.specs.declared.facts.Facts.{Facts}
 use Rattle.aql_plan.specs.Plan.{Reading, Plan, Over, EnumerateCollection}
-use Rattle.aql_plan.specs.Refines.{world, RefinesFor}
-use Rattle.aql_plan.specs.Runs.{World, Outside, read}
+use Rattle.aql_plan.specs.Refines.{dataset, RefinesFor}
+use Rattle.aql_plan.specs.Runs.{Dataset, Outside, read}
 use Rattle.aql_plan_laws.specs.laws.Agreement.{rows_agree}
 use Rattle.aql_plan_laws.specs.laws.Idents.{same_is}
 use Rattle.aql_rules_order.specs.InterchangeAdjacentEnumerations.{is_missing}
@@ -26,10 +26,10 @@ use Rattle.aql_rules_order.specs.laws.Grid.{flat_flat, flat_each, grid}
 -- ---- the rows of one loop
 
 -- the documents that it gives for each row
-abbrev documents_in : World → Reading → List Datum
+abbrev documents_in : Dataset → Reading → List Datum
 documents_in w x = map (projection x.attrs) (read w x.coll x.shard Outside)
 
-abbrev rows_with : World → Reading → Row → List Row
+abbrev rows_with : Dataset → Reading → Row → List Row
 rows_with w x row = map (bind x.var row) (documents_in w x)
 
 all_pass : {X : Type 0} (xs : List X) → filter (λ x. true) xs ≡ xs
@@ -41,7 +41,7 @@ kept_all : (f : MaybeExpr) → is_missing f ≡ true → (bound : Datum → Row)
 kept_all no_expr h bound documents = all_pass documents
 kept_all (one_expr e) h bound documents = absurd (true≢false (sym h))
 
-loop_rows : (w : World) (x : Reading) → is_missing x.filter ≡ true → (rows : List Row)
+loop_rows : (w : Dataset) (x : Reading) → is_missing x.filter ≡ true → (rows : List Row)
     → with_each (bind x.var) rows
     (map (λ row. documents_kept x.var (passes x.filter) x.attrs row (read w x.coll x.shard Outside)) rows)
     ≡ flat_map (rows_with w x) rows
@@ -58,7 +58,7 @@ apart : (x y : Ident) → same_ident x y ≡ false → (z : Ident) → same_iden
     → same_ident x z ≡ false
 apart x y h z e = subst (λ (w : Ident). same_ident x w ≡ false) (same_is y z e) h
 
-module _ (w : World) (x y : Reading) (other : same_ident x.var y.var ≡ false) where
+module _ (w : Dataset) (x y : Reading) (other : same_ident x.var y.var ≡ false) where
   either_first : (row : Row)
       → IsPermutation (flat_map (rows_with w x) (rows_with w y row))
       (flat_map (rows_with w y) (rows_with w x row))
@@ -95,7 +95,7 @@ pub loops_refine : (us : Uses) (facts : Facts) (b : Plan) (x y : Reading) → is
     → RefinesFor us facts (Over (Over b (EnumerateCollection x)) (EnumerateCollection y))
     (Over (Over b (EnumerateCollection y)) (EnumerateCollection x))
 loops_refine us facts b x y h k other db meets start out g =
-    let w = world facts db in
+    let w = dataset facts db in
     let mid = g.0 in
     let rows = g.1.0 in
     let lower = subst (λ (given : List Row). IsPermutation given mid) (loop_rows w x h rows) g.1.2 in

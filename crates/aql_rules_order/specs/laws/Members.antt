@@ -5,7 +5,7 @@ use Rattle.std.specs.Prelude.{filter, IsPermutation}
 use Rattle.std.specs.List.{AllZip}
 use Rattle.std.proofs.lemmas.Simd.{map-map}
 use Rattle.aql_value.specs.Datum.{Datum, null}
-use Rattle.aql_value.specs.Parts.{list, elements, same}
+use Rattle.aql_value.specs.Contents.{list, elements, same}
 use Rattle.aql_func.specs.Arguments.{argument}
 use Rattle.aql_func.specs.Lists.{distinct}
 use Rattle.aql_tree.specs.declared.syntax.Ident.{Ident}

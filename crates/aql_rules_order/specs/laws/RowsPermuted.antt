@@ -5,7 +5,7 @@ use Rattle.std.specs.Prelude.{flat_map, IsPermutation, Option, Some, None, unwra
 use Rattle.std.specs.List.{AllZip}
 use Rattle.std.proofs.lemmas.List.Sorted.{IsPermutation-map, IsPermutation-trans, IsPermutation-sym}
 use Rattle.aql_value.specs.Datum.{Datum, null}
-use Rattle.aql_value.specs.Parts.{list, elements, same}
+use Rattle.aql_value.specs.Contents.{list, elements, same}
 use Rattle.aql_func.specs.Aggregates.{Aggregate, aggregate, aggregate_named}
 use Rattle.aql_func.proofs.Shuffles.{shuffled}
 use Rattle.aql_tree.specs.declared.syntax.Ident.{Ident}
@@ -23,7 +23,7 @@ use Rattle.aql_meaning.specs.laws.RowByRow.{elements_flat, kept_flat, bound_flat
 use Rattle.aql_meaning.specs.laws.Shuffles.{shuffle, flat_permuted, alike_permutation}
 use Rattle.aql_value.specs.Truth.{truth}
 use Rattle.aql_plan.specs.Plan.{Node, EnumerateCollection, EnumerateList, Traversal, Calculation, Subquery, Filter, Sort, Collect}
-use Rattle.aql_plan.specs.Runs.{World, Outside, read, edges_in, result_of, Runs, Gives}
+use Rattle.aql_plan.specs.Runs.{Dataset, Outside, read, edges_in, result_of, Runs, Gives}
 use Rattle.aql_plan.specs.Shapes.{IsNoFragment}
 use Rattle.aql_plan_laws.specs.laws.Lists.{weaker}
 use Rattle.aql_aggregate.proofs.Members.{distinct_alike}
@@ -35,7 +35,7 @@ use Rattle.aql_rules_order.specs.laws.Permuted.{filter_permuted, keyed_permuted,
 
 -- ---- one row after another
 
-pub row_by_row : (n : Node) (w : World) (start : Row) (rows others out : List Row) → goes_by_row n ≡ true
+pub row_by_row : (n : Node) (w : Dataset) (start : Row) (rows others out : List Row) → goes_by_row n ≡ true
     → IsPermutation rows others → Gives n w Outside start rows out
     → (other : List Row) × Gives n w Outside start others other × IsPermutation out other
 row_by_row (Calculation x e) w start rows others out l p g =
@@ -118,7 +118,7 @@ each_permuted f g rows others p =
     (sym (each_flat f g others))
     (flat_permuted (λ row. map (f row) (g row)) (shuffle rows others p)))
 
-pub order_free : (n : Node) (w : World) (start : Row) (rows others out : List Row) → ignores_order n ≡ true
+pub order_free : (n : Node) (w : Dataset) (start : Row) (rows others out : List Row) → ignores_order n ≡ true
     → IsNoFragment n → IsPermutation rows others → Gives n w Outside start rows out
     → Gives n w Outside start others out
 order_free (Sort directions es n) w start rows others out l lone p g = (

@@ -3,7 +3,7 @@ use Rattle.std.proofs.Common.{◌≡◌, ◌∙◌, ℕ, zero, suc, ◌+◌, ◌
 use Rattle.std.specs.Prelude.{Option, Some, None}
 use Rattle.std.specs.List.{AllZip}
 use Rattle.std.proofs.lemmas.List.{drop-take}
-use Rattle.aql_value.specs.Parts.{list}
+use Rattle.aql_value.specs.Contents.{list}
 use Rattle.aql_tree.specs.declared.syntax.Ident.{Ident}
 use Rattle.aql_tree.specs.Tree.{ExprTree, ExprTrees}
 use Rattle.aql_meaning.specs.AtRows.{value_of, values_of}
@@ -16,8 +16,8 @@ use Rattle.aql_plan.specs.Exprs.{map_node}
 use Rattle.aql_plan.specs.Needs.{result_uses}
 use Rattle.aql_plan.specs.Nodes.{weight}
 use Rattle.aql_plan.specs.Plan.{Plan, Singleton, Over, Node, NoResults, Scatter, Distribute, Gather, Calculation, Subquery, Sort, Limit, top}
-use Rattle.aql_plan.specs.Refines.{world}
-use Rattle.aql_plan.specs.Runs.{World, Outside, Runs, Gives, result_of}
+use Rattle.aql_plan.specs.Refines.{dataset}
+use Rattle.aql_plan.specs.Runs.{Dataset, Outside, Runs, Gives, result_of}
 use Rattle.aql_plan.specs.Shapes.{Shape, Shaped, is_inside, plain_rows, lowest, other_reading, passing, sorting, KeepsShape}
 use Rattle.aql_plan_laws.specs.laws.Agreement.{rows_agree}
 use Rattle.aql_plan.proofs.SomeRun.{some_run}
@@ -66,7 +66,7 @@ given_first G some (suc limit) (row ∷ rows) (y ∷ out) h =
     let a = given_first G some limit rows out h.1 in
     (y ∷ a.0, (h.0, a.1), ap (λ ys. y ∷ ys) a.2)
 
-first_given : (n : Node) (w : World) (start : Row) (limit : ℕ) (rows out : List Row) → sets_value n ≡ true
+first_given : (n : Node) (w : Dataset) (start : Row) (limit : ℕ) (rows out : List Row) → sets_value n ≡ true
     → Gives n w Outside start (take limit rows) out
     → (more : List Row) × Gives n w Outside start rows more × (out ≡ take limit more)
 first_given (Calculation x e) w start limit rows out l g =
@@ -85,7 +85,7 @@ value_takes (Distribute coll es) l = l
 value_takes (Gather directions es) l = l
 value_takes n l = refl
 
-unlimited_run : {limit : ℕ} {p c : Plan} → Limited limit p c → (w : World) (start : Row) (out : List Row)
+unlimited_run : {limit : ℕ} {p c : Plan} → Limited limit p c → (w : Dataset) (start : Row) (out : List Row)
     → Runs c w Outside start out
     → (more : List Row) × Runs p w Outside start more × (out ≡ take limit more)
 unlimited_run here w start out g = (g.2.0, (g.0, g.1, (g.2.0, g.2.1, refl)), g.2.2)
@@ -99,7 +99,7 @@ unlimited_run {limit} (below {b = b} {c = c} {n = n} l h) w start out g =
 pub limits_refine : (facts : Facts) (us : Uses) (p q : Plan) (r : Option Rename) → Limits us p q r
     → Replaced false facts us p q r
 limits_refine facts _ _ _ _ (limited {us = us} {offset = offset} {most = most} h) = λ db meets start out g.
-    let k = unlimited_run h (world facts db) start g.0 g.1 in (
+    let k = unlimited_run h (dataset facts db) start g.0 g.1 in (
       out,
       (k.0, k.1, g.2 ∙ ap (limit_rows offset most) k.2 ∙ limited_same offset most k.0),
       rows_agree us out,

@@ -16,12 +16,12 @@ use Rattle.aql_plan.specs.declared.facts.Facts.{Facts}
 use Rattle.aql_plan.specs.Needs.{result_uses}
 use Rattle.aql_plan.specs.Nodes.{weight, over}
 use Rattle.aql_plan.specs.Plan.{Plan, Singleton, Over, Node, NoResults, Scatter, Distribute, Gather, Sort, top}
-use Rattle.aql_plan.specs.Refines.{world, RefinesFor}
-use Rattle.aql_plan.specs.Runs.{World, Outside, Runs}
+use Rattle.aql_plan.specs.Refines.{dataset, RefinesFor}
+use Rattle.aql_plan.specs.Runs.{Dataset, Outside, Runs}
 use Rattle.aql_plan.specs.Shapes.{plain_rows, lowest, other_reading, passing, sorting, KeepsShape}
 use Rattle.aql_plan_laws.specs.laws.Agreement.{rows_agree}
 use Rattle.aql_rewrite.specs.Constant.{AreConstant, constant_then}
-use Rattle.aql_rewrite.specs.Parts.{list_parts}
+use Rattle.aql_rewrite.specs.Children.{list_children}
 use Rattle.aql_rewrite.specs.laws.Constants.{constant_value}
 use Rattle.aql_rewrite.specs.declared.swap.Rename.{Rename}
 use Rattle.aql_rewrite.specs.Changed.{IsChanged}
@@ -40,7 +40,7 @@ use Rattle.aql_rewrite.specs.Sums.{total}
 
 -- ---- constant keys leave the order open
 
-same_keys : (es : ExprTrees) → AreConstant (list_parts es) → (row other : Row)
+same_keys : (es : ExprTrees) → AreConstant (list_children es) → (row other : Row)
     → keys_of es row ≡ keys_of es other
 same_keys no_exprs h row other = refl
 same_keys (expr_then e es) (constant_then h k) row other =
@@ -53,7 +53,7 @@ not_itself lt o x = by (lt x x) refl
     by true e = o.one_way x x e
     by false e = e
 
-module _ (directions : List Bool) (es : ExprTrees) (h : AreConstant (list_parts es)) where
+module _ (directions : List Bool) (es : ExprTrees) (h : AreConstant (list_children es)) where
   abbrev lt : KeyedRow → KeyedRow → Bool
   lt = comes_before directions
 
@@ -112,7 +112,7 @@ sort_permutes directions es rows out s =
     subst₂ (λ (xs ys : List Row). IsPermutation xs ys) (unkeyed es rows) (sym s.3)
     (IsPermutation-map (λ (k : KeyedRow). k.1) (zip (map (keys_of es) rows) rows) s.0 s.1)
 
-some_with : {p c : Plan} → WithoutSort p c → (w : World) (start : Row) (rows : List Row)
+some_with : {p c : Plan} → WithoutSort p c → (w : Dataset) (start : Row) (rows : List Row)
     → Runs c w Outside start rows
     → (others : List Row) × Runs p w Outside start others × IsPermutation rows others
 some_with (here {directions = directions} {es = es}) w start rows g =
@@ -130,7 +130,7 @@ unsorts_refine facts outer away _ _ _ _ placed (constant_keys {us = us} {b = b} 
     idle_refines us facts b n h
 unsorts_refine facts outer away _ _ _ _ placed (order_lost {us = us} {b = b} {c = c} {n = n} l other h) =
     λ db meets start out g.
-    let w = world facts db in
+    let w = dataset facts db in
     let k = made n (free_takes n l) c w start out g in
     let before = some_with h w start k.0 k.1 in (
       out,

@@ -9,7 +9,7 @@ use Rattle.aql_plan.specs.declared.facts.Facts.{Facts}
 use Rattle.aql_plan.specs.Above.{input_inside}
 use Rattle.aql_plan.specs.Needs.{sets}
 use Rattle.aql_plan.specs.Plan.{Plan, Over, Node, Collect, Return, NoResults, Scatter, Distribute, Gather}
-use Rattle.aql_plan.specs.Runs.{World, Outside, Runs, Gives}
+use Rattle.aql_plan.specs.Runs.{Dataset, Outside, Runs, Gives}
 use Rattle.aql_plan.specs.Shapes.{HasNoFragment, KeepsShape}
 use Rattle.aql_plan.specs.Variables.{vars_of, FindsAll, vars_set, set_once, count}
 use Rattle.aql_plan_laws.specs.laws.FoundMapped.{NodeFinds}
@@ -25,10 +25,10 @@ takes_rows (Gather directions es) = false
 takes_rows n = true
 
 -- the lists that a node makes over the lists of a plan
-abbrev pub Made : Plan → Node → World → Row → List Row → Type 0
+abbrev pub Made : Plan → Node → Dataset → Row → List Row → Type 0
 Made b n w start out = (rows : List Row) × Runs b w Outside start rows × Gives n w Outside start rows out
 
-pub made : (n : Node) → takes_rows n ≡ true → (b : Plan) (w : World) (start : Row) (out : List Row)
+pub made : (n : Node) → takes_rows n ≡ true → (b : Plan) (w : Dataset) (start : Row) (out : List Row)
     → Runs (Over b n) w Outside start out → Made b n w start out
 made NoResults l b w start out g = absurd (true≢false (sym l))
 made (Scatter coll only) l b w start out g = absurd (true≢false (sym l))
@@ -36,7 +36,7 @@ made (Distribute coll es) l b w start out g = absurd (true≢false (sym l))
 made (Gather directions es) l b w start out g = absurd (true≢false (sym l))
 made n l b w start out g = g
 
-pub run_of : (n : Node) → takes_rows n ≡ true → (b : Plan) (w : World) (start : Row) (out : List Row)
+pub run_of : (n : Node) → takes_rows n ≡ true → (b : Plan) (w : Dataset) (start : Row) (out : List Row)
     → Made b n w start out → Runs (Over b n) w Outside start out
 run_of NoResults l b w start out g = absurd (true≢false (sym l))
 run_of (Scatter coll only) l b w start out g = absurd (true≢false (sym l))

@@ -5,7 +5,7 @@ use Rattle.std.specs.List.{AllZip, AllByRecursion}
 use Rattle.std.proofs.lemmas.Bool.{and_parts, not-true}
 use Rattle.std.proofs.lemmas.List.{append-nil}
 use Rattle.aql_value.specs.Datum.{Datum, null}
-use Rattle.aql_value.specs.Parts.{list, elements}
+use Rattle.aql_value.specs.Contents.{list, elements}
 use Rattle.aql_value.specs.laws.Lists.{datum_list-array_of}
 use Rattle.aql_tree.specs.declared.syntax.Ident.{Ident}
 use Rattle.aql_tree.specs.Tree.{ExprTree, variable}
@@ -13,13 +13,13 @@ use Rattle.aql_meaning.specs.AtRows.{value_of, values_of}
 use Rattle.aql_meaning.specs.Clauses.{with_values, with_elements}
 use Rattle.aql_meaning.specs.Numbered.{IsNumber}
 use Rattle.aql_meaning.specs.Row.{Row, bind, value_at, same_ident}
-use Rattle.aql_meaning.specs.Uses.{Whole, Part, Uses, Agree, uses, is_used}
+use Rattle.aql_meaning.specs.Uses.{Whole, Attribute, Uses, Agree, uses, is_used}
 use Rattle.aql_plan.specs.declared.facts.Facts.{Facts}
 use Rattle.aql_plan.specs.Needs.{sets, result_uses}
 use Rattle.aql_plan.specs.Nodes.{weight, over, body_in, with_body}
 use Rattle.aql_plan.specs.Plan.{Plan, Singleton, Over, Node, Index, EnumerateList, Calculation, Subquery, Collect, Return, NoResults, Scatter, Distribute, Gather, top}
-use Rattle.aql_plan.specs.Refines.{world}
-use Rattle.aql_plan.specs.Runs.{World, Outside, Runs, result_row, result_of}
+use Rattle.aql_plan.specs.Refines.{dataset}
+use Rattle.aql_plan.specs.Runs.{Dataset, Outside, Runs, result_row, result_of}
 use Rattle.aql_plan.specs.Shapes.{Shape, Rows, Shaped, IsOuter, HasNoFragment, IsNoFragment, is_inside, one_row, calculated, with_subquery, plain_rows, ordered_rows, lowest, other_reading, passing, gather, gather_in_order, finishing, returning, KeepsShape}
 use Rattle.aql_plan.specs.Variables.{vars_of, vars_set, set_once, are_among, FindsAll, count}
 use Rattle.aql_plan_laws.specs.laws.Agreement.{agree_self, agree_bind, agree_through}
@@ -54,7 +54,7 @@ one_of G r [] h = absurd h
 one_of G r (y ∷ []) h = (y, refl)
 one_of G r (y ∷ z ∷ out) h = absurd h.1
 
-single_row : (p : Plan) → is_single p ≡ true → (w : World) (start : Row) (rows : List Row)
+single_row : (p : Plan) → is_single p ≡ true → (w : Dataset) (start : Row) (rows : List Row)
     → Runs p w Outside start rows → (r : Row) × (rows ≡ r ∷ [])
 single_row Singleton h w start rows g = (start, g)
 single_row (Over b (Calculation x e)) h w start rows g =
@@ -69,7 +69,7 @@ single_row (Over b n) h w start rows g = absurd (true≢false (sym h))
 
 -- a plan over a single row runs from that row
 from_row : (p : Plan) → is_single p ≡ true → (b : Plan) → has_collect b ≡ false → HasNoFragment b
-    → (w : World) (start : Row) (rows : List Row) → Runs (started_from p b) w Outside start rows
+    → (w : Dataset) (start : Row) (rows : List Row) → Runs (started_from p b) w Outside start rows
     → (r : Row) × Runs p w Outside start (r ∷ []) × Runs b w Outside r rows
 from_row p h Singleton l lone w start rows g =
     let k = single_row p h w start rows g in
@@ -94,7 +94,7 @@ results_back (v ∷ vs) = ap (λ us. v ∷ us) (results_back vs)
 agree_flip : (us : Uses) (r s : Row) → Agree us r s → Agree us s r
 agree_flip [] r s h = tt
 agree_flip (Whole x ∷ us) r s h = (sym h.0, agree_flip us r s h.1)
-agree_flip (Part x name ∷ us) r s h = (sym h.0, agree_flip us r s h.1)
+agree_flip (Attribute x name ∷ us) r s h = (sym h.0, agree_flip us r s h.1)
 
 bound_at : (s : Ident) (r : Row) (v : Datum) → value_at (bind s r v) s ≡ v
 bound_at s r v = ap (λ (b : Bool). unwrap_or (cond b (Some v) (r s)) null) (same_self s)
@@ -153,7 +153,8 @@ module _ (us : Uses) (r : Row) where
   sets_unused (Return distinct e) u lone o = absurd (true≢false o)
   sets_unused n u lone o = u
 
-  over_agrees : (facts : Facts) (w : World) (b : Plan) (n : Node) → gives_new_rows n ≡ false → IsNoFragment n
+  over_agrees : (facts : Facts) (w : Dataset) (b : Plan) (n : Node) → gives_new_rows n ≡ false
+      → IsNoFragment n
       → AllUnused (set_once n ++ vars_set b)
       → ((rows : List Row) → Runs b w Outside r rows → AllByRecursion Agrees rows)
       → (rows : List Row) → Runs (Over b n) w Outside r rows → AllByRecursion Agrees rows
@@ -161,7 +162,7 @@ module _ (us : Uses) (r : Row) where
       over_holds Agrees n o lone
       (all_leave (sets n) (sets_unused n (front_unused (set_once n) (vars_set b) u) lone o)) b w r h rows g
 
-  rows_agree_with : (facts : Facts) (w : World) {b : Plan} {one : Bool} → Shaped facts b (Rows one)
+  rows_agree_with : (facts : Facts) (w : Dataset) {b : Plan} {one : Bool} → Shaped facts b (Rows one)
       → has_collect b ≡ false → HasNoFragment b → AllUnused (vars_set b) → (rows : List Row)
       → Runs b w Outside r rows → AllByRecursion Agrees rows
   rows_agree_with facts w one_row l lone u rows g =
@@ -225,7 +226,7 @@ pub inlines_refine : (facts : Facts) (outer away : List Ident) (us : Uses) (p q 
     → Placed false false facts outer away us p → Inlines us p q r → Replaced false facts us p q r
 inlines_refine facts outer away _ _ _ _ placed
     (inlined {us = us} {p = p} {b = b} {s = s} {x = x} {e = e} u h l) = λ db meets start out g.
-    let w = world facts db in
+    let w = dataset facts db in
     let body = body_rows facts p b s x e placed.shaped.0 placed.shaped.1 placed.shaped.2 in
     let k = from_row p h b l placed.suits.0.1.0 w start g.0 g.1 in
     let vs = values_of e g.0 in

@@ -189,11 +189,11 @@ clause_faults::in_traversal-returns t c = grind (arith, the_lemmas, clause_lemma
 pub expr_faults::in_call-returns : goal.expr_faults::in_call-returns
 expr_faults::in_call-returns t c = grind (arith, the_lemmas, count_args)
 
-pub expr_faults::in_chosen-returns-in-Some : goal.expr_faults::in_chosen-returns-in-Some
-expr_faults::in_chosen-returns-in-Some t c = grind (arith, the_lemmas, clause_lemmas)
+pub expr_faults::in_branch-returns-in-Some : goal.expr_faults::in_branch-returns-in-Some
+expr_faults::in_branch-returns-in-Some t c = grind (arith, the_lemmas, clause_lemmas)
 
-pub expr_faults::in_chosen-returns-in-None : goal.expr_faults::in_chosen-returns-in-None
-expr_faults::in_chosen-returns-in-None t c = grind (arith, the_lemmas, clause_lemmas)
+pub expr_faults::in_branch-returns-in-None : goal.expr_faults::in_branch-returns-in-None
+expr_faults::in_branch-returns-in-None t c = grind (arith, the_lemmas, clause_lemmas)
 
 pub expr_faults::in_expr-returns-in_err-in_expr-in-Access
     : goal.expr_faults::in_expr-returns-in_err-in_expr-in-Access
@@ -211,9 +211,9 @@ pub expr_faults::in_expr-returns-in_err-in_expr-in-Cond
     : goal.expr_faults::in_expr-returns-in_err-in_expr-in-Cond
 expr_faults::in_expr-returns-in_err-in_expr-in-Cond t c = grind (arith, the_lemmas, clause_lemmas)
 
-pub expr_faults::in_expr-returns-in_err-in_chosen-in-Cond
-    : goal.expr_faults::in_expr-returns-in_err-in_chosen-in-Cond
-expr_faults::in_expr-returns-in_err-in_chosen-in-Cond t c = grind (arith, the_lemmas, clause_lemmas)
+pub expr_faults::in_expr-returns-in_err-in_branch-in-Cond
+    : goal.expr_faults::in_expr-returns-in_err-in_branch-in-Cond
+expr_faults::in_expr-returns-in_err-in_branch-in-Cond t c = grind (arith, the_lemmas, clause_lemmas)
 
 pub expr_faults::in_expr-returns-in_err-in_expr-in-Range
     : goal.expr_faults::in_expr-returns-in_err-in_expr-in-Range
@@ -252,9 +252,9 @@ pub expr_faults::in_expr-returns-in_ok-in_expr-in-Quant
     : goal.expr_faults::in_expr-returns-in_ok-in_expr-in-Quant
 expr_faults::in_expr-returns-in_ok-in_expr-in-Quant t c = grind (arith, the_lemmas, clause_lemmas)
 
-pub expr_faults::in_expr-returns-in_ok-in_chosen-in-Cond
-    : goal.expr_faults::in_expr-returns-in_ok-in_chosen-in-Cond
-expr_faults::in_expr-returns-in_ok-in_chosen-in-Cond t c = grind (arith, the_lemmas, clause_lemmas)
+pub expr_faults::in_expr-returns-in_ok-in_branch-in-Cond
+    : goal.expr_faults::in_expr-returns-in_ok-in_branch-in-Cond
+expr_faults::in_expr-returns-in_ok-in_branch-in-Cond t c = grind (arith, the_lemmas, clause_lemmas)
 
 pub expr_faults::in_expr-returns-in_ok-in_expr-in-Range
     : goal.expr_faults::in_expr-returns-in_ok-in_expr-in-Range

@@ -385,8 +385,8 @@ lift_exprs::lift_expr-returns-in_ok-lift_boxed-in-Quant t c = grind (arith, comm
 pub lift_exprs::lift_expr-returns-in_ok-lift_boxed-in-Range : goal.lift_exprs::lift_expr-returns-in_ok-lift_boxed-in-Range
 lift_exprs::lift_expr-returns-in_ok-lift_boxed-in-Range t c = grind (arith, common_steps, the_lemmas)
 
-pub lift_exprs::lift_expr-returns-in_ok-lift_chosen-in-Cond : goal.lift_exprs::lift_expr-returns-in_ok-lift_chosen-in-Cond
-lift_exprs::lift_expr-returns-in_ok-lift_chosen-in-Cond t c = grind (arith, common_steps, the_lemmas)
+pub lift_exprs::lift_expr-returns-in_ok-lift_branch-in-Cond : goal.lift_exprs::lift_expr-returns-in_ok-lift_branch-in-Cond
+lift_exprs::lift_expr-returns-in_ok-lift_branch-in-Cond t c = grind (arith, common_steps, the_lemmas)
 
 pub lift_clauses::lift_clause-returns-in-Traversal : goal.lift_clauses::lift_clause-returns-in-Traversal
 lift_clauses::lift_clause-returns-in-Traversal t c = grind (arith, common_steps, clause_lemmas)

@@ -3,7 +3,7 @@ use Rattle.std.proofs.Common.{◌≡◌, ℕ, zero, suc, List, [], ◌∷◌, ma
 use Rattle.std.specs.Prelude.{◌==◌, ◌<◌, Option, Some, None}
 use Rattle.std.proofs.Math.Nat.{mod-one}
 use Rattle.aql_value.specs.Datum.{Datum}
-use Rattle.aql_value.specs.Parts.{list, at_name}
+use Rattle.aql_value.specs.Contents.{list, at_name}
 use Rattle.aql_value.specs.Json.{json_text}
 use Rattle.aql_value.specs.Database.{documents_of}
 use Rattle.aql_value.specs.Shards.{fnv, shard_of, documents_on}
@@ -11,7 +11,7 @@ use Rattle.aql_doc.specs.Held.{Held, database, documents_at}
 use Rattle.aql_plan.specs.Facts.{Meets, shards_in, keys_in}
 use Rattle.aql_plan.specs.Fits.{IsShard}
 use Rattle.aql_shard.specs.Known.{facts_of}
-use Rattle.aql_shard.specs.Held.{documents_read}
+use Rattle.aql_shard.specs.Datasets.{documents_read}
 
 -- ---- what is known is true
 

@@ -1,7 +1,7 @@
 -- The lists of an array and of an object, and back.
 use Rattle.std.proofs.Common.{◌≡◌, ℕ, List, [], ◌∷◌, refl, ap}
 use Rattle.aql_value.specs.Datum.{Datum, Datums, no_datums, datum_then, Fields, no_fields, field, array_of, object_of}
-use Rattle.aql_value.specs.Parts.{datum_list, fields_list}
+use Rattle.aql_value.specs.Contents.{datum_list, fields_list}
 
 pub datum_list-array_of : (ts : List Datum) → datum_list (array_of ts) ≡ ts
 datum_list-array_of [] = refl

@@ -166,7 +166,7 @@ fn quantified(
 ) -> Result<Expr, OutOfMemory>
     ensures { IfOk result (λ e. IsPlain (tree e)) }
 {
-    Expr::quantified(alloc, lit(alloc, left), kind, op, lit(alloc, right))
+    Expr::array_comparison(alloc, lit(alloc, left), kind, op, lit(alloc, right))
 }
 
 fn attribute(alloc: Global, number: u32, name: &str) -> Result<Expr, OutOfMemory>

@@ -23,8 +23,8 @@ returns-in_default-clause-valid g c =
 pub returns-in_default-clause-undisturbed : goal.returns-in_default-clause-undisturbed
 returns-in_default-clause-undisturbed g c = (nothing, rises_none _, λ r h. (r, ahead_none r, h))
 
-pub turn_node-requires : goal.turn_node-requires
-turn_node-requires g c =
+pub run_node-requires : goal.run_node-requires
+run_node-requires g c =
     let x = g.X.Executor in
     let p = g.W.Place in
     let serves : g.X.Wired.serves c.args.x.now ≡ true = c.in-Some.ensures.0 in
@@ -38,10 +38,10 @@ turn_node-requires g c =
     }
 
 pub returns-clause-may : goal.returns-clause-may
-returns-clause-may g c = λ q h. c.in_ok-turn_node.ensures.other_ports 0 q zero_one h
+returns-clause-may g c = λ q h. c.in_ok-run_node.ensures.other_ports 0 q zero_one h
 
 pub returns-clause-undisturbed : goal.returns-clause-undisturbed
-returns-clause-undisturbed g c = c.in_ok-turn_node.ensures.beside one_zero
+returns-clause-undisturbed g c = c.in_ok-run_node.ensures.beside one_zero
 
 pub returns-clause-room : goal.returns-clause-room
-returns-clause-room g c = le_more _ _ _ _ c.in_ok-turn_node.ensures.room (le_refl _)
+returns-clause-room g c = le_more _ _ _ _ c.in_ok-run_node.ensures.room (le_refl _)

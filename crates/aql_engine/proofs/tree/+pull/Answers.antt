@@ -44,8 +44,8 @@ TreeFeed::pull-returns-in_ok-step-in-Sub-clause-leads g t c =
       )),
     )
 
-pub TreeFeed::pull-turn_node-requires : goal.TreeFeed::pull-turn_node-requires
-TreeFeed::pull-turn_node-requires g t c κs within =
+pub TreeFeed::pull-run_node-requires : goal.TreeFeed::pull-run_node-requires
+TreeFeed::pull-run_node-requires g t c κs within =
     let x = g.X.Executor in
     let p = g.W.Place in
     let below = c.deref_mut-below.result.now in
@@ -74,8 +74,8 @@ TreeFeed::pull-turn_node-requires g t c κs within =
       ),
     )
 
-pub turn_node-loop-at-init : goal.turn_node-loop-at-init
-turn_node-loop-at-init g t c =
+pub run_node-loop-at-init : goal.run_node-loop-at-init
+run_node-loop-at-init g t c =
     let x = g.X.Executor in
     let p = g.W.Place in
     let v = c.requires.valid in (
@@ -114,13 +114,13 @@ turn_node-loop-at-init g t c =
       },
     )
 
-pub turn_node-turn-requires-clause-node : goal.turn_node-turn-requires-clause-node
-turn_node-turn-requires-clause-node g t c =
+pub run_node-turn-requires-clause-node : goal.run_node-turn-requires-clause-node
+run_node-turn-requires-clause-node g t c =
     let kept = c.loop-at.invariant.1 in
     rw (kept.stock_kept, kept.node_kept) c.requires.plan.6
 
-pub turn_node-pull-requires : goal.turn_node-pull-requires
-turn_node-pull-requires g t c κs within =
+pub run_node-pull-requires : goal.run_node-pull-requires
+run_node-pull-requires g t c κs within =
     let x = g.X.Executor in
     let p = g.W.Place in
     let m = g.met.X.Executor in
@@ -150,8 +150,8 @@ turn_node-pull-requires g t c κs within =
       ),
     )
 
-pub turn_node-pull-requires-else-at-eq0 : goal.turn_node-pull-requires-else-at-eq0
-turn_node-pull-requires-else-at-eq0 g t c κs within =
+pub run_node-pull-requires-else-at-eq0 : goal.run_node-pull-requires-else-at-eq0
+run_node-pull-requires-else-at-eq0 g t c κs within =
     let x = g.X.Executor in
     let p = g.W.Place in
     let m = g.met.X.Executor in
@@ -184,20 +184,20 @@ turn_node-pull-requires-else-at-eq0 g t c κs within =
       ),
     )
 
-pub turn_node-take-requires-clause-node : goal.turn_node-take-requires-clause-node
-turn_node-take-requires-clause-node g t c = (
+pub run_node-take-requires-clause-node : goal.run_node-take-requires-clause-node
+run_node-take-requires-clause-node g t c = (
   (g.W.Place.stock c.args.world.now).facts,
   rw (c.in_ok-at.ensures.node, c.loop-at.invariant.1.node_kept) c.requires.plan.6,
 )
 
-pub turn_node-take-requires-else-at-eq0-clause-node : goal.turn_node-take-requires-else-at-eq0-clause-node
-turn_node-take-requires-else-at-eq0-clause-node g t c = (
+pub run_node-take-requires-else-at-eq0-clause-node : goal.run_node-take-requires-else-at-eq0-clause-node
+run_node-take-requires-else-at-eq0-clause-node g t c = (
   (g.W.Place.stock c.args.world.now).facts,
   rw (c.in_ok-at.ensures.node, c.loop-at.invariant.1.node_kept) c.requires.plan.6,
 )
 
-pub turn_node-restart-requires : goal.turn_node-restart-requires
-turn_node-restart-requires g t c = record {
+pub run_node-restart-requires : goal.run_node-restart-requires
+run_node-restart-requires g t c = record {
   plan = (
     (g.W.Place.stock c.args.world.now).facts,
     rw c.loop-at.invariant.1.body_plan_kept c.requires.plan.3,
@@ -206,8 +206,8 @@ turn_node-restart-requires g t c = record {
 
 -- ---- after its input was pulled
 
-pub turn_node-loop-at-smaller-in-Continue-branch-4 : goal.turn_node-loop-at-smaller-in-Continue-branch-4
-turn_node-loop-at-smaller-in-Continue-branch-4 g t c =
+pub run_node-loop-at-smaller-in-Continue-branch-4 : goal.run_node-loop-at-smaller-in-Continue-branch-4
+run_node-loop-at-smaller-in-Continue-branch-4 g t c =
     let x = g.X.Executor in
     let p = g.W.Place in
     let m = g.met.X.Executor in
@@ -237,8 +237,8 @@ turn_node-loop-at-smaller-in-Continue-branch-4 g t c =
     falls _ _ _ _ (unless_waiting step.progress) fell
     (more_patience _ _ _ _ (of_inputs node_is some taken.patience) m_patience)
 
-pub turn_node-loop-at-preserved-in-Continue-branch-4 : goal.turn_node-loop-at-preserved-in-Continue-branch-4
-turn_node-loop-at-preserved-in-Continue-branch-4 g t c =
+pub run_node-loop-at-preserved-in-Continue-branch-4 : goal.run_node-loop-at-preserved-in-Continue-branch-4
+run_node-loop-at-preserved-in-Continue-branch-4 g t c =
     let x = g.X.Executor in
     let p = g.W.Place in
     let m = g.met.X.Executor in
@@ -383,8 +383,8 @@ turn_node-loop-at-preserved-in-Continue-branch-4 g t c =
 
 -- ---- after its body was pulled
 
-pub turn_node-loop-at-smaller-in-Continue-branch-6 : goal.turn_node-loop-at-smaller-in-Continue-branch-6
-turn_node-loop-at-smaller-in-Continue-branch-6 g t c =
+pub run_node-loop-at-smaller-in-Continue-branch-6 : goal.run_node-loop-at-smaller-in-Continue-branch-6
+run_node-loop-at-smaller-in-Continue-branch-6 g t c =
     let x = g.X.Executor in
     let p = g.W.Place in
     let m = g.met.X.Executor in
@@ -422,8 +422,8 @@ turn_node-loop-at-smaller-in-Continue-branch-6 g t c =
     falls _ _ _ _ (unless_waiting step.progress) fell
     (more_patience _ _ _ _ (of_inputs node_is some taken.patience) m_patience)
 
-pub turn_node-loop-at-preserved-in-Continue-branch-6 : goal.turn_node-loop-at-preserved-in-Continue-branch-6
-turn_node-loop-at-preserved-in-Continue-branch-6 g t c =
+pub run_node-loop-at-preserved-in-Continue-branch-6 : goal.run_node-loop-at-preserved-in-Continue-branch-6
+run_node-loop-at-preserved-in-Continue-branch-6 g t c =
     let x = g.X.Executor in
     let p = g.W.Place in
     let m = g.met.X.Executor in
@@ -572,8 +572,8 @@ turn_node-loop-at-preserved-in-Continue-branch-6 g t c =
 
 -- ---- after its body began
 
-pub turn_node-loop-at-smaller : goal.turn_node-loop-at-smaller
-turn_node-loop-at-smaller g t c =
+pub run_node-loop-at-smaller : goal.run_node-loop-at-smaller
+run_node-loop-at-smaller g t c =
     let x = g.X.Executor in
     let p = g.W.Place in
     let m = g.met.X.Executor in
@@ -594,8 +594,8 @@ turn_node-loop-at-smaller g t c =
     c.loop-at.body c.restart.new.self c.loop-at.world w1 a turned.stock inputs.0.0 kept.charge_kept m_room
     full) m_patience
 
-pub turn_node-loop-at-preserved : goal.turn_node-loop-at-preserved
-turn_node-loop-at-preserved g t c =
+pub run_node-loop-at-preserved : goal.run_node-loop-at-preserved
+run_node-loop-at-preserved g t c =
     let x = g.X.Executor in
     let p = g.W.Place in
     let m = g.met.X.Executor in
@@ -682,8 +682,8 @@ turn_node-loop-at-preserved g t c =
       },
     )
 
-pub turn_node-returns-in-Give-clause-valid : goal.turn_node-returns-in-Give-clause-valid
-turn_node-returns-in-Give-clause-valid g t c =
+pub run_node-returns-in-Give-clause-valid : goal.run_node-returns-in-Give-clause-valid
+run_node-returns-in-Give-clause-valid g t c =
     let x = g.X.Executor in
     let p = g.W.Place in
     let m = g.met.X.Executor in
@@ -709,8 +709,8 @@ turn_node-returns-in-Give-clause-valid g t c =
       between = λ l b d. links.between l b (sym (inputs 1).0 ∙ d.0, d.1);
     }
 
-pub turn_node-returns-in-Give-clause-leads : goal.turn_node-returns-in-Give-clause-leads
-turn_node-returns-in-Give-clause-leads g t c z =
+pub run_node-returns-in-Give-clause-leads : goal.run_node-returns-in-Give-clause-leads
+run_node-returns-in-Give-clause-leads g t c z =
     let x = g.X.Executor in
     let p = g.W.Place in
     let m = g.met.X.Executor in
@@ -735,8 +735,8 @@ turn_node-returns-in-Give-clause-leads g t c z =
           back r (h.0, h.1, h.2, h.3, subst (λ b. x.gives x1 w1 0 b h.0 r) kept.body_plan_kept h.4),
     )
 
-pub turn_node-returns-in-Give-clause-beside : goal.turn_node-returns-in-Give-clause-beside
-turn_node-returns-in-Give-clause-beside g t c n =
+pub run_node-returns-in-Give-clause-beside : goal.run_node-returns-in-Give-clause-beside
+run_node-returns-in-Give-clause-beside g t c n =
     let x = g.X.Executor in
     let p = g.W.Place in
     let m = g.met.X.Executor in
@@ -766,8 +766,8 @@ turn_node-returns-in-Give-clause-beside g t c n =
           (h.0, h.1, h.2, h.3, subst (λ b. x.gives x1 w1 0 b h.0 r) kept.body_plan_kept h.4),
     )
 
-pub turn_node-returns-in-Give-clause-done : goal.turn_node-returns-in-Give-clause-done
-turn_node-returns-in-Give-clause-done g t c z e =
+pub run_node-returns-in-Give-clause-done : goal.run_node-returns-in-Give-clause-done
+run_node-returns-in-Give-clause-done g t c z e =
     let x = g.X.Executor in
     let m_done = rw z at (rw c.in-Give.is at c.in_ok-at.ensures.done) in
     elim (m_done e) [
@@ -775,8 +775,8 @@ turn_node-returns-in-Give-clause-done g t c z e =
       | inr h ↦ inr (λ r q. h (tree_plan x g.W.Place c.loop-at.body) q.0 q.1 r q.4)
     ]
 
-pub turn_node-returns-in-Give-clause-waiting : goal.turn_node-returns-in-Give-clause-waiting
-turn_node-returns-in-Give-clause-waiting g t c z e =
+pub run_node-returns-in-Give-clause-waiting : goal.run_node-returns-in-Give-clause-waiting
+run_node-returns-in-Give-clause-waiting g t c z e =
     let x = g.X.Executor in
     let m = g.met.X.Executor in
     let turned = c.in_ok-at.ensures in
@@ -797,8 +797,8 @@ turn_node-returns-in-Give-clause-waiting g t c z e =
       | inr q ↦ (q.0, inl q.1, q.2)
     ]
 
-pub turn_node-returns-in-Give-clause-room : goal.turn_node-returns-in-Give-clause-room
-turn_node-returns-in-Give-clause-room g t c =
+pub run_node-returns-in-Give-clause-room : goal.run_node-returns-in-Give-clause-room
+run_node-returns-in-Give-clause-room g t c =
     let x = g.X.Executor in
     let m = g.met.X.Executor in
     let turned = c.in_ok-at.ensures in

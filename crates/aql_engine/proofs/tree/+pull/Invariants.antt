@@ -8,13 +8,13 @@ use Rattle.aql_engine.proofs.tree.+pull.Given as goal
 abbrev pub decreases-TreeFeed::pull : goal.decreases-TreeFeed::pull
 decreases-TreeFeed::pull g l = height (tree_plan g.X.Executor g.W.Place l.self.now) * 2 + 1
 
-abbrev pub decreases-turn_node : goal.decreases-turn_node
-decreases-turn_node g l =
+abbrev pub decreases-run_node : goal.decreases-run_node
+decreases-run_node g l =
     (height (tree_plan g.X.Executor g.W.Place l.below.now)
     + height (tree_plan g.X.Executor g.W.Place l.body.now)) * 2 + 2
 
-abbrev pub invariant-turn_node-loop-at : goal.invariant-turn_node-loop-at
-invariant-turn_node-loop-at g l =
+abbrev pub invariant-run_node-loop-at : goal.invariant-run_node-loop-at
+invariant-run_node-loop-at g l =
     let x = g.X.Executor in
     let p = g.W.Place in
     Turning x p l.port l.initial.x l.initial.below l.initial.body l.initial.world l.initial.tally
@@ -23,7 +23,7 @@ invariant-turn_node-loop-at g l =
     l.x l.below l.body l.world l.call
     × Linked x p l.initial.x l.initial.below l.initial.body l.initial.world l.x l.below l.body l.world
 
-abbrev pub decreases-turn_node-loop-at : goal.decreases-turn_node-loop-at
-decreases-turn_node-loop-at g l =
+abbrev pub decreases-run_node-loop-at : goal.decreases-run_node-loop-at
+decreases-run_node-loop-at g l =
     let x = g.X.Executor in
     NodeRoom x g.W.Place l.initial.x l.initial.body l.x l.below l.body l.world * weight + x.patience l.x

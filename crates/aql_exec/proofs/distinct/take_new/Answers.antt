@@ -1,7 +1,7 @@
 use Rattle.std.proofs.Common.{◌≡◌, ◌∷◌, [], ◌++◌, length, true, false, cond, not, sym, ap, ◌∙◌, arith, length-append}
 use Rattle.std.proofs.lemmas.List.{map-append}
 use Rattle.aql_value.specs.View.{datum_of, datums_in}
-use Rattle.aql_value.specs.Parts.{is_in}
+use Rattle.aql_value.specs.Contents.{is_in}
 use Rattle.aql_func.specs.Lists.{add, add_all}
 use Rattle.aql_func.proofs.Firsts.{any_tree, keys_noted}
 use Rattle.aql_exec.specs.FirstResults.{unseen}

@@ -1,7 +1,7 @@
 use Rattle.std.proofs.Common.{◌≡◌, ◌-◌, ◌∙◌, ◌++◌, [], drop, length, map, reverse, ap, sym, arith, length-drop}
 use Rattle.std.proofs.lemmas.List.{append-nil}
 use Rattle.aql_block.specs.Tables.{rows_of}
-use Rattle.aql_exec_rows.specs.Kept.{finished_in}
+use Rattle.aql_exec_rows.specs.GroupStates.{finished_in}
 use Rattle.aql_exec_rows.specs.Framed.{framed}
 use Rattle.aql_exec_rows.proofs.Setting.{cut, row_count}
 use Rattle.aql_exec_rows.proofs.collect.give.Goals as goal

@@ -2,7 +2,7 @@ use Rattle.std.proofs.Common.{refl, subst}
 use Rattle.std.specs.Prelude.{map, option_to_list}
 use Rattle.std.proofs.lemmas.List.{get_or_default}
 use Rattle.aql_value.specs.View.{datum_of, datums_in}
-use Rattle.aql_exec_rows.specs.Kept.{Takes}
+use Rattle.aql_exec_rows.specs.GroupStates.{Takes}
 use Rattle.aql_exec_rows.specs.declared.group.Group.{Group}
 use Rattle.aql_exec_rows.proofs.group.add_member.Goals as goal
 

@@ -1,5 +1,5 @@
 use Rattle.std.proofs.Common.{arith, ◌≡◌, ◌≤◌, ◌+◌, ◌++◌, Bor, [], ◌∷◌, length, map, drop, option_map, true, ap, sym, ◌∙◌, append_assoc}
-use Rattle.aql_value.specs.Parts.{list, at_name, at_value}
+use Rattle.aql_value.specs.Contents.{list, at_name, at_value}
 use Rattle.aql_value.specs.Datum.{Datum, boolean}
 use Rattle.aql_value.specs.View.{datum_of, datums_in}
 use Rattle.aql_value.specs.declared.values.Value.{Value}

@@ -1,6 +1,6 @@
 use Rattle.std.proofs.Common.{sym, ap, ◌∙◌}
 use Rattle.aql_value.specs.View.{datum_of}
-use Rattle.aql_value.specs.Parts.{elements}
+use Rattle.aql_value.specs.Contents.{elements}
 use Rattle.aql_value.specs.laws.Lists.{datum_list-array_of}
 use Rattle.aql_func.proofs.arguments.array.Goals as goal
 

@@ -1,6 +1,6 @@
 use Rattle.std.proofs.Common.{sym, ap, ◌∙◌}
 use Rattle.aql_value.specs.View.{datum_of}
-use Rattle.aql_value.specs.Parts.{attributes}
+use Rattle.aql_value.specs.Contents.{attributes}
 use Rattle.aql_value.specs.laws.Lists.{fields_list-object_of}
 use Rattle.aql_func.proofs.arguments.object.Goals as goal
 

@@ -1,6 +1,6 @@
 use Rattle.std.proofs.Common.{◌+◌, ◌∷◌, ◌++◌, [], drop, true, cond, ap, sym, ◌∙◌}
 use Rattle.aql_value.specs.View.{datum_of, datums_in}
-use Rattle.aql_value.specs.Parts.{is_in}
+use Rattle.aql_value.specs.Contents.{is_in}
 use Rattle.aql_func.specs.Lists.{add_all}
 use Rattle.aql_func.proofs.Steps.{left}
 use Rattle.aql_func.proofs.Firsts.{in_firsts, seen_more}

@@ -1,7 +1,7 @@
 use Rattle.std.proofs.Common.{◌≡◌, true, drop}
 use Rattle.aql_value.specs.Datum.{Datum}
 use Rattle.aql_value.specs.View.{datums_in}
-use Rattle.aql_value.specs.Parts.{is_in}
+use Rattle.aql_value.specs.Contents.{is_in}
 use Rattle.aql_func.specs.Lists.{add_all}
 use Rattle.aql_func.proofs.lists.add_all_once.Given as goal
 

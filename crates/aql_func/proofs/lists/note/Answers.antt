@@ -1,5 +1,5 @@
 use Rattle.std.proofs.Common.{true, not, ap, ◌∙◌}
-use Rattle.aql_value.specs.Parts.{is_in}
+use Rattle.aql_value.specs.Contents.{is_in}
 use Rattle.aql_value.specs.View.{datums_in}
 use Rattle.aql_func.specs.Lists.{add}
 use Rattle.aql_func.proofs.Firsts.{any_tree, keys_noted}

@@ -1,7 +1,7 @@
 use Rattle.std.proofs.Common.{◌≡◌, ◌+◌, ◌∷◌, ◌++◌, [], take, cond, not, Bool, true, false, ap, subst, ◌∙◌}
 use Rattle.aql_value.specs.Datum.{Datum}
 use Rattle.aql_value.specs.View.{datum_of, datums_in}
-use Rattle.aql_value.specs.Parts.{is_in}
+use Rattle.aql_value.specs.Contents.{is_in}
 use Rattle.aql_func.specs.Sieves.{sift}
 use Rattle.aql_func.proofs.Steps.{done}
 use Rattle.aql_func.proofs.Firsts.{sift_more, any_tree, sift_yes, sift_no}

@@ -2,7 +2,7 @@ use Rattle.std.proofs.Common.{◌≡◌, ℕ, List, drop, cond, fold}
 use Rattle.std.specs.List.{list_all}
 use Rattle.aql_value.specs.Datum.{Datum, null}
 use Rattle.aql_value.specs.View.{datums_in}
-use Rattle.aql_value.specs.Parts.{record_of, attributes}
+use Rattle.aql_value.specs.Contents.{record_of, attributes}
 use Rattle.aql_func.specs.Arguments.{is_object}
 use Rattle.aql_func.specs.Objects.{merge, with_all}
 use Rattle.aql_func.proofs.objects.merge_all.Given as goal

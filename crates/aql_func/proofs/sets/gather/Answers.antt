@@ -3,7 +3,7 @@ use Rattle.std.specs.Prelude.{flat_map}
 use Rattle.std.proofs.lemmas.List.{map-append, take_all}
 use Rattle.aql_value.specs.Datum.{Datum}
 use Rattle.aql_value.specs.View.{datum_of, datums_in}
-use Rattle.aql_value.specs.Parts.{elements}
+use Rattle.aql_value.specs.Contents.{elements}
 use Rattle.aql_func.proofs.Steps.{done}
 use Rattle.aql_func.proofs.Sieves.{gathered_push}
 use Rattle.aql_func.proofs.sets.gather.Goals as goal

@@ -3,7 +3,7 @@ use Rattle.std.proofs.lemmas.Result.{IfOk-weaker}
 use Rattle.std.specs.List.{list_all}
 use Rattle.aql_value.specs.Datum.{null}
 use Rattle.aql_value.specs.View.{datums_in}
-use Rattle.aql_value.specs.Parts.{elements, list}
+use Rattle.aql_value.specs.Contents.{elements, list}
 use Rattle.aql_func.specs.Arguments.{is_array}
 use Rattle.aql_func.specs.Functions.{call, head}
 use Rattle.aql_func.specs.Lists.{distinct}

@@ -1,6 +1,6 @@
 use Rattle.std.proofs.Common.{◌≡◌, map, drop}
 use Rattle.aql_value.specs.View.{datums_in}
-use Rattle.aql_value.specs.Parts.{elements}
+use Rattle.aql_value.specs.Contents.{elements}
 use Rattle.aql_func.specs.Sieves.{sieve}
 use Rattle.aql_func.proofs.sets.sieve_through.Given as goal
 

@@ -2,7 +2,7 @@ use Rattle.std.proofs.Common.{ℕ, List, map, ap, sym, ◌∙◌}
 use Rattle.std.proofs.lemmas.Result.{IfOk-weaker}
 use Rattle.aql_value.specs.Datum.{Datum}
 use Rattle.aql_value.specs.View.{datum_of}
-use Rattle.aql_value.specs.Parts.{list}
+use Rattle.aql_value.specs.Contents.{list}
 use Rattle.aql_func.specs.Functions.{to_array}
 use Rattle.aql_value.specs.laws.Lists.{datum_list-array_of, fields_list-object_of}
 use Rattle.aql_func.proofs.values.elements_of.Goals as goal

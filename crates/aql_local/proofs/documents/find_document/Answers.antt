@@ -1,6 +1,6 @@
 use Rattle.std.proofs.Common.{◌<◌, Bool, length, codes, find, ap, subst, ◌∙◌}
 use Rattle.aql_value.specs.Datum.{Datum, text}
-use Rattle.aql_value.specs.Parts.{at_name, same}
+use Rattle.aql_value.specs.Contents.{at_name, same}
 use Rattle.aql_local.proofs.Firsts.{found_there, not_there}
 use Rattle.aql_local.proofs.documents.find_document.Goals as goal
 

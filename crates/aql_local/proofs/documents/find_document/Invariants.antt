@@ -1,6 +1,6 @@
 use Rattle.std.proofs.Common.{◌≡◌, find, drop, codes}
 use Rattle.aql_value.specs.Datum.{text}
-use Rattle.aql_value.specs.Parts.{at_name, same}
+use Rattle.aql_value.specs.Contents.{at_name, same}
 use Rattle.aql_local.proofs.Firsts.{all_documents}
 use Rattle.aql_local.proofs.documents.find_document.Given as goal
 

@@ -1,6 +1,6 @@
 use Rattle.std.proofs.Common.{codes, sym, ◌∙◌}
 use Rattle.aql_value.specs.Datum.{text}
-use Rattle.aql_value.specs.Parts.{at_name, same}
+use Rattle.aql_value.specs.Contents.{at_name, same}
 use Rattle.aql_value.specs.View.{datum_of}
 use Rattle.aql_local.proofs.Firsts.{found_here, not_here}
 use Rattle.aql_local.proofs.documents.first_with.Goals as goal

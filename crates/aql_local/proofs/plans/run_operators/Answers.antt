@@ -7,7 +7,7 @@ use Rattle.aql_block.specs.Rows.{row_of}
 use Rattle.aql_exec.specs.Operators.{OperatorTree, IsTree, Produces}
 use Rattle.aql_engine.specs.OperatorsOf.{operators_of}
 use Rattle.aql_engine.specs.laws.Sound.{produces_runs}
-use Rattle.aql_shard.specs.Held.{stock}
+use Rattle.aql_shard.specs.Datasets.{stock}
 use Rattle.aql_local.proofs.CanRun.{runs_tree, counted_from_none}
 use Rattle.aql_local.proofs.plans.run_operators.Goals as goal
 

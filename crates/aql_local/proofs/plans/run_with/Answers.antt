@@ -1,6 +1,6 @@
 use Rattle.aql_plan.specs.Shapes.{Result}
 use Rattle.aql_plan.specs.View.{plan_tree}
-use Rattle.aql_shard.specs.Held.{stock}
+use Rattle.aql_shard.specs.Datasets.{stock}
 use Rattle.aql_local.proofs.CanRun.{shaped_fits, sets_numbers}
 use Rattle.aql_local.proofs.plans.run_with.Goals as goal
 

@@ -56,8 +56,8 @@ settle-renamed_over-requires g t c =
     c.replace_below-below.ensures.input in
     subst NodePlain (ap top parts.was) (placed_plain false false c.args.facts.now [] p c.requires.placed)
 
-pub settle-removed-requires : goal.settle-removed-requires
-settle-removed-requires g t c =
+pub settle-removal-requires : goal.settle-removal-requires
+settle-removal-requires g t c =
     let rule = c.args.rule.now in
     let facts = c.args.facts.now in
     let rewrites = g.R.Rule.rewrites rule facts in

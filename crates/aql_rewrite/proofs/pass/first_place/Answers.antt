@@ -5,8 +5,8 @@ use Rattle.aql_rewrite.specs.laws.Steps.{IsStep, some_step}
 use Rattle.aql_rewrite.specs.laws.Walk.{placed_whole}
 use Rattle.aql_rewrite.proofs.pass.first_place.Goals as goal
 
-pub walk-requires : goal.walk-requires
-walk-requires g c = placed_whole (g.R.Rule.fragments c.args.rule.now) c.args.facts.now
+pub swap_first-requires : goal.swap_first-requires
+swap_first-requires g c = placed_whole (g.R.Rule.fragments c.args.rule.now) c.args.facts.now
     (above_uses c.in_ok-above.above.items) (plan_tree c.args.plan) c.in_ok-above.ensures c.requires
 
 pub returns-in-Some-clause-refines : goal.returns-in-Some-clause-refines

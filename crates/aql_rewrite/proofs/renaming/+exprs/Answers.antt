@@ -6,7 +6,7 @@ use Rattle.aql_tree.specs.declared.syntax.Ident.TheVariants.{Num}
 use Rattle.aql_tree.specs.Tree.{ExprTree, variable}
 use Rattle.aql_tree.specs.View.{tree}
 use Rattle.aql_meaning.specs.Plain.{IsPlain}
-use Rattle.aql_rewrite.specs.OverParts.{over_parts}
+use Rattle.aql_rewrite.specs.OverChildren.{over_children}
 use Rattle.aql_rewrite.specs.Size.{size, size_all}
 use Rattle.aql_rewrite.specs.ExprView.{lent}
 use Rattle.aql_rewrite.specs.laws.PartSizes.{parts_smaller}
@@ -47,8 +47,8 @@ renamed_expr-returns-in-Some t c = IfOk-weaker c.renamed_variable.result _ _
 pub renamed_expr-returns-in_ok-new-in-None : goal.renamed_expr-returns-in_ok-new-in-None
 renamed_expr-returns-in_ok-new-in-None t c =
     let looked = ap (map lent) c.deref.ensures.value ∙ c.in_ok-all-in-None.ensures in
-    IfOk-weaker c.over_parts.result _ _
-    (λ e h. h ∙ ap (over_parts (tree c.args.expr.now)) (c.in_ok-new-in-None.ensures
+    IfOk-weaker c.over_children.result _ _
+    (λ e h. h ∙ ap (over_children (tree c.args.expr.now)) (c.in_ok-new-in-None.ensures
     ∙ ap (map (put_each c.args.renames.now)) looked)
     ∙ whole_each c.args.renames.now (tree c.args.expr.now) c.requires
-    c.in-None.ensures) c.over_parts.ensures
+    c.in-None.ensures) c.over_children.ensures

@@ -2,7 +2,7 @@ use Rattle.std.proofs.Common.{◌≡◌, ◌∙◌, true≢false, map, ap, subst
 use Rattle.std.specs.Prelude.{List}
 use Rattle.aql_tree.specs.Tree.{ExprTree}
 use Rattle.aql_tree.specs.View.{tree}
-use Rattle.aql_rewrite.specs.Parts.{parts}
+use Rattle.aql_rewrite.specs.Children.{children}
 use Rattle.aql_rewrite.specs.ExprView.{lent}
 use Rattle.aql_rules_calc.specs.ReplaceOrWithIn.{AllCompare}
 use Rattle.aql_rules_calc.proofs.Chains.{stays_constant, stays_apart, replaced}
@@ -14,7 +14,7 @@ returns-then-branch c = stays_constant (tree c.args.left.now) (tree c.args.expr.
 
 pub returns-in-Some : goal.returns-in-Some
 returns-in-Some c =
-    let looked : map lent c.deref.result.now ≡ parts (tree c.args.expr.now)
+    let looked : map lent c.deref.result.now ≡ children (tree c.args.expr.now)
     = ap (map lent) c.deref.ensures.value ∙ c.in_ok-all.ensures in
     let ks : List ExprTree = map tree c.in-Some.right in
     replaced (tree c.args.left.now) (tree c.args.expr.now) (tree c.in_ok-new-in-Some.new) ks c.requires
@@ -25,7 +25,7 @@ returns-in-Some c =
 
 pub returns : goal.returns
 returns c =
-    let looked : map lent c.deref.result.now ≡ parts (tree c.args.expr.now)
+    let looked : map lent c.deref.result.now ≡ children (tree c.args.expr.now)
     = ap (map lent) c.deref.ensures.value ∙ c.in_ok-all.ensures in
     let none : (ks : List ExprTree) → AllCompare (tree c.args.left.now) (map lent c.deref.result.now) ks → ⊥
     = rw c.in-None.is at c.in_ok-right.ensures in

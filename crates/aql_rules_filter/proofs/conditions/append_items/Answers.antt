@@ -3,7 +3,7 @@ use Rattle.std.proofs.lemmas.Grind.{common_steps}
 use Rattle.aql_tree.specs.declared.syntax.Expr.{the_lemmas}
 use Rattle.aql_tree.specs.Tree.{chain}
 use Rattle.aql_tree.specs.View.{tree, links, link_part}
-use Rattle.aql_plan.specs.FirstPlan.{all_and, parts}
+use Rattle.aql_plan.specs.FirstPlan.{all_and, conjuncts}
 use Rattle.aql_rules_filter.specs.Readers.{and_link}
 use Rattle.aql_rules_filter.proofs.Joining.{chain_form, one_part, other_chain, chain_joined, one_joined}
 use Rattle.aql_rules_filter.proofs.conditions.append_items.Goals as goal
@@ -21,7 +21,7 @@ returns-in_ok-move_items-in-Chain c =
       c.is_all_and.ensures,
       c.if-is_all_and.true,
     ) in
-    let longer : map link_part c.move_items.new.to ≡ map link_part rest ++ map and_link (parts more) =
+    let longer : map link_part c.move_items.new.to ≡ map link_part rest ++ map and_link (conjuncts more) =
     search (rules, c.in-Chain.rest-is, c.in_ok-move_items-in-Chain.ensures) in
     chain_joined _ (tree c.args.cond.now) (tree first.value) more (map link_part rest)
     (map link_part c.move_items.new.to) (chain_form c.args.cond.now first rest c.in-Chain.is)
@@ -32,9 +32,9 @@ returns-in_ok-cond-in_default c =
     let cond = c.args.cond.now in
     let more = tree c.args.more.now in
     let moved = map link_part c.move_items-in_default.new.to in
-    let items : moved ≡ map and_link (parts more) =
+    let items : moved ≡ map and_link (conjuncts more) =
     c.in_ok-move_items-in_default.ensures
-    ∙ ap (λ ls. map link_part ls ++ map and_link (parts more)) c.new-rest.ensures in
+    ∙ ap (λ ls. map link_part ls ++ map and_link (conjuncts more)) c.new-rest.ensures in
     let made : tree c.in_ok-cond-in_default.field-0 ≡ chain (tree c.in_default.cond) (links moved) =
     c.in_ok-cond-in_default.ensures ∙ ap (λ e. chain (tree e) (links moved)) c.replace-first.ensures.value in
     elim c.in_default.branch [
@@ -57,7 +57,7 @@ returns-in_ok-cond-in_default c =
             w.in-Chain.rest-is,
           ) in
           one_joined _ (tree cond) more moved
-          (subst (λ e. parts e ≡ e ∷ []) (sym (chain_form cond first rest w.in-Chain.is))
+          (subst (λ e. conjuncts e ≡ e ∷ []) (sym (chain_form cond first rest w.in-Chain.is))
           (other_chain (tree first.value) (links (map link_part rest)) not_all))
           (made ∙ ap (λ e. chain (tree e) (links moved)) had) items
       | in_default-via-in_default w ↦

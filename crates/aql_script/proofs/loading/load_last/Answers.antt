@@ -2,7 +2,7 @@ use Rattle.std.proofs.Common.{◌≡◌, ◌<◌, ◌+◌, [], inl, inr, sym, ap
 use Rattle.std.specs.Prelude.{Result}
 use Rattle.aql_script.specs.Lines.{next, query, fault, with_query}
 use Rattle.aql_script.specs.Meets.{Meets}
-use Rattle.aql_script.specs.Steps.{step}
+use Rattle.aql_script.specs.LineEffects.{line_effect}
 use Rattle.aql_script.specs.declared.loading.Loaded.{Loaded}
 use Rattle.aql_script.specs.declared.faults.LoadFault.{LoadFault}
 use Rattle.aql_script.proofs.Cuts.{last_line, no_line}
@@ -10,23 +10,24 @@ use Rattle.aql_script.proofs.loading.load_last.Goals as goal
 
 pub returns-then-bytes-eq0 : goal.returns-then-bytes-eq0
 returns-then-bytes-eq0 c =
-    inr (rw c.no_query.ensures (no_line step c.args.before c.args.catalog c.args.bytes.now (omega arith)))
+    inr (rw c.no_query.ensures
+    (no_line line_effect c.args.before c.args.catalog c.args.bytes.now (omega arith)))
 
 pub returns-in-Ok-true : goal.returns-in-Ok-true
 returns-in-Ok-true c =
     let long : 0 < length c.args.bytes.now = omega arith in
-    let did : step (c.args.before + 1) c.args.catalog c.args.bytes.now ≡ next c.take_line.new.catalog =
+    let did : line_effect (c.args.before + 1) c.args.catalog c.args.bytes.now ≡ next c.take_line.new.catalog =
     rw c.in-Ok-true.field-0-test at c.in-Ok-true.ensures in
     inr (rw c.no_query-in-Ok-true.ensures
-    (last_line step c.args.before c.args.catalog c.args.bytes.now _ long did))
+    (last_line line_effect c.args.before c.args.catalog c.args.bytes.now _ long did))
 
 pub returns-in-Ok-false : goal.returns-in-Ok-false
 returns-in-Ok-false c =
     let long : 0 < length c.args.bytes.now = omega arith in
-    let did : (step (c.args.before + 1) c.args.catalog c.args.bytes.now ≡ query)
+    let did : (line_effect (c.args.before + 1) c.args.catalog c.args.bytes.now ≡ query)
     × (c.take_line.new.catalog ≡ c.args.catalog) = rw c.in-Ok-false.field-0-test at c.in-Ok-false.ensures in
     let is = ap (λ held. with_query (c.args.before + 1) held []) did.1
-    ∙ sym (last_line step c.args.before c.args.catalog c.args.bytes.now query long did.0) in
+    ∙ sym (last_line line_effect c.args.before c.args.catalog c.args.bytes.now query long did.0) in
     let P : Result Loaded LoadFault → Type 0 = λ r. Meets c.with_query.result r in
     subst P is c.with_query.ensures
 
@@ -36,5 +37,5 @@ returns-in-Err c =
     elim (c.in-Err.ensures) [
       | inl m ↦ inl m
       | inr e ↦ inr
-          (last_line step c.args.before c.args.catalog c.args.bytes.now (fault c.in-Err.fault) long e)
+          (last_line line_effect c.args.before c.args.catalog c.args.bytes.now (fault c.in-Err.fault) long e)
     ]

@@ -1,7 +1,7 @@
 use Rattle.std.proofs.Common.{◌≡◌, ◌≤◌, ◌+◌, length}
 use Rattle.aql_script.specs.Pieces.{pieces}
 use Rattle.aql_script.specs.Lines.{read}
-use Rattle.aql_script.specs.Steps.{step}
+use Rattle.aql_script.specs.LineEffects.{line_effect}
 use Rattle.aql_script.specs.Script.{lines}
 use Rattle.aql_script.proofs.loading.load_lines.Given as goal
 
@@ -9,7 +9,7 @@ use Rattle.aql_script.proofs.loading.load_lines.Given as goal
 abbrev pub invariant-lines : goal.invariant-lines
 invariant-lines l =
     (l.line + length l.rest ≤ length l.bytes)
-    × (read step l.line l.catalog (pieces 10 l.rest) ≡ lines l.bytes)
+    × (read line_effect l.line l.catalog (pieces 10 l.rest) ≡ lines l.bytes)
 
 abbrev pub decreases-lines : goal.decreases-lines
 decreases-lines l = length l.rest

@@ -1,5 +1,5 @@
 use Rattle.std.proofs.Common.{Ok, Err, refl, ap, ◌∙◌, subst}
-use Rattle.aql_value.specs.Place.{IsPlace}
+use Rattle.aql_value.specs.NameSearch.{IsSearchResult}
 use Rattle.aql_value.specs.Fields.{fields_in}
 use Rattle.aql_value.specs.declared.values.Member.{Member}
 use Rattle.aql_value.proofs.Kept.{replaced, inserted, named_at, place_within, place_up_to}
@@ -8,8 +8,8 @@ use Rattle.aql_value.proofs.attributes.set_in.Goals as goal
 pub returns-in-Ok-clause-ok : goal.returns-in-Ok-clause-ok
 returns-in-Ok-clause-ok c =
     let q = subst
-    (λ k. IsPlace (Ok c.in-Ok.at) k (fields_in c.deref.result.now)) c.as_str.ensures c.in-Ok.ensures in
-    let p = subst (λ es. IsPlace (Ok c.in-Ok.at) c.args.name (fields_in es)) c.deref.ensures.value q in
+    (λ k. IsSearchResult (Ok c.in-Ok.at) k (fields_in c.deref.result.now)) c.as_str.ensures c.in-Ok.ensures in
+    let p = subst (λ es. IsSearchResult (Ok c.in-Ok.at) c.args.name (fields_in es)) c.deref.ensures.value q in
     let i = place_within c.args.entries.now.items c.in-Ok.at p.0 in
     let n = ap (λ (m : Member). m.name) c.index_mut.ensures.value
     ∙ named_at c.args.name c.args.entries.now.items c.in-Ok.at c.index_mut.result.now i p.2 in
@@ -19,8 +19,10 @@ returns-in-Ok-clause-ok c =
 pub returns-in_ok-insert-in-Err-clause-ok : goal.returns-in_ok-insert-in-Err-clause-ok
 returns-in_ok-insert-in-Err-clause-ok c =
     let q = subst
-    (λ k. IsPlace (Err c.in-Err.at) k (fields_in c.deref.result.now)) c.as_str.ensures c.in-Err.ensures in
-    let p = subst (λ es. IsPlace (Err c.in-Err.at) c.args.name (fields_in es)) c.deref.ensures.value q in
+    (λ k. IsSearchResult (Err c.in-Err.at) k (fields_in c.deref.result.now)) c.as_str.ensures c.in-Err.ensures
+    in
+    let p = subst
+    (λ es. IsSearchResult (Err c.in-Err.at) c.args.name (fields_in es)) c.deref.ensures.value q in
     ap fields_in c.in_ok-insert-in-Err.ensures.items
     ∙ inserted c.args.name c.args.value c.args.entries.now.items c.in-Err.at
     (place_up_to c.args.entries.now.items c.in-Err.at p.0) p.1 p.2

@@ -14,13 +14,13 @@ returns c ts h =
     let me = c.args.self.now in
     let t = datum_of c.args.state.now in
     let parts = c.elements_of-parts.ensures in
-    let first : datum_of c.part_of.result.now ≡ part_at (pos 0) t = c.part_of.ensures
+    let first : datum_of c.item_at.result.now ≡ part_at (pos 0) t = c.item_at.ensures
     ∙ ap (λ vs. argument vs 0) parts in
-    let second : datum_of c.part_of-2.result.now ≡ part_at (pos 1) t = c.part_of-2.ensures
+    let second : datum_of c.item_at-2.result.now ≡ part_at (pos 1) t = c.item_at-2.ensures
     ∙ ap (λ vs. argument vs 1) parts in
-    let third : datum_of c.part_of-3.result.now ≡ part_at (pos 2) t = c.part_of-3.ensures
+    let third : datum_of c.item_at-3.result.now ≡ part_at (pos 2) t = c.item_at-3.ensures
     ∙ ap (λ vs. argument vs 2) parts in
-    let fourth : datum_of c.part_of-4.result.now ≡ part_at (pos 3) t = c.part_of-4.ensures
+    let fourth : datum_of c.item_at-4.result.now ≡ part_at (pos 3) t = c.item_at-4.ensures
     ∙ ap (λ vs. argument vs 3) parts in
     let place = λ (n : ℕ) (v : Datum). map (part_at (pos n)) ts ++ v ∷ [] in
     record {

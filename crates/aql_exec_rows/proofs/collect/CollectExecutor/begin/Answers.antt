@@ -2,7 +2,7 @@ use Rattle.std.proofs.Common.{◌≡◌, ◌++◌, [], map, refl, sym, subst, ap
 use Rattle.aql_meaning.specs.Row.{Row}
 use Rattle.aql_block.specs.Rows.{row_of}
 use Rattle.aql_exec.specs.Counting.{nothing}
-use Rattle.aql_exec_rows.specs.Kept.{seen, Holds}
+use Rattle.aql_exec_rows.specs.GroupStates.{seen, Holds}
 use Rattle.aql_exec_rows.specs.Collecting.{CollectsBy}
 use Rattle.aql_exec_rows.proofs.collect.CollectExecutor.begin.Goals as goal
 

@@ -2,7 +2,7 @@ use Rattle.std.proofs.Common.{◌∙◌, Some, [], ap, sym, subst}
 use Rattle.std.specs.Prelude.{slice_get}
 use Rattle.aql_value.specs.Datum.{null}
 use Rattle.aql_block.specs.laws.BlockRows.{row_has_all, row_only}
-use Rattle.aql_exec_rows.specs.Kept.{Result}
+use Rattle.aql_exec_rows.specs.GroupStates.{Result}
 use Rattle.aql_exec_rows.specs.Framed.{framed, FitsFrame}
 use Rattle.aql_exec_rows.proofs.Setting.{all_fit}
 use Rattle.aql_exec_rows.proofs.frame.Frame.all_registers.Goals as goal

@@ -1,7 +1,7 @@
 use Rattle.std.proofs.Common.{◌∙◌, ◌++◌, ◌∷◌, [], map, reverse, ap, sym, subst, append_assoc}
 use Rattle.aql_block.specs.Rows.{HasAll, only}
 use Rattle.aql_block.specs.Tables.{rows_of}
-use Rattle.aql_exec_rows.specs.Kept.{finished_of, finished_in}
+use Rattle.aql_exec_rows.specs.GroupStates.{finished_of, finished_in}
 use Rattle.aql_exec_rows.specs.Framed.{framed}
 use Rattle.aql_exec_rows.proofs.Setting.{last_first}
 use Rattle.aql_exec_rows.proofs.frame.Frame.move_last.Goals as goal

@@ -1,6 +1,6 @@
 use Rattle.std.proofs.Common.{◌≡◌, ◌+◌, ◌++◌, length, map, reverse}
 use Rattle.aql_block.specs.Tables.{rows_of}
-use Rattle.aql_exec_rows.specs.Kept.{finished_in}
+use Rattle.aql_exec_rows.specs.GroupStates.{finished_in}
 use Rattle.aql_exec_rows.specs.Framed.{framed}
 use Rattle.aql_exec_rows.proofs.frame.Frame.take_last.Given as goal
 

@@ -3,7 +3,7 @@ use Rattle.std.proofs.lemmas.List.{take_more, length-take}
 use Rattle.aql_meaning.specs.declared.grouping.Stage.TheVariants.{Whole}
 use Rattle.aql_aggregate.specs.declared.kinds.AggregateKind.TheVariants.{Count}
 use Rattle.aql_aggregate.specs.declared.staged.StagedKind.{StagedKind}
-use Rattle.aql_exec_rows.specs.Kept.{AreKept}
+use Rattle.aql_exec_rows.specs.GroupStates.{AllAccumulate}
 use Rattle.aql_exec_rows.proofs.Keeping.{kept_push}
 use Rattle.aql_exec_rows.proofs.group.Group.new.Goals as goal
 
@@ -24,7 +24,7 @@ loop-kind-preserved c =
     let few : length accs ≡ length (take i kinds) = omega (arith, count, first, inside) in
     record {
       count = omega (arith, n, m, count);
-      kept = subst (λ ks. AreKept ks c.push.new.self.items []) (sym more)
-          (subst (λ as'. AreKept (take i kinds ++ kind ∷ []) as' []) (sym pushed)
+      kept = subst (λ ks. AllAccumulate ks c.push.new.self.items []) (sym more)
+          (subst (λ as'. AllAccumulate (take i kinds ++ kind ∷ []) as' []) (sym pushed)
           (kept_push (take i kinds) accs kind c.new.result few c.new.ensures c.loop-kind.invariant.kept));
     }

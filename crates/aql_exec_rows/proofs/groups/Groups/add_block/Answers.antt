@@ -7,7 +7,7 @@ use Rattle.aql_meaning.specs.Groups.{GroupedRow}
 use Rattle.aql_aggregate.specs.declared.staged.StagedKind.{StagedKind}
 use Rattle.aql_block.specs.Rows.{row_of}
 use Rattle.aql_block.specs.Tables.{rows_of}
-use Rattle.aql_exec_rows.specs.Kept.{seen, Holds}
+use Rattle.aql_exec_rows.specs.GroupStates.{seen, Holds}
 use Rattle.aql_exec_rows.specs.declared.grouping.Grouping.{Grouping}
 use Rattle.aql_exec_rows.specs.declared.groups.Groups.{Groups}
 use Rattle.aql_exec_rows.proofs.groups.Groups.add_block.Goals.{in-Some+in_ok-add, in_default}

@@ -1,7 +1,7 @@
 use Rattle.std.proofs.Common.{◌≡◌, ◌+◌, ◌≤◌, ◌++◌, List, length, map, take}
 use Rattle.aql_block.specs.Tables.{rows_of}
 use Rattle.aql_meaning.specs.Groups.{GroupedRow}
-use Rattle.aql_exec_rows.specs.Kept.{seen, Holds}
+use Rattle.aql_exec_rows.specs.GroupStates.{seen, Holds}
 use Rattle.aql_exec_rows.proofs.groups.Groups.add_block.Given as goal
 
 abbrev pub invariant-loop-at : goal.invariant-loop-at

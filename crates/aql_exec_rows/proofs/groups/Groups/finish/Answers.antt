@@ -1,6 +1,6 @@
 use Rattle.std.proofs.Common.{◌≡◌, ◌++◌, ◌∷◌, [], length, map, ap, arith, length-append}
 use Rattle.aql_value.specs.View.{datum_of, datums_in}
-use Rattle.aql_exec_rows.specs.Kept.{result_of}
+use Rattle.aql_exec_rows.specs.GroupStates.{result_of}
 use Rattle.aql_exec_rows.proofs.Finishing.{one_finished}
 use Rattle.aql_exec_rows.proofs.groups.Groups.finish.Goals as goal
 

@@ -4,7 +4,7 @@ use Rattle.aql_value.specs.View.{datums_in}
 use Rattle.aql_tree.specs.declared.syntax.Into.{Into}
 use Rattle.aql_meaning.specs.Groups.{GroupedRow}
 use Rattle.aql_aggregate.specs.declared.staged.StagedKind.{StagedKind}
-use Rattle.aql_exec_rows.specs.Kept.{AreGroups, finished_in, result_of}
+use Rattle.aql_exec_rows.specs.GroupStates.{AreGroups, finished_in, result_of}
 use Rattle.aql_exec_rows.proofs.groups.Groups.finish.Given as goal
 
 -- the groups that are left stand under the keys that are left, and with what comes of them it is all

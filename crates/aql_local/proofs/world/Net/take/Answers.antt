@@ -1,5 +1,5 @@
 use Rattle.std.proofs.Common.{rules, ◌≡◌, ◌+◌, ◌<◌, ◌++◌, ◌∷◌, length, take, drop, ap, sym, ◌∙◌, refl}
-use Rattle.aql_local.specs.Worlds.{messages_on}
+use Rattle.aql_local.specs.Messages.{messages_on}
 use Rattle.aql_local.proofs.Flying.{on_append, took_own, took_other, split_at}
 use Rattle.aql_local.proofs.world.Net.take.Goals as goal
 

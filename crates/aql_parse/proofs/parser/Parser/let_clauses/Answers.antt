@@ -20,26 +20,26 @@ pub returns-in_err-let_clause : goal.returns-in_err-let_clause
 unfolding comma_list_from
 returns-in_err-let_clause g c =
     let e = one_more (rest c.args.self.now.depth c.args.self.now.inside (map clause_tree c.loop-turn.found)
-    c.loop-turn.tokens) c.left-turn-end.result c.loop-turn._turn (omega arith) c.loop-turn.invariant in
+    c.loop-turn.tokens) c.remaining-turn-end.result c.loop-turn._turn (omega arith) c.loop-turn.invariant in
     first_of (search rules, grind (arith, common_steps))
 
 pub returns-then-not-eat : goal.returns-then-not-eat
 unfolding comma_list_from
 returns-then-not-eat g c =
     let e = one_more (rest c.args.self.now.depth c.args.self.now.inside (map clause_tree c.loop-turn.found)
-    c.loop-turn.tokens) c.left-turn-end.result c.loop-turn._turn (omega arith) c.loop-turn.invariant in
+    c.loop-turn.tokens) c.remaining-turn-end.result c.loop-turn._turn (omega arith) c.loop-turn.invariant in
     first_of (search rules, grind (arith, common_steps))
 
 pub loop-turn-preserved : goal.loop-turn-preserved
 unfolding comma_list_from
 loop-turn-preserved g c =
     let e = one_more (rest c.args.self.now.depth c.args.self.now.inside (map clause_tree c.loop-turn.found)
-    c.loop-turn.tokens) c.left-turn-end.result c.loop-turn._turn (omega arith) c.loop-turn.invariant in
+    c.loop-turn.tokens) c.remaining-turn-end.result c.loop-turn._turn (omega arith) c.loop-turn.invariant in
     first_of (search rules, grind (arith, common_steps))
 
 pub returns : goal.returns
 unfolding comma_list_from
 returns g c =
     let e = no_more (rest c.args.self.now.depth c.args.self.now.inside (map clause_tree c.loop-turn.found)
-    c.loop-turn.tokens) c.left-turn-end.result c.loop-turn._turn (omega arith) c.loop-turn.invariant in
+    c.loop-turn.tokens) c.remaining-turn-end.result c.loop-turn._turn (omega arith) c.loop-turn.invariant in
     first_of (search rules, grind (arith, common_steps))

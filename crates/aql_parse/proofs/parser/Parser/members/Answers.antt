@@ -21,40 +21,40 @@ pub returns-then-eat : goal.returns-then-eat
 unfolding items_from
 returns-then-eat g c =
     let e = one_more (rest c.args.self.now.depth c.args.self.now.inside (map member_part c.loop-turn.found)
-    c.loop-turn.tokens) c.left-turn-end.result c.loop-turn._turn (omega arith) c.loop-turn.invariant in
+    c.loop-turn.tokens) c.remaining-turn-end.result c.loop-turn._turn (omega arith) c.loop-turn.invariant in
     first_of (search rules, grind (arith, common_steps))
 
 pub returns-in_err-member : goal.returns-in_err-member
 unfolding items_from
 returns-in_err-member g c =
     let e = one_more (rest c.args.self.now.depth c.args.self.now.inside (map member_part c.loop-turn.found)
-    c.loop-turn.tokens) c.left-turn-end.result c.loop-turn._turn (omega arith) c.loop-turn.invariant in
+    c.loop-turn.tokens) c.remaining-turn-end.result c.loop-turn._turn (omega arith) c.loop-turn.invariant in
     first_of (search rules, grind (arith, common_steps))
 
 pub returns-in_err-expect : goal.returns-in_err-expect
 unfolding items_from
 returns-in_err-expect g c =
     let e = one_more (rest c.args.self.now.depth c.args.self.now.inside (map member_part c.loop-turn.found)
-    c.loop-turn.tokens) c.left-turn-end.result c.loop-turn._turn (omega arith) c.loop-turn.invariant in
+    c.loop-turn.tokens) c.remaining-turn-end.result c.loop-turn._turn (omega arith) c.loop-turn.invariant in
     first_of (search rules, grind (arith, common_steps))
 
 pub returns-then-not-eat : goal.returns-then-not-eat
 unfolding items_from
 returns-then-not-eat g c =
     let e = one_more (rest c.args.self.now.depth c.args.self.now.inside (map member_part c.loop-turn.found)
-    c.loop-turn.tokens) c.left-turn-end.result c.loop-turn._turn (omega arith) c.loop-turn.invariant in
+    c.loop-turn.tokens) c.remaining-turn-end.result c.loop-turn._turn (omega arith) c.loop-turn.invariant in
     first_of (search rules, grind (arith, common_steps))
 
 pub loop-turn-preserved : goal.loop-turn-preserved
 unfolding items_from
 loop-turn-preserved g c =
     let e = one_more (rest c.args.self.now.depth c.args.self.now.inside (map member_part c.loop-turn.found)
-    c.loop-turn.tokens) c.left-turn-end.result c.loop-turn._turn (omega arith) c.loop-turn.invariant in
+    c.loop-turn.tokens) c.remaining-turn-end.result c.loop-turn._turn (omega arith) c.loop-turn.invariant in
     first_of (search rules, grind (arith, common_steps))
 
 pub returns : goal.returns
 unfolding items_from
 returns g c =
     let e = no_more (rest c.args.self.now.depth c.args.self.now.inside (map member_part c.loop-turn.found)
-    c.loop-turn.tokens) c.left-turn-end.result c.loop-turn._turn (omega arith) c.loop-turn.invariant in
+    c.loop-turn.tokens) c.remaining-turn-end.result c.loop-turn._turn (omega arith) c.loop-turn.invariant in
     first_of (search rules, grind (arith, common_steps))

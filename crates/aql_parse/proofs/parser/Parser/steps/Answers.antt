@@ -20,26 +20,26 @@ pub returns-then-not-begins_step : goal.returns-then-not-begins_step
 unfolding many_from
 returns-then-not-begins_step g c =
     let e = one_more (rest c.args.self.now.depth c.args.self.now.inside (map step_part c.loop-turn.found)
-    c.loop-turn.tokens) c.left-turn-end.result c.loop-turn._turn (omega arith) c.loop-turn.invariant in
+    c.loop-turn.tokens) c.remaining-turn-end.result c.loop-turn._turn (omega arith) c.loop-turn.invariant in
     first_of (search rules, grind (arith, common_steps))
 
 pub returns-in_err-step : goal.returns-in_err-step
 unfolding many_from
 returns-in_err-step g c =
     let e = one_more (rest c.args.self.now.depth c.args.self.now.inside (map step_part c.loop-turn.found)
-    c.loop-turn.tokens) c.left-turn-end.result c.loop-turn._turn (omega arith) c.loop-turn.invariant in
+    c.loop-turn.tokens) c.remaining-turn-end.result c.loop-turn._turn (omega arith) c.loop-turn.invariant in
     first_of (search rules, grind (arith, common_steps))
 
 pub loop-turn-preserved : goal.loop-turn-preserved
 unfolding many_from
 loop-turn-preserved g c =
     let e = one_more (rest c.args.self.now.depth c.args.self.now.inside (map step_part c.loop-turn.found)
-    c.loop-turn.tokens) c.left-turn-end.result c.loop-turn._turn (omega arith) c.loop-turn.invariant in
+    c.loop-turn.tokens) c.remaining-turn-end.result c.loop-turn._turn (omega arith) c.loop-turn.invariant in
     first_of (search rules, grind (arith, common_steps))
 
 pub returns : goal.returns
 unfolding many_from
 returns g c =
     let e = no_more (rest c.args.self.now.depth c.args.self.now.inside (map step_part c.loop-turn.found)
-    c.loop-turn.tokens) c.left-turn-end.result c.loop-turn._turn (omega arith) c.loop-turn.invariant in
+    c.loop-turn.tokens) c.remaining-turn-end.result c.loop-turn._turn (omega arith) c.loop-turn.invariant in
     first_of (search rules, grind (arith, common_steps))

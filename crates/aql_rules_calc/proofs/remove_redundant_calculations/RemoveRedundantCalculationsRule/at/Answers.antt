@@ -7,8 +7,8 @@ use Rattle.aql_rewrite.specs.laws.RenamedPlans.{placed_plain}
 use Rattle.aql_rules_calc.specs.RemoveRedundantCalculations.{Redundant}
 use Rattle.aql_rules_calc.proofs.remove_redundant_calculations.RemoveRedundantCalculationsRule.at.Goals as goal
 
-pub redundant-requires : goal.redundant-requires
-redundant-requires c = placed_plain false false c.args._facts.now (above_uses c.args._above.now)
+pub redundant_calculation-requires : goal.redundant_calculation-requires
+redundant_calculation-requires c = placed_plain false false c.args._facts.now (above_uses c.args._above.now)
     (plan_tree c.args.part.now) c.requires
 
 pub returns-in-None : goal.returns-in-None

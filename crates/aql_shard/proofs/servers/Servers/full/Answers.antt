@@ -3,7 +3,7 @@ use Rattle.std.specs.Prelude.{slice_get, ◌<◌}
 use Rattle.aql_value.specs.Datum.{Datum}
 use Rattle.aql_doc.specs.Held.{documents_at}
 use Rattle.aql_shard.specs.Holding.{Holding}
-use Rattle.aql_shard.specs.Held.{one_read}
+use Rattle.aql_shard.specs.Datasets.{one_read}
 use Rattle.aql_shard.specs.laws.Split.{reads_here}
 use Rattle.aql_shard.proofs.Found.{not_missing, documents_found}
 use Rattle.aql_shard.proofs.servers.Servers.full.Goals as goal

@@ -1,5 +1,5 @@
 use Rattle.std.proofs.Common.{Ok, Err, Some, sym, ap, ◌∙◌, subst}
-use Rattle.aql_value.specs.Place.{IsPlace}
+use Rattle.aql_value.specs.NameSearch.{IsSearchResult}
 use Rattle.aql_value.specs.Fields.{fields_in}
 use Rattle.aql_value.specs.View.{datum_of}
 use Rattle.aql_value.specs.Attributes.{attribute}
@@ -10,7 +10,7 @@ use Rattle.aql_value.proofs.values.Members.value.Goals as goal
 pub returns-in-Ok : goal.returns-in-Ok
 returns-in-Ok c =
     let p = subst
-    (λ es. IsPlace (Ok c.in-Ok.at) c.args.name.now
+    (λ es. IsSearchResult (Ok c.in-Ok.at) c.args.name.now
     (fields_in es)) c.deref.ensures.value c.in-Ok.ensures in
     let h = attribute_at c.args.name.now c.self.inside.entries.items c.in-Ok.at c.index.result.now
     (place_within c.self.inside.entries.items c.in-Ok.at p.0) p.1 p.2 in
@@ -20,7 +20,7 @@ returns-in-Ok c =
 pub returns-in-Err : goal.returns-in-Err
 returns-in-Err c =
     let p = subst
-    (λ es. IsPlace (Err c.in-Err.field-0) c.args.name.now
+    (λ es. IsSearchResult (Err c.in-Err.field-0) c.args.name.now
     (fields_in es)) c.deref.ensures.value c.in-Err.ensures in
     let h = attribute_absent c.args.name.now
     (fields_in c.self.inside.entries.items) c.in-Err.field-0 c.self.invariant p.1 p.2 in
