@@ -8,7 +8,7 @@ use Rattle.aql_tree.specs.declared.syntax.Ident.{Ident}
 use Rattle.aql_tree.specs.declared.syntax.Ident.TheVariants.{Name, Num}
 use Rattle.aql_meaning.specs.Row.{Row, same_ident, bind, bind_all, value_at}
 use Rattle.aql_aggregate.specs.Theorems.{are_distinct}
-use Rattle.aql_aggregate.proofs.Totals.{any_append, first_false, second_false}
+use Rattle.aql_aggregate.specs.laws.Totals.{any_append, first_false, second_false}
 
 same_is : (x y : Ident) → same_ident x y ≡ true → x ≡ y
 same_is (Name a) (Name b) h = ap (λ (n : List ℕ). Name n) ((bytes_eq-Decides a b).0 h)

@@ -1,17 +1,5 @@
 pub mod Names
-pub mod Best
 pub mod Unique
-pub mod Marks
-pub mod Counts
-pub mod Totals
-pub mod Chosen
-pub mod Members
-pub mod Order
 pub mod Joined
 pub mod Binding
-pub mod Grouping
 pub mod Stages
-pub mod Formed
-pub mod Sums
-pub mod Alike
-pub mod AnyStates

@@ -8,7 +8,7 @@ use Rattle.aql_value.specs.Contents.{list, elements, same, is_in}
 use Rattle.aql_func.specs.Aggregates.{Aggregate, aggregate, aggregate_named, state, join}
 use Rattle.aql_func.specs.Arguments.{argument}
 use Rattle.aql_func.specs.Lists.{distinct}
-use Rattle.aql_func.proofs.Shuffles.{Shuffled, none, skip, flip, chain, shuffled}
+use Rattle.aql_func.specs.laws.Shuffles.{Shuffled, none, skip, flip, chain, shuffled}
 use Rattle.aql_tree.specs.declared.syntax.Ident.{Ident}
 use Rattle.aql_tree.specs.Tree.{ExprTrees, AggregateTrees, no_aggregates, aggregate_then, no_into}
 use Rattle.aql_meaning.specs.declared.grouping.Stage.TheVariants.{Whole, Final}
@@ -18,12 +18,12 @@ use Rattle.aql_meaning.specs.Visible.{aggregate_vars, functions_by}
 use Rattle.aql_meaning.specs.Groups.{GroupedRow, groups, rows_of_group, aggregate_of, aggregate_values, group_row}
 use Rattle.aql_meaning.specs.Stages.{grouped_row_at, state_of, joined_of}
 use Rattle.aql_aggregate.specs.Theorems.{all_of, are_distinct, HandsOn, TwoStagesAreOne}
-use Rattle.aql_aggregate.proofs.Totals.{any_append}
-use Rattle.aql_aggregate.proofs.Members.{Alike, in_distinct, distinct_alike}
-use Rattle.aql_aggregate.proofs.Order.{same_any, same_aggregate, same_join, mapped}
+use Rattle.aql_aggregate.specs.laws.Totals.{any_append}
+use Rattle.aql_aggregate.specs.laws.Members.{Alike, in_distinct, distinct_alike}
+use Rattle.aql_aggregate.specs.laws.Order.{same_any, same_aggregate, same_join, mapped}
 use Rattle.aql_aggregate.proofs.Joined.{joined}
 use Rattle.aql_aggregate.proofs.Binding.{read_back, read_under, left_distinct, right_distinct}
-use Rattle.aql_aggregate.proofs.Grouping.{key, Fitting, group_keys, once_groups, groups_fit, picked, no_rows}
+use Rattle.aql_aggregate.specs.laws.Grouping.{key, Fitting, group_keys, once_groups, groups_fit, picked, no_rows}
 
 filter_mapped : {A B : Type 0} (p : B → Bool) (f : A → B) (xs : List A)
     → filter p (map f xs) ≡ map f (filter (λ x. p (f x)) xs)

@@ -8,7 +8,7 @@ use Rattle.aql_value.specs.Contents.{is_below}
 use Rattle.aql_value.specs.Convert.{number_or_null}
 use Rattle.aql_func.specs.Lists.{firsts, add, among, sort_values}
 use Rattle.aql_func.specs.Aggregates.{Aggregate, count, sum, min, max, sorted_unique, count_distinct, aggregate, count_of}
-use Rattle.aql_func.proofs.Firsts.{firsts_push}
+use Rattle.aql_func.specs.laws.Firsts.{firsts_push}
 use Rattle.aql_aggregate.specs.declared.accumulator.Accumulator.TheVariants.{SortedUnique, CountDistinct}
 use Rattle.aql_aggregate.specs.States.{Keeps}
 

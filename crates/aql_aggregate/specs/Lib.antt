@@ -4,3 +4,4 @@ pub mod Theorems
 pub mod PartialStates
 pub mod Joined
 pub mod Staged
+pub mod laws

@@ -10,7 +10,7 @@ use Rattle.aql_value.specs.Datum.{Datum, text, object_of}
 use Rattle.aql_value.specs.View.{datum_of}
 use Rattle.aql_value.specs.WellFormed.{FieldsWellFormed}
 use Rattle.aql_value.specs.declared.values.Value.{Value}
-use Rattle.aql_value.proofs.Kept.{attribute_absent}
+use Rattle.aql_value.specs.laws.Kept.{attribute_absent}
 use Rattle.aql_value.specs.Attributes.{attribute, with_attribute}
 use Rattle.aql_value.specs.laws.Ranks.{same_bytes}
 

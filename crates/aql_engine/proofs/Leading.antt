@@ -6,7 +6,7 @@ use Rattle.aql_block.specs.declared.tally.Tally.{Tally}
 use Rattle.aql_exec.specs.Rests.{Counts, Rest, with_rows, Ahead, Rises, EndsOwed, Ends}
 use Rattle.aql_exec.specs.Counting.{nothing}
 use Rattle.aql_exec.specs.Steps.{given, Led}
-use Rattle.aql_exec.proofs.Telling.{ahead_none}
+use Rattle.aql_exec.specs.laws.Telling.{ahead_none}
 use Rattle.aql_engine.proofs.Loops.{Leads}
 
 -- ---- counts and families of rests

@@ -1,4 +1,3 @@
-pub mod Fragments
 pub mod Loops
 pub mod Leading
 pub mod Inputs

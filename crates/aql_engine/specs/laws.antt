@@ -5,3 +5,4 @@ pub mod Sound
 pub mod Trees
 pub mod TreesKept
 pub mod Choices
+pub mod Fragments

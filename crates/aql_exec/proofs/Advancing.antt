@@ -6,7 +6,7 @@ use Rattle.aql_block.specs.declared.calls.Step.{Step}
 use Rattle.aql_exec.specs.Rests.{Counts, Rest, Ahead, with_rows}
 use Rattle.aql_exec.specs.Steps.{Led, given, told}
 use Rattle.aql_exec.specs.Streaming.{Counting}
-use Rattle.aql_exec.proofs.Handing.{same_rows, same_counts}
+use Rattle.aql_exec.specs.laws.Handing.{same_rows, same_counts}
 
 -- a rest of the transform over the input's rows, with what the input counts
 abbrev pub Adding : (List Row → Rest → Type 0) → Rest → Rest → Type 0

@@ -10,7 +10,7 @@ use Rattle.aql_exec.specs.Steps.{given, told, InCall}
 use Rattle.aql_exec.specs.Mapping.{held_in}
 use Rattle.aql_exec.specs.Limiting.{Limits, HeldIs, skips_of, most_of}
 use Rattle.aql_exec.specs.declared.limit.Limit.{Limit}
-use Rattle.aql_exec.proofs.Handing.{same_rows, same_counts}
+use Rattle.aql_exec.specs.laws.Handing.{same_rows, same_counts}
 use Rattle.aql_exec.proofs.Limited.{held_none}
 use Rattle.aql_exec.proofs.Asking.{Came, skips_is}
 use Rattle.aql_exec.proofs.Asking as asking

@@ -10,7 +10,7 @@ use Rattle.aql_exec.specs.Counting.{nothing}
 use Rattle.aql_exec.specs.Steps.{given}
 use Rattle.aql_exec.specs.Mapping.{held_in}
 use Rattle.aql_exec.specs.Limiting.{Limits}
-use Rattle.aql_exec.proofs.Handing.{held_after, same_counts}
+use Rattle.aql_exec.specs.laws.Handing.{held_after, same_counts}
 
 -- where no rows are held the input stands as it is
 pub held_none : (k : ℕ) (rows input : List Row) → rows ≡ [] → held_in true k rows input ≡ input

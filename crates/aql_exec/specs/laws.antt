@@ -1,3 +1,6 @@
 pub mod SomeCounting
 pub mod SomeMerge
 pub mod SomeRest
+pub mod Firsts
+pub mod Handing
+pub mod Telling

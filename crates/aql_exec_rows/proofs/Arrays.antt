@@ -13,8 +13,8 @@ use Rattle.aql_exec.specs.Rests.{Counter, Counts, Rest, with_rows, Ahead}
 use Rattle.aql_exec.specs.Steps.{Led, given}
 use Rattle.aql_exec.specs.Operators.{EachRow}
 use Rattle.aql_exec.specs.Counting.{nothing}
-use Rattle.aql_exec.proofs.Telling.{led_none}
-use Rattle.aql_exec.proofs.Handing.{none_owed}
+use Rattle.aql_exec.specs.laws.Telling.{led_none}
+use Rattle.aql_exec.specs.laws.Handing.{none_owed}
 use Rattle.aql_exec_rows.specs.Subqueries.{Follow, Leaves, room_of}
 
 -- ---- values of rows

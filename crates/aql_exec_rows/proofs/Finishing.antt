@@ -15,7 +15,7 @@ use Rattle.aql_value.specs.Contents.{list, elements, is_below}
 use Rattle.aql_value.specs.Compare.{compare}
 use Rattle.aql_value.specs.View.{datum_of, datums_in}
 use Rattle.aql_func.specs.Lists.{among, sort_values}
-use Rattle.aql_func.proofs.Ascending.{sorted_is}
+use Rattle.aql_func.specs.laws.Ascending.{sorted_is}
 use Rattle.aql_tree.specs.declared.syntax.Ident.{Ident}
 use Rattle.aql_tree.specs.declared.syntax.Ident.TheVariants.{Num}
 use Rattle.aql_tree.specs.declared.syntax.Let.{Let}

@@ -11,7 +11,7 @@ use Rattle.aql_value.specs.declared.values.Value.{Value}
 use Rattle.aql_value.specs.View.{datum_of, datums_in}
 use Rattle.aql_func.specs.Arguments.{argument}
 use Rattle.aql_func.specs.Lists.{firsts}
-use Rattle.aql_func.proofs.Firsts.{firsts_push, noted, in_firsts, same_flip, same_is}
+use Rattle.aql_func.specs.laws.Firsts.{firsts_push, noted, in_firsts, same_flip, same_is}
 use Rattle.aql_tree.specs.declared.syntax.Let.{Let}
 use Rattle.aql_tree.specs.declared.syntax.Into.{Into}
 use Rattle.aql_meaning.specs.Groups.{GroupedRow}

@@ -11,8 +11,8 @@ use Rattle.aql_block.specs.declared.calls.Step.{Step}
 use Rattle.aql_exec.specs.Rests.{Counter, Counts, Rest, with_rows, Ahead}
 use Rattle.aql_exec.specs.Steps.{Led, given}
 use Rattle.aql_exec.specs.Counting.{nothing}
-use Rattle.aql_exec.proofs.Handing.{same_rows, same_counts, none_owed}
-use Rattle.aql_exec.proofs.Telling.{led_none}
+use Rattle.aql_exec.specs.laws.Handing.{same_rows, same_counts, none_owed}
+use Rattle.aql_exec.specs.laws.Telling.{led_none}
 use Rattle.aql_aggregate.specs.declared.staged.StagedKind.{StagedKind}
 use Rattle.aql_exec_rows.specs.CollectSettings.{AreKinds}
 use Rattle.aql_exec_rows.specs.GroupStates.{seen, Holds, Result, finished_of, finished_in, result_of}

@@ -8,7 +8,7 @@ use Rattle.aql_value.specs.Datum.{Datum, text}
 use Rattle.aql_value.specs.Convert.{to_text}
 use Rattle.aql_func.specs.Aggregates.{is_null, without_null}
 use Rattle.aql_func.specs.Texts.{join_by, parts_of}
-use Rattle.aql_func.specs.Joins.{with_part}
+use Rattle.aql_func.specs.inner.Joins.{with_part}
 
 abbrev pub has_some : List (List ℕ) → Bool
 has_some [] = false

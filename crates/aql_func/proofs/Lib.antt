@@ -1,10 +1,6 @@
 pub mod Found
 pub mod Steps
-pub mod Shuffles
-pub mod Ascending
-pub mod Firsts
 pub mod Flat
-pub mod Parts
 pub mod Members
 pub mod Sieves
 pub mod Search
@@ -12,5 +8,3 @@ pub mod Encoded
 pub mod Counted
 pub mod Rows
 pub mod Joins
-pub mod Sums
-pub mod Identifiers

@@ -14,10 +14,10 @@ use Rattle.aql_value.specs.Fields.{fields_in}
 use Rattle.aql_value.specs.Order.{BytesBelow}
 use Rattle.aql_value.specs.WellFormed.{FieldsWellFormed, IsBelowNames}
 use Rattle.aql_value.specs.Attributes.{with_attribute}
-use Rattle.aql_func.specs.Choices.{choose}
+use Rattle.aql_func.specs.inner.Choices.{choose}
 use Rattle.aql_func.specs.Lists.{firsts}
 use Rattle.aql_func.specs.Objects.{with_all}
-use Rattle.aql_func.proofs.Firsts.{in_firsts}
+use Rattle.aql_func.specs.laws.Firsts.{in_firsts}
 use Rattle.aql_func.proofs.Sieves.{alike_tests}
 
 abbrev pub entry : Member → List ℕ × Datum

@@ -1,7 +1,7 @@
 -- The row of answers of LIKE, as one more piece stands before the others.
 use Rattle.std.proofs.Common.{◌≡◌, ℕ, zero, suc, ◌+◌, ◌<◌, List, [], ◌∷◌, ◌++◌, Bool, true, false, ◌&&◌, ◌||◌, length, get_or, set, take, drop, refl, ap, sym, ◌∙◌, true≢false, arith}
 use Rattle.aql_func.specs.Like.{Piece, one, run, this, fits}
-use Rattle.aql_func.specs.Pieces.{row_of, ors, or_head, takes, head_of, shift}
+use Rattle.aql_func.specs.inner.Pieces.{row_of, ors, or_head, takes, head_of, shift}
 
 or_false : (b : Bool) → b || false ≡ b
 or_false true = refl

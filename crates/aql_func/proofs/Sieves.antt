@@ -5,8 +5,8 @@ use Rattle.std.specs.List.{list_all, list_any}
 use Rattle.aql_value.specs.Datum.{Datum}
 use Rattle.aql_value.specs.Contents.{is_in}
 use Rattle.aql_func.specs.Lists.{firsts, in_all, in_none}
-use Rattle.aql_func.specs.Sieves.{sift, sieve}
-use Rattle.aql_func.proofs.Firsts.{in_firsts}
+use Rattle.aql_func.specs.inner.Sieves.{sift, sieve}
+use Rattle.aql_func.specs.laws.Firsts.{in_firsts}
 
 all_kept : (ts : List Datum) → filter (λ t. true) ts ≡ ts
 all_kept [] = refl

@@ -8,10 +8,5 @@ pub mod Lists
 pub mod Aggregates
 pub mod Texts
 pub mod Objects
-pub mod Signatures
-pub mod Optional
-pub mod Sieves
-pub mod Prefixes
-pub mod Joins
-pub mod Pieces
-pub mod Choices
+pub mod laws
+pub mod inner

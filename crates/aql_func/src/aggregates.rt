@@ -4,7 +4,7 @@ ghost use Rattle.aql_value.specs.Datum.{null};
 ghost use Rattle.aql_value.specs.View.{datum_of, datums_in};
 ghost use Rattle.aql_func.specs.Aggregates as spec;
 ghost use Rattle.aql_func.specs.Functions.{call};
-ghost use Rattle.aql_func.specs.Optional.{optional_datum};
+ghost use Rattle.aql_func.specs.inner.Optional.{optional_datum};
 
 use crate::FuncName;
 use crate::arguments::{array, is_null};

@@ -8,7 +8,7 @@ ghost use Rattle.aql_func.specs.Arguments.{is_array, of_list};
 ghost use Rattle.aql_func.specs.Functions as functions;
 ghost use Rattle.aql_func.specs.Functions.{call, or_empty};
 ghost use Rattle.aql_func.specs.Lists as spec;
-ghost use Rattle.aql_func.specs.Optional.{optional_datum};
+ghost use Rattle.aql_func.specs.inner.Optional.{optional_datum};
 
 use crate::FuncName;
 use crate::arguments::{array, opened_value, value_at};

@@ -2,8 +2,8 @@
 ghost use Rattle.std.specs.Prelude.{[], ◌+◌, ◌<◌, ◌∷◌, ◌≡◌, ◌≤◌, chars, cond, drop, IfOk, length, List, map};
 ghost use Rattle.aql_value.specs.View.{datum_of};
 ghost use Rattle.aql_func.specs.Like as spec;
-ghost use Rattle.aql_func.specs.Pieces as pieces_spec;
-ghost use Rattle.aql_func.specs.Pieces.{ors, piece_of, row_of, shift};
+ghost use Rattle.aql_func.specs.inner.Pieces as pieces_spec;
+ghost use Rattle.aql_func.specs.inner.Pieces.{ors, piece_of, row_of, shift};
 
 use crate::texts::characters;
 use aql_value::{OutOfMemory, Value};

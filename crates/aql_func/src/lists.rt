@@ -3,9 +3,9 @@ ghost use Rattle.std.specs.Prelude.{[], ◌++◌, ◌∷◌, ◌≡◌, cond, dr
 ghost use Rattle.aql_value.specs.Contents.{is_in};
 ghost use Rattle.aql_value.specs.View.{datum_of, datums_in};
 ghost use Rattle.aql_func.specs.Lists as spec;
-ghost use Rattle.aql_func.specs.Prefixes.{prefix_length};
-ghost use Rattle.aql_func.specs.Optional.{optional_datum};
-ghost use Rattle.aql_func.specs.Sieves.{sift};
+ghost use Rattle.aql_func.specs.inner.Prefixes.{prefix_length};
+ghost use Rattle.aql_func.specs.inner.Optional.{optional_datum};
+ghost use Rattle.aql_func.specs.inner.Sieves.{sift};
 
 use aql_value::{Items, OutOfMemory, Value, copy, to_number};
 use indexmap::IndexSet;

@@ -7,7 +7,7 @@ ghost use Rattle.aql_value.specs.Datum.{object_of, text, Datum};
 ghost use Rattle.aql_value.specs.View.{datum_of, datums_in};
 ghost use Rattle.aql_value.specs.WellFormed.{FieldsWellFormed};
 ghost use Rattle.aql_func.specs.Arguments.{of_object, elements_or_self};
-ghost use Rattle.aql_func.specs.Choices.{choose};
+ghost use Rattle.aql_func.specs.inner.Choices.{choose};
 ghost use Rattle.aql_func.specs.Functions.{call};
 ghost use Rattle.aql_func.specs.Objects as spec;
 

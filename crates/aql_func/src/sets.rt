@@ -8,7 +8,7 @@ ghost use Rattle.aql_func.specs.Arguments as given_args;
 ghost use Rattle.aql_func.specs.Arguments.{of_lists};
 ghost use Rattle.aql_func.specs.Functions.{call, head};
 ghost use Rattle.aql_func.specs.Lists as spec;
-ghost use Rattle.aql_func.specs.Sieves.{sieve};
+ghost use Rattle.aql_func.specs.inner.Sieves.{sieve};
 
 use crate::FuncName;
 use crate::arguments::{array, is_array};

@@ -1,7 +1,7 @@
 ghost use Rattle.std.specs.Prelude.{◌&&◌, ◌≡◌, nat_le};
 ghost use Rattle.aql_func.specs.Names as spec;
 ghost use Rattle.aql_func.specs.Names.{is_within, signature};
-ghost use Rattle.aql_func.specs.Signatures.{signature_of};
+ghost use Rattle.aql_func.specs.inner.Signatures.{signature_of};
 
 use crate::names::FuncName;
 

@@ -5,8 +5,8 @@ ghost use Rattle.aql_value.specs.Datum.{text};
 ghost use Rattle.aql_value.specs.View.{datum_of, datums_in};
 ghost use Rattle.aql_func.specs.Arguments as given_args;
 ghost use Rattle.aql_func.specs.Functions.{call, concatenate};
-ghost use Rattle.aql_func.specs.Joins.{with_part};
-ghost use Rattle.aql_func.specs.Optional.{optional_datum};
+ghost use Rattle.aql_func.specs.inner.Joins.{with_part};
+ghost use Rattle.aql_func.specs.inner.Optional.{optional_datum};
 ghost use Rattle.aql_func.specs.Texts as spec;
 ghost use Rattle.aql_func.specs.Texts.{begins_with, occurs_in, parts_of};
 

@@ -12,7 +12,7 @@ use Rattle.aql_lex.specs.declared.vocabulary.Symbol.{Symbol}
 use Rattle.aql_lex.specs.declared.vocabulary.Symbol.TheVariants as s
 use Rattle.aql_lex.specs.declared.vocabulary.TheConstants.{KEYWORDS, SYMBOLS}
 use Rattle.aql_lex.specs.Vocabulary.{name_of, spelling_of}
-use Rattle.aql_lex.specs.Scans.{IsTable}
+use Rattle.aql_lex.specs.inner.Scans.{IsTable}
 
 abbrev pub keywords : List (List ℕ × Keyword)
 keywords = map (λ line. (line.0.now, line.1)) KEYWORDS

@@ -14,8 +14,8 @@ use Rattle.std.proofs.lemmas.Str.{IsCharBoundary-start, IsCharBoundary-after_asc
 use Rattle.std.proofs.lemmas.Str.{char_from_byte, length-encode, len_utf8_bounds}
 use Rattle.aql_lex.specs.Characters.{begins, is_blank, is_letter, is_word_part, is_quote, star, slash, backtick}
 use Rattle.aql_lex.specs.Tokens.{ClosesFirst, Separates}
-use Rattle.aql_lex.specs.Scans.{is_other}
-use Rattle.aql_lex.proofs.Quotes.{ascii_front}
+use Rattle.aql_lex.specs.inner.Scans.{is_other}
+use Rattle.aql_lex.specs.laws.Quotes.{ascii_front}
 
 -- a text may be cut after a run of ASCII
 run_boundary : (p : ℕ → Bool) → ((b : ℕ) → p b ≡ true → b < 128) → (text : List ℕ) (n : ℕ) → IsUtf8 text

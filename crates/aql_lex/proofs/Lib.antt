@@ -1,11 +1,3 @@
-pub mod Runs
 pub mod Tables
-pub mod Spellings
 pub mod CodeTables
-pub mod Classes
-pub mod Separators
-pub mod Names
-pub mod Digits
-pub mod Quotes
-pub mod Readings
 pub mod Cuts

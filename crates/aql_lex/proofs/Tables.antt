@@ -10,8 +10,8 @@ use denote.Ref.{Bor}
 use Rattle.aql_lex.specs.declared.vocabulary.Keyword.{Keyword}
 use Rattle.aql_lex.specs.declared.vocabulary.Symbol.{Symbol}
 use Rattle.aql_lex.specs.Vocabulary.{name_of, IsReserved, spelling_of}
-use Rattle.aql_lex.specs.Scans.{lines_of, IsTable, longer_first, NoSymbol, IsLongestSymbol}
-use Rattle.aql_lex.proofs.Runs.{and_left, and_right}
+use Rattle.aql_lex.specs.inner.Scans.{lines_of, IsTable, longer_first, NoSymbol, IsLongestSymbol}
+use Rattle.aql_lex.specs.laws.Runs.{and_left, and_right}
 
 -- in a table with the longer spellings first, a later line is no longer
 later_shorter : {Meant : Type 0} (lines : List (List ℕ × Meant)) → longer_first lines ≡ true → (i j : ℕ)

@@ -5,4 +5,5 @@ pub mod Texts
 pub mod Tokens
 pub mod Faults
 pub mod Reading
-pub mod Scans
+pub mod laws
+pub mod inner

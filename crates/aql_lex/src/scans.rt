@@ -4,8 +4,8 @@ ghost use Rattle.aql_lex.specs.declared.vocabulary.Keyword.{Keyword};
 ghost use Rattle.aql_lex.specs.Characters.{begins, backtick, is_letter};
 ghost use Rattle.aql_lex.specs.Numbers.{begins_digit};
 ghost use Rattle.aql_lex.specs.Vocabulary.{name_of, IsReserved, spelling_of};
-ghost use Rattle.aql_lex.specs.Scans.{Takes, Leaves, begins_comment, is_other, lines_of};
-ghost use Rattle.aql_lex.specs.Scans.{IsTable, longer_first, NoSymbol, IsLongestSymbol};
+ghost use Rattle.aql_lex.specs.inner.Scans.{Takes, Leaves, begins_comment, is_other, lines_of};
+ghost use Rattle.aql_lex.specs.inner.Scans.{IsTable, longer_first, NoSymbol, IsLongestSymbol};
 
 use crate::characters::{digits_len, is_blank, is_fraction, is_letter, is_quote, word_len};
 use crate::texts::text_scan;

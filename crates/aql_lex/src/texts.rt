@@ -4,7 +4,7 @@ ghost use Rattle.std.specs.Char.{digit_value};
 ghost use Rattle.std.specs.Char.Utf16.{is_high_surrogate};
 ghost use Rattle.aql_lex.specs.Characters.{is_quote};
 ghost use Rattle.aql_lex.specs.Texts.{simple_escape, code_unit, second_half, escape, unicode_escape};
-ghost use Rattle.aql_lex.specs.Scans.{Takes, EndsInAscii, Leaves};
+ghost use Rattle.aql_lex.specs.inner.Scans.{Takes, EndsInAscii, Leaves};
 ghost use Rattle.std.specs.Option.{SomeIff};
 
 use crate::characters::first_character;

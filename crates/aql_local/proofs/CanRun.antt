@@ -17,7 +17,7 @@ use Rattle.aql_engine.specs.EachFits.{EachFits, BodyFits}
 use Rattle.aql_engine.specs.OperatorsOf.{operators_of}
 use Rattle.aql_engine.specs.Runnable.{HasExecutors, HasExecutor}
 use Rattle.aql_engine.specs.laws.Trees.{plain_tree}
-use Rattle.aql_engine.proofs.Fragments.{no_fragment}
+use Rattle.aql_engine.specs.laws.Fragments.{no_fragment}
 use Rattle.aql_local.specs.Building.{SetsNumbers, NodeSetsNumbers}
 
 -- ---- each node fits

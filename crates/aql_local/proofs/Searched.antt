@@ -12,7 +12,7 @@ use Rattle.aql_doc.specs.Held.{Held, database, documents_at}
 use Rattle.aql_plan.specs.Runs.{edges_in}
 use Rattle.aql_exec_graph.specs.Found.{numbers}
 use Rattle.aql_shard.specs.laws.Split.{documents_same}
-use Rattle.aql_local.specs.EdgeSteps.{steps_by}
+use Rattle.aql_local.specs.inner.EdgeSteps.{steps_by}
 use Rattle.aql_local.specs.laws.Permuted.{found_each_once}
 
 one_after : (n : ℕ) → suc n ≡ n + 1

@@ -1,4 +1,4 @@
 pub mod Building
 pub mod Messages
-pub mod EdgeSteps
 pub mod laws
+pub mod inner

@@ -8,7 +8,7 @@ ghost use Rattle.aql_meaning.specs.Paths.{steps_from, along, against};
 ghost use Rattle.aql_plan.specs.Runs.{edges_in};
 ghost use Rattle.aql_exec_graph.specs.Found.{numbers, steps_in, step_of, times_found};
 ghost use Rattle.aql_shard.specs.Datasets.{stock};
-ghost use Rattle.aql_local.specs.EdgeSteps.{steps_by};
+ghost use Rattle.aql_local.specs.inner.EdgeSteps.{steps_by};
 
 use crate::documents::{attribute, documents_in, is_text_at};
 use aql_exec_graph::{EdgeList, EdgeStep};

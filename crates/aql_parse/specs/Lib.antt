@@ -2,4 +2,4 @@ pub mod Parses
 pub mod Within
 pub mod Deeper
 pub mod Phrases
-pub mod Shapes
+pub mod inner

@@ -2,7 +2,7 @@
 
 ghost use Rattle.aql_grammar.specs.Input.{ReadsAs, comma_list, comma_list_onto};
 ghost use Rattle.aql_parse.specs.Deeper.{ReadsDeeper};
-ghost use Rattle.aql_parse.specs.Shapes.{lone_vertex};
+ghost use Rattle.aql_parse.specs.inner.Shapes.{lone_vertex};
 ghost use Rattle.aql_tree.specs.View.{clause_tree, key_part};
 ghost use Rattle.std.specs.Prelude.{◌≡◌, ◌∷◌, ◌++◌, IfOk, map, []};
 ghost use Rattle.aql_grammar.specs.Reader as reader;

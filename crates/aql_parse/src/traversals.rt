@@ -3,7 +3,7 @@
 ghost use Rattle.aql_grammar.specs.Input.{ReadsAs};
 ghost use Rattle.aql_grammar.specs.Names.{traversal_names};
 ghost use Rattle.aql_parse.specs.Deeper.{ReadsDeeper};
-ghost use Rattle.aql_parse.specs.Shapes.{shape_of, shape_with};
+ghost use Rattle.aql_parse.specs.inner.Shapes.{shape_of, shape_with};
 ghost use Rattle.aql_tree.specs.Build.{default_options, shape_by_names};
 ghost use Rattle.aql_tree.specs.View.{tree, clause_tree, member_part, traversal_clause, options_part};
 ghost use Rattle.aql_tree.specs.View.{traversal_part};

@@ -9,7 +9,7 @@ use Rattle.aql_tree.specs.View.{tree}
 use Rattle.aql_rewrite.specs.Size.{size, size_all}
 use Rattle.aql_rewrite.specs.ExprView.{lent}
 use Rattle.aql_rewrite.specs.laws.PartSizes.{append_size}
-use Rattle.aql_passes.specs.Ends.{Ends, AllEnd}
+use Rattle.aql_passes.specs.inner.Ends.{Ends, AllEnd}
 use Rattle.aql_passes.specs.laws.Ended.{one_more}
 
 module _ (all : List (Bor Expr)) (i : ℕ) (e : Bor Expr) (within : i < length all)

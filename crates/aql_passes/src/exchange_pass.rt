@@ -10,7 +10,7 @@ ghost use Rattle.aql_plan.specs.View.{plan_tree};
 ghost use Rattle.aql_rewrite.specs.Places.{IsPass};
 ghost use Rattle.aql_rewrite.specs.Placed.{IsWhole};
 ghost use Rattle.aql_rewrite.specs.Swaps.{SetsNoMore};
-ghost use Rattle.aql_passes.specs.Settled.{Settled, Settles};
+ghost use Rattle.aql_passes.specs.inner.Settled.{Settled, Settles};
 ghost use Rattle.aql_rewrite.specs.Exchanged.{goes_below as spec_goes_below};
 
 use aql_plan::{Facts, Passed, Plan};

@@ -11,7 +11,7 @@ ghost use Rattle.aql_rewrite.specs.Places.{IsPass};
 ghost use Rattle.aql_rewrite.specs.Placed.{IsWhole};
 ghost use Rattle.aql_rewrite.specs.Swaps.{SetsNoMore};
 ghost use Rattle.aql_passes.specs.AtExprs.{AtExprs};
-ghost use Rattle.aql_passes.specs.Ends.{AllEnd, ExprsEnd, PlanEnds};
+ghost use Rattle.aql_passes.specs.inner.Ends.{AllEnd, ExprsEnd, PlanEnds};
 
 use crate::exprs::all_to_end;
 use aql_plan::{Facts, Node, Passed, Plan};

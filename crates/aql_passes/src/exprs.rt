@@ -4,7 +4,7 @@
 ghost use Rattle.std.specs.Prelude.{IfOk, map};
 ghost use Rattle.aql_tree.specs.View.{tree};
 ghost use Rattle.aql_rewrite.specs.ExprView.{lent};
-ghost use Rattle.aql_passes.specs.Ends.{Ends, AllEnd};
+ghost use Rattle.aql_passes.specs.inner.Ends.{Ends, AllEnd};
 
 use aql_rewrite::{ExprRule, children, over_children};
 use aql_tree::Expr;

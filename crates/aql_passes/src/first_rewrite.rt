@@ -7,7 +7,7 @@ ghost use Rattle.aql_plan.specs.Plan.{Over, top};
 ghost use Rattle.aql_plan.specs.View.{plan_tree};
 ghost use Rattle.aql_rewrite.specs.Placed.{IsPlaced};
 ghost use Rattle.aql_rewrite.specs.View.{above_uses};
-ghost use Rattle.aql_passes.specs.Finished.{IsRewritten, IsRewrittenHere};
+ghost use Rattle.aql_passes.specs.inner.Finished.{IsRewritten, IsRewrittenHere};
 
 use aql_plan::{Facts, Plan, Uses};
 use aql_rewrite::{

@@ -11,7 +11,7 @@ ghost use Rattle.aql_rewrite.specs.Places.{IsPass};
 ghost use Rattle.aql_rewrite.specs.Placed.{IsPlaced, IsWhole};
 ghost use Rattle.aql_rewrite.specs.Swaps.{SetsNoMore};
 ghost use Rattle.aql_rewrite.specs.View.{above_uses};
-ghost use Rattle.aql_passes.specs.Finished.{Finishes};
+ghost use Rattle.aql_passes.specs.inner.Finished.{Finishes};
 
 use crate::first_rewrite::rewrite_here;
 use aql_plan::{Facts, Passed, Plan, Uses};

@@ -11,7 +11,7 @@ ghost use Rattle.aql_rewrite.specs.Placed.{IsPlaced, IsWhole};
 ghost use Rattle.aql_rewrite.specs.Plain.{NodePlain};
 ghost use Rattle.aql_rewrite.specs.Renames.{over_each};
 ghost use Rattle.aql_rewrite.specs.Swaps.{SetsNoMore};
-ghost use Rattle.aql_passes.specs.Removed.{Removes, NoPlaceUnder};
+ghost use Rattle.aql_passes.specs.inner.Removed.{Removes, NoPlaceUnder};
 
 use aql_plan::{Facts, Passed, Plan};
 use aql_rewrite::{

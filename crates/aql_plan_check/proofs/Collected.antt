@@ -10,11 +10,11 @@ use Rattle.aql_plan.specs.declared.facts.Facts.{Facts}
 use Rattle.aql_plan.specs.Fits.{AllKnown, HasArgument}
 use Rattle.aql_plan.specs.Plan.{Node}
 use Rattle.aql_plan.specs.Shapes.{Shape}
-use Rattle.aql_plan_check.specs.Standing.{MayStand, next}
-use Rattle.aql_plan_check.specs.Sameness.{LetsSame, AggregatesSame}
+use Rattle.aql_plan_check.specs.inner.Standing.{MayStand, next}
+use Rattle.aql_plan_check.specs.inner.Sameness.{LetsSame, AggregatesSame}
 use Rattle.aql_plan_check.specs.declared.shapes.States.{States}
 use Rattle.aql_plan_check.specs.declared.shapes.Shape.{Shape as Code}
-use Rattle.aql_plan_check.specs.View.{all_states_of, shape_of}
+use Rattle.aql_plan_check.specs.inner.View.{all_states_of, shape_of}
 
 -- what is told of a node over a part of this shape
 abbrev pub Stood : Facts → Option Code → Node → Shape → Type 0

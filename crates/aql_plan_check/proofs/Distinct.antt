@@ -6,7 +6,7 @@ use Rattle.std.proofs.lemmas.List.{drop_more}
 use Rattle.std.proofs.lemmas.Bool.{and_left, and_right}
 use Rattle.aql_tree.specs.declared.syntax.Ident.TheVariants.{Num}
 use Rattle.aql_plan.specs.Variables.{are_distinct}
-use Rattle.aql_plan_check.specs.Rows.{variables, Same}
+use Rattle.aql_plan_check.specs.inner.Rows.{variables, Same}
 use Rattle.aql_plan_check.proofs.SameVariables.{any_of, any_variables, adds_number, same_along, same_after}
 
 shorter : (ns : List ℕ) (i : ℕ) → are_distinct (variables (drop i ns)) ≡ false

@@ -7,7 +7,7 @@ use Rattle.aql_meaning.specs.Uses.{Uses, used_variable, uses}
 use Rattle.aql_plan.specs.Plan.{Plan, Singleton, Over, Node, EnumerateCollection, Index, EnumerateList, Traversal, Calculation, Subquery, Collect, Return, top}
 use Rattle.aql_plan.specs.Needs.{sets}
 use Rattle.aql_plan.specs.Variables.{input_uses, filter_uses, vars_of, are_among, FindsAll, FindsInside}
-use Rattle.aql_plan_check.specs.Rows.{variables, Same, Adds, Grows, Finds, GivesRows, RowsNumbered, ResultNumbered}
+use Rattle.aql_plan_check.specs.inner.Rows.{variables, Same, Adds, Grows, Finds, GivesRows, RowsNumbered, ResultNumbered}
 use Rattle.aql_rewrite.specs.Nodes.{is_collect}
 use Rattle.aql_plan_check.proofs.SameVariables.{any_of, same_itself, same_along, same_back, same_after}
 

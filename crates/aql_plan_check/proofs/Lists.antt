@@ -6,7 +6,7 @@ use Rattle.aql_tree.specs.declared.syntax.Key.{Key}
 use Rattle.aql_tree.specs.Tree.{ExprTree, AggregateTrees, no_aggregates, aggregate_then}
 use Rattle.aql_tree.specs.View.{AggregatePart, aggregates as aggregate_trees, aggregate_part}
 use Rattle.aql_tree.specs.declared.syntax.AggregateItem.{AggregateItem}
-use Rattle.aql_plan_check.specs.Sameness.{AggregatesSame, AreAttributes}
+use Rattle.aql_plan_check.specs.inner.Sameness.{AggregatesSame, AreAttributes}
 use Rattle.aql_plan_check.proofs.Tests.{left}
 
 -- how many aggregates there are

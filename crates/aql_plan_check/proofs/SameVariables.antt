@@ -8,7 +8,7 @@ use Rattle.std.proofs.lemmas.Bool.{eqb-true}
 use Rattle.aql_tree.specs.declared.syntax.Ident.{Ident}
 use Rattle.aql_tree.specs.declared.syntax.Ident.TheVariants.{Name, Num}
 use Rattle.aql_meaning.specs.Row.{same_ident}
-use Rattle.aql_plan_check.specs.Rows.{variables, Same, Adds}
+use Rattle.aql_plan_check.specs.inner.Rows.{variables, Same, Adds}
 
 abbrev pub any_of : Ident → List Ident → Bool
 any_of x xs = list_any (same_ident x) xs

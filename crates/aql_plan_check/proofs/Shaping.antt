@@ -11,9 +11,9 @@ use Rattle.aql_plan.specs.Shapes.{Order, unordered, by_keys, index_order, Shape,
 use Rattle.aql_plan_laws.specs.laws.ShapeOnce.{AtMost, shape_once}
 use Rattle.aql_plan_laws.specs.laws.ShapeOnce as once
 use Rattle.aql_plan_laws.specs.laws.ShapesKept.{any_rows, under_top}
-use Rattle.aql_plan_check.specs.Standing.{IsRows, IsFragment, HasRows, MayRead, MayReadInOrder, IsKeyless, MayGather, MayStand, next, BodyFits}
+use Rattle.aql_plan_check.specs.inner.Standing.{IsRows, IsFragment, HasRows, MayRead, MayReadInOrder, IsKeyless, MayGather, MayStand, next, BodyFits}
 use Rattle.aql_plan_check.specs.declared.shapes.Shape.{Shape as Code}
-use Rattle.aql_plan_check.specs.View.{shape_of}
+use Rattle.aql_plan_check.specs.inner.View.{shape_of}
 
 -- ---- where a node may stand it has the next shape
 

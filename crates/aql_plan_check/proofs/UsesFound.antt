@@ -14,7 +14,7 @@ use Rattle.aql_meaning.specs.declared.grouping.Stage.TheVariants as stage
 use Rattle.aql_plan.specs.Plan.{Node, EnumerateCollection, Index, EnumerateList, Traversal, Calculation, Subquery, Filter, Sort, Limit, Collect, Return, NoResults, Scatter, Distribute, Remote, Gather}
 use Rattle.aql_plan.specs.Needs.{end_uses, last_uses, as_wholes}
 use Rattle.aql_plan.specs.Variables.{are_among, input_uses, filter_uses}
-use Rattle.aql_plan_check.specs.Findings.{IsAmong, Finds, AllFind, MaybeFinds, MembersFind, StepsFind, LinksFind, AggregatesFind, IntoFinds, EndFinds, LastFinds, AreAmong, InputFinds, FilterFinds}
+use Rattle.aql_plan_check.specs.inner.Findings.{IsAmong, Finds, AllFind, MaybeFinds, MembersFind, StepsFind, LinksFind, AggregatesFind, IntoFinds, EndFinds, LastFinds, AreAmong, InputFinds, FilterFinds}
 
 module _ (xs : List Ident) where
   among_append : (us vs : Uses) → are_among (us ++ vs) xs ≡ (are_among us xs && are_among vs xs)

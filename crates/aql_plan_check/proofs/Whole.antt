@@ -9,7 +9,7 @@ use Rattle.aql_plan.specs.Plan.{Plan}
 use Rattle.aql_plan.specs.Variables.{FindsAll, vars_set, numbers, are_distinct}
 use Rattle.aql_plan.specs.Shapes.{Shaped, Result}
 use Rattle.aql_plan.specs.WellFormed.{CollectionFits, IsWellFormed}
-use Rattle.aql_plan_check.specs.Rows.{variables}
+use Rattle.aql_plan_check.specs.inner.Rows.{variables}
 use Rattle.aql_plan_check.proofs.Numbered.{numbers_back}
 
 -- the variables by their numbers

@@ -1,5 +1,1 @@
-pub mod Rows
-pub mod Findings
-pub mod Standing
-pub mod Sameness
-pub mod View
+pub mod inner

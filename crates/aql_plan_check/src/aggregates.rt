@@ -5,7 +5,7 @@ ghost use Rattle.aql_tree.specs.View.{tree, maybe, aggregates as aggregate_trees
 ghost use Rattle.aql_meaning.specs.Lifted.{IntoPlain};
 ghost use Rattle.aql_aggregate.specs.View.{aggregate_of};
 ghost use Rattle.aql_plan.specs.Fits.{HasArgument, AllKnown};
-ghost use Rattle.aql_plan_check.specs.Sameness.{IsKnown};
+ghost use Rattle.aql_plan_check.specs.inner.Sameness.{IsKnown};
 
 use crate::plain::{is_plain, maybe_plain};
 use aql_aggregate::{AggregateKind, aggregate_kind};

@@ -6,9 +6,9 @@ ghost use Rattle.aql_tree.specs.View.{tree, maybe, let_part, key_part, aggregate
 ghost use Rattle.aql_tree.specs.declared.syntax.Ident.TheVariants.{Num};
 ghost use Rattle.aql_meaning.specs.Plain.{AllPlain, MaybePlain};
 ghost use Rattle.aql_plan.specs.View.{directions, key_trees};
-ghost use Rattle.aql_plan_check.specs.View.{order_of};
+ghost use Rattle.aql_plan_check.specs.inner.View.{order_of};
 ghost use Rattle.aql_plan.specs.Shapes as spec;
-ghost use Rattle.aql_plan_check.specs.Sameness.{LetsSame, KeysSame, AggregatesSame, AreAttributes};
+ghost use Rattle.aql_plan_check.specs.inner.Sameness.{LetsSame, KeysSame, AggregatesSame, AreAttributes};
 
 use crate::shapes::Order;
 use aql_rewrite::{same_expr, same_variable};

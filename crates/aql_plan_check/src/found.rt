@@ -2,8 +2,8 @@
 
 ghost use Rattle.std.specs.Prelude.{◌↔◌, [], ◌∷◌, IsTrue, map, option_map};
 ghost use Rattle.aql_tree.specs.View.{tree, trees, maybe, members, member_part, steps, step_part, links, link_part};
-ghost use Rattle.aql_plan_check.specs.Findings.{IsAmong, Finds, AllFind, MaybeFinds, MembersFind, StepsFind, LinksFind};
-ghost use Rattle.aql_plan_check.specs.Rows.{variables};
+ghost use Rattle.aql_plan_check.specs.inner.Findings.{IsAmong, Finds, AllFind, MaybeFinds, MembersFind, StepsFind, LinksFind};
+ghost use Rattle.aql_plan_check.specs.inner.Rows.{variables};
 
 use crate::rows::Variables;
 use aql_tree::{Expr, Field, Ident, Link, Step};

@@ -6,8 +6,8 @@ ghost use Rattle.aql_plan.specs.Shapes as spec;
 ghost use Rattle.aql_plan.specs.Shapes.{Shaped};
 ghost use Rattle.aql_plan.specs.View.{plan_tree};
 ghost use Rattle.aql_plan_laws.specs.laws.ShapeOnce as once;
-ghost use Rattle.aql_plan_check.specs.Standing.{BodyFits};
-ghost use Rattle.aql_plan_check.specs.View.{shape_of};
+ghost use Rattle.aql_plan_check.specs.inner.Standing.{BodyFits};
+ghost use Rattle.aql_plan_check.specs.inner.View.{shape_of};
 
 use crate::fits::fits;
 use crate::shapes::Shape;

@@ -7,7 +7,7 @@ ghost use Rattle.aql_meaning.specs.Visible.{aggregate_vars, into_var};
 ghost use Rattle.aql_plan.specs.Plan.{top};
 ghost use Rattle.aql_plan.specs.Needs.{sets};
 ghost use Rattle.aql_plan.specs.View.{node_tree, plan_tree};
-ghost use Rattle.aql_plan_check.specs.Rows.{AreNumbers, GivesRows, Adds};
+ghost use Rattle.aql_plan_check.specs.inner.Rows.{AreNumbers, GivesRows, Adds};
 
 use aql_plan::{Node, Plan};
 use aql_tree::{AggregateItem, Ident, Into, Let};

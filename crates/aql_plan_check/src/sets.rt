@@ -9,7 +9,7 @@ ghost use Rattle.aql_meaning.specs.Visible.{aggregate_vars, into_var};
 ghost use Rattle.aql_plan.specs.Plan.{top};
 ghost use Rattle.aql_plan.specs.Variables.{vars_set, set_once, are_distinct};
 ghost use Rattle.aql_plan.specs.View.{node_tree, plan_tree};
-ghost use Rattle.aql_plan_check.specs.Rows.{variables};
+ghost use Rattle.aql_plan_check.specs.inner.Rows.{variables};
 
 use aql_plan::{Node, Plan, Stage};
 use aql_tree::{AggregateItem, Ident, Into, Let};

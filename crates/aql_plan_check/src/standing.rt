@@ -9,9 +9,9 @@ ghost use Rattle.aql_plan.specs.Plan.{top};
 ghost use Rattle.aql_plan.specs.Shapes.{Rows, Foot, Sent, IsSent};
 ghost use Rattle.aql_plan.specs.View.{node_tree, plan_tree, directions, key_trees};
 ghost use Rattle.aql_plan_laws.specs.laws.ShapeOnce.{is_one, reading_over, ordering_over, filter_over, gather_over};
-ghost use Rattle.aql_plan_check.specs.Standing.{IsRows, HasRows, MayRead, MayReadInOrder, MayGather, MayStand, next};
-ghost use Rattle.aql_plan_check.specs.Sameness.{LetsSame, AggregatesSame};
-ghost use Rattle.aql_plan_check.specs.View.{all_states_of, collect_of, order_of, shape_of};
+ghost use Rattle.aql_plan_check.specs.inner.Standing.{IsRows, HasRows, MayRead, MayReadInOrder, MayGather, MayStand, next};
+ghost use Rattle.aql_plan_check.specs.inner.Sameness.{LetsSame, AggregatesSame};
+ghost use Rattle.aql_plan_check.specs.inner.View.{all_states_of, collect_of, order_of, shape_of};
 
 use crate::collections::attributes_of;
 use crate::equality::{orders_by, same_aggregates, same_lets};

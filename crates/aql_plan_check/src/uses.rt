@@ -8,10 +8,10 @@ ghost use Rattle.aql_meaning.specs.Visible.{aggregate_vars};
 ghost use Rattle.aql_plan.specs.Plan.{top};
 ghost use Rattle.aql_plan.specs.Variables.{FindsAll, FindsInside};
 ghost use Rattle.aql_plan.specs.View.{node_tree, plan_tree, key_trees};
-ghost use Rattle.aql_plan_check.specs.Findings.{AllFind, AggregatesFind, IntoFinds, EndFinds, LastFinds};
-ghost use Rattle.aql_plan_check.specs.Findings.{AreAmong, InputFinds, FilterFinds};
+ghost use Rattle.aql_plan_check.specs.inner.Findings.{AllFind, AggregatesFind, IntoFinds, EndFinds, LastFinds};
+ghost use Rattle.aql_plan_check.specs.inner.Findings.{AreAmong, InputFinds, FilterFinds};
 ghost use Rattle.aql_rewrite.specs.Nodes.{is_collect as spec_is_collect};
-ghost use Rattle.aql_plan_check.specs.Rows.{variables, RowsNumbered, ResultNumbered, BodyNumbered, Finds, Grows};
+ghost use Rattle.aql_plan_check.specs.inner.Rows.{variables, RowsNumbered, ResultNumbered, BodyNumbered, Finds, Grows};
 
 use crate::found::{all_find, finds, is_there, maybe_finds};
 use crate::rows::{Variables, add_sets};

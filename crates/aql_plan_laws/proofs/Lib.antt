@@ -1,2 +1,1 @@
 pub mod MergedOrder
-pub mod FirstAnswers

@@ -19,3 +19,4 @@ pub mod RenamedUses
 pub mod UsesMapped
 pub mod FoundMapped
 pub mod RenamedPlaces
+pub mod FirstAnswers

@@ -5,7 +5,7 @@ use Rattle.std.specs.Cmp.Lexicographic.{pointwise}
 use Rattle.aql_tree.specs.declared.syntax.Expr.{Expr}
 use Rattle.aql_tree.specs.declared.syntax.Expr as code
 use Rattle.aql_tree.specs.View.{tree, trees, member_part, steps, step_part, links, link_part}
-use Rattle.aql_rewrite.specs.Same.{same_expr, same_list, same_steps, same_links, same_member, same_step, same_link}
+use Rattle.aql_rewrite.specs.inner.Same.{same_expr, same_list, same_steps, same_links, same_member, same_step, same_link}
 use Rattle.aql_rewrite.specs.laws.Sameness.{list_pairs, member_pairs, step_pairs, link_pairs}
 use Rattle.aql_rewrite.proofs.Forms.{list_form, object_form, access_form, call_form, chain_form}
 

@@ -10,7 +10,7 @@ use Rattle.aql_plan.specs.Plan.{Reading, Node, Index, Sort, Collect, Distribute,
 use Rattle.aql_rewrite.specs.OverChildren.{first_or, after_first, over_list, over_maybe, after_maybe}
 use Rattle.aql_rewrite.specs.ExprView.{each_over, option_over, after_option}
 use Rattle.aql_rewrite.specs.NodeExprs.{after_list, over_last, after_last, over_aggregates, after_aggregates, over_into, over_exprs}
-use Rattle.aql_rewrite.specs.NodeViews.{after_each, keys_over, lets_over, aggregates_over, after_each_aggregate, into_over}
+use Rattle.aql_rewrite.specs.inner.NodeViews.{after_each, keys_over, lets_over, aggregates_over, after_each_aggregate, into_over}
 
 -- ---- lists
 

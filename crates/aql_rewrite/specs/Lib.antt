@@ -5,7 +5,6 @@ pub mod Keeps
 pub mod Size
 pub mod ExprView
 pub mod Constant
-pub mod Same
 pub mod laws
 pub mod Places
 pub mod Placed
@@ -13,7 +12,6 @@ pub mod Swaps
 pub mod Nodes
 pub mod Renames
 pub mod NodeExprs
-pub mod NodeViews
 pub mod Plain
 pub mod View
 pub mod InputPlaces
@@ -22,4 +20,4 @@ pub mod Sums
 pub mod Removed
 pub mod Changed
 pub mod Apart
-pub mod Applications
+pub mod inner

@@ -5,8 +5,8 @@ ghost use Rattle.std.specs.Cmp.Lexicographic.{pointwise};
 ghost use Rattle.aql_meaning.specs.Plain.{IsPlain};
 ghost use Rattle.aql_meaning.specs.Row.{same_ident};
 ghost use Rattle.aql_tree.specs.View.{tree, maybe, step_part, member_part, link_part};
-ghost use Rattle.aql_rewrite.specs.Same as spec;
-ghost use Rattle.aql_rewrite.specs.Same.{op_number, sign_number, kind_number};
+ghost use Rattle.aql_rewrite.specs.inner.Same as spec;
+ghost use Rattle.aql_rewrite.specs.inner.Same.{op_number, sign_number, kind_number};
 
 use aql_func::{BinOp, UnaryOp};
 use aql_tree::{Expr, Field, Ident, Link, QuantKind, Step};

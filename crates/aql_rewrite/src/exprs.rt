@@ -14,8 +14,8 @@ ghost use Rattle.aql_rewrite.specs.NodeExprs.{end_exprs, last_exprs, aggregate_e
 ghost use Rattle.aql_rewrite.specs.NodeExprs.{node_exprs as spec_node_exprs, over_end as spec_over_end};
 ghost use Rattle.aql_rewrite.specs.NodeExprs.{over_exprs};
 ghost use Rattle.aql_rewrite.specs.NodeExprs.{after_end, over_last as spec_over_last, after_last};
-ghost use Rattle.aql_rewrite.specs.NodeViews.{after_each, keys_over, lets_over, aggregates_over};
-ghost use Rattle.aql_rewrite.specs.NodeViews.{after_each_aggregate, into_over};
+ghost use Rattle.aql_rewrite.specs.inner.NodeViews.{after_each, keys_over, lets_over, aggregates_over};
+ghost use Rattle.aql_rewrite.specs.inner.NodeViews.{after_each_aggregate, into_over};
 
 use crate::add_maybe;
 use aql_plan::{Edge, Last, Node, Plan};

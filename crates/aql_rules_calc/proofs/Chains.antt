@@ -15,8 +15,8 @@ use Rattle.aql_rewrite.specs.Constant.{IsConstant}
 use Rattle.aql_rewrite.specs.FirstInExpr.{Stays}
 use Rattle.aql_rewrite.specs.Children.{list_children, link_children, children}
 use Rattle.aql_rewrite.specs.ExprView.{lent}
-use Rattle.aql_rules_calc.specs.Operations.{chain_in, array_in, operation_in, right_sides, left_in}
-use Rattle.aql_rules_calc.specs.Operations.{first_left}
+use Rattle.aql_rules_calc.specs.inner.Operations.{chain_in, array_in, operation_in, right_sides, left_in}
+use Rattle.aql_rules_calc.specs.inner.Operations.{first_left}
 use Rattle.aql_rules_calc.specs.laws.OrWithIn.{listed}
 use Rattle.aql_rules_calc.specs.ReplaceOrWithIn.{is_or_chain, operation, Compares, equal_to, one_of}
 use Rattle.aql_rules_calc.specs.ReplaceOrWithIn.{AllCompare, no_more, compares_then, Replaces, by_in}

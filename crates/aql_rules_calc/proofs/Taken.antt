@@ -7,7 +7,7 @@ use Rattle.aql_tree.specs.declared.syntax.Expr.{Expr}
 use Rattle.aql_tree.specs.Tree.{ExprTree, literal, object_literal, access, name_then}
 use Rattle.aql_tree.specs.View.{tree, steps, StepPart, name, at, inline}
 use Rattle.aql_rewrite.specs.FirstInExpr.{Stays}
-use Rattle.aql_rules_calc.specs.Members.{member_taken}
+use Rattle.aql_rules_calc.specs.inner.Members.{member_taken}
 use Rattle.aql_rules_calc.specs.SimplifyConditions.{IsComputed, constant_value, all_named, last_of}
 use Rattle.aql_rules_calc.specs.SimplifyConditions.{with_steps, Simplifies, to_literal, to_member}
 

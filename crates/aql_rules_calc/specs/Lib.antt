@@ -7,6 +7,5 @@ pub mod Projections
 pub mod Readers
 pub mod laws
 pub mod SimplifyConditions
-pub mod Members
 pub mod ReplaceOrWithIn
-pub mod Operations
+pub mod inner

@@ -12,9 +12,9 @@ ghost use Rattle.aql_rules_calc.specs.SimplifyConditions.{all_named as spec_all_
 ghost use Rattle.aql_rules_calc.specs.SimplifyConditions.{IsComputed, constant_value};
 ghost use Rattle.aql_rules_calc.specs.SimplifyConditions.{with_steps as spec_with_steps};
 ghost use Rattle.aql_rules_calc.specs.SimplifyConditions.{last_of as spec_last_of};
-ghost use Rattle.aql_rules_calc.specs.Members.{access_in as spec_access_in, members_in};
-ghost use Rattle.aql_rules_calc.specs.Members.{name_in};
-ghost use Rattle.aql_rules_calc.specs.Members.{named_in, or_null, member_taken};
+ghost use Rattle.aql_rules_calc.specs.inner.Members.{access_in as spec_access_in, members_in};
+ghost use Rattle.aql_rules_calc.specs.inner.Members.{name_in};
+ghost use Rattle.aql_rules_calc.specs.inner.Members.{named_in, or_null, member_taken};
 
 use aql_expr::{RowView, eval};
 use aql_rewrite::{ExprRule, is_constant};

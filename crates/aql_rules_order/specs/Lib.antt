@@ -6,6 +6,6 @@ pub mod SortLimit
 pub mod Measures
 pub mod Readers
 pub mod StandsFor
-pub mod View
 pub mod Worked
 pub mod laws
+pub mod inner

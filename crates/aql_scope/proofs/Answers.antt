@@ -25,9 +25,9 @@ use Rattle.aql_scope.specs.Numbering.{Numbering, number_of, idents, numbered_var
 use Rattle.aql_scope.specs.Lifting.{NumberedSubquery, expr, exprs, maybe, members, steps, links, criteria, aggregates, into_part, clause, clauses, scope_query, with_lets}
 use Rattle.aql_scope.specs.Prunes.{ExprPrunes, ExprsPrunes, MaybePrunes, MembersPrunes, StepsPrunes, LinksPrunes, AggregatesPrunes, IntoPrunes, ClausePrunes, ClausesPrunes, PrunesPlain}
 use Rattle.aql_scope.specs.laws.PlainTakesNothing.{plain_takes_nothing}
-use Rattle.aql_scope.proofs.Alike.{Alike, AlikeAt, Below, below_more, sees_own}
-use Rattle.aql_scope.proofs.Named.{grown_le, grown_idents, grown_numbers, grown_traversal}
-use Rattle.aql_scope.proofs.Walk.{walked, walked_le, walked_maybe, walked_criteria, walked_aggregates, walked_clause, grown_clause}
+use Rattle.aql_scope.specs.laws.Alike.{Alike, AlikeAt, Below, below_more, sees_own}
+use Rattle.aql_scope.specs.laws.Named.{grown_le, grown_idents, grown_numbers, grown_traversal}
+use Rattle.aql_scope.specs.laws.Walk.{walked, walked_le, walked_maybe, walked_criteria, walked_aggregates, walked_clause, grown_clause}
 use Rattle.aql_scope.proofs.Lists.{zip_join, zip_take, zip_drop}
 use Rattle.aql_scope.proofs.Lets.{Here, Held, here_split, here_later, here_next, rans_fit, through_lets, through_followed}
 use Rattle.aql_scope.proofs.Traversals.{traversal_back}

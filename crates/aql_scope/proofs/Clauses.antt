@@ -16,7 +16,7 @@ use Rattle.aql_scope.specs.Lifting as spec
 use Rattle.aql_scope.specs.Lifting.{Scoped, over, declares}
 use Rattle.aql_scope.specs.declared.numbers.Numbers.{Numbers}
 use Rattle.aql_scope.specs.Lifts.{Progress, progress, Lifts}
-use Rattle.aql_scope.proofs.Turns.{progress_is, Given, over_given}
+use Rattle.aql_scope.specs.laws.Turns.{progress_is, Given, over_given}
 use Rattle.aql_scope.proofs.Declared.{after_declare}
 use Rattle.aql_scope.proofs.Forms.{into_parts}
 

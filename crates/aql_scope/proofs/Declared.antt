@@ -13,7 +13,7 @@ use Rattle.aql_scope.specs.Lifting as spec
 use Rattle.aql_scope.specs.Lifting.{NumberedSubquery, Scoped, ScopedClause, over, declares, with_lets, append_clauses}
 use Rattle.aql_scope.specs.declared.numbers.Numbers.{Numbers}
 use Rattle.aql_scope.specs.Lifts.{Progress, progress, let_of, Lifts, bound}
-use Rattle.aql_scope.proofs.Turns.{progress_is, Given, before, lifts_over}
+use Rattle.aql_scope.specs.laws.Turns.{progress_is, Given, before, lifts_over}
 use Rattle.aql_scope.proofs.Forms.{is_variable, is_subquery}
 
 -- these names were said, and n is the next number

@@ -14,10 +14,10 @@ use Rattle.aql_scope.specs.Lifting as spec
 use Rattle.aql_scope.specs.Lifting.{Scoped, ScopedClause, declares}
 use Rattle.aql_scope.specs.declared.numbers.Numbers.{Numbers}
 use Rattle.aql_scope.specs.Lifts.{Progress, progress}
-use Rattle.aql_scope.proofs.Turns.{Given, Goes, Unvisited, turn_there, from_here}
+use Rattle.aql_scope.specs.laws.Turns.{Given, Goes, Unvisited, turn_there, from_here}
 use Rattle.aql_scope.proofs.Parts.{Criteria, let_then, aggregate_part_then}
 use Rattle.aql_scope.proofs.Declared.{after_declare}
-use Rattle.aql_scope.proofs.Elements.{let_is, aggregate_is}
+use Rattle.aql_scope.specs.laws.Elements.{let_is, aggregate_is}
 
 -- what stands beside the items stays
 pub beside : {A B C : Type 0} (h : A → B) (g : B → C) (items : List A) (i : ℕ) (d y : A)

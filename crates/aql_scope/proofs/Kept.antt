@@ -10,7 +10,7 @@ use Rattle.aql_scope.specs.Lifting.{scope_query}
 use Rattle.aql_scope.proofs.Answers.{scoped_back}
 use Rattle.aql_doc.specs.Held.{Held}
 use Rattle.aql_scope.specs.Faults.{outermost, first_fault}
-use Rattle.aql_scope.proofs.PrunesPlain.{no_fault_plain_prunes}
+use Rattle.aql_scope.specs.laws.PrunesPlain.{no_fault_plain_prunes}
 
 pub answers_stay : (held : List Held) (q t : QueryTree) → first_fault held q ≡ None
     → t ≡ (scope_query [] 1 q).tree

@@ -13,8 +13,8 @@ use Rattle.aql_meaning.specs.Clauses.{with_values}
 use Rattle.aql_meaning.specs.Meaning.{Evaluates, Through, IsAnswer}
 use Rattle.aql_scope.specs.Numbering.{Numbering}
 use Rattle.aql_scope.specs.Lifting.{NumberedSubquery, with_lets, append_clauses}
-use Rattle.aql_scope.proofs.Alike.{Alike, Below, below_more, alike_more, bind_at, bind_self}
-use Rattle.aql_scope.proofs.Walk.{Within, Walked, walked_le}
+use Rattle.aql_scope.specs.laws.Alike.{Alike, Below, below_more, alike_more, bind_at, bind_self}
+use Rattle.aql_scope.specs.laws.Walk.{Within, Walked, walked_le}
 use Rattle.aql_scope.proofs.Lists.{zip_join}
 
 module _ (db : Database) where

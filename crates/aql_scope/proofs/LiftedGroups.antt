@@ -12,9 +12,9 @@ use Rattle.aql_meaning.specs.Groups.{GroupedRow, groups, rows_of_group, aggregat
 use Rattle.aql_meaning.specs.Visible.{aggregate_vars, aggregate_functions, into_var}
 use Rattle.aql_scope.specs.Numbering.{Numbering, enter}
 use Rattle.aql_scope.specs.Lifting.{criteria, aggregates, into_part}
-use Rattle.aql_scope.proofs.Alike.{Alike, Below, below_more, below_bind, alike_bind}
-use Rattle.aql_scope.proofs.Named.{Named, none, next, below_entered}
-use Rattle.aql_scope.proofs.Walk.{named_criteria, named_aggregates, named_into}
+use Rattle.aql_scope.specs.laws.Alike.{Alike, Below, below_more, below_bind, alike_bind}
+use Rattle.aql_scope.specs.laws.Named.{Named, none, next, below_entered}
+use Rattle.aql_scope.specs.laws.Walk.{named_criteria, named_aggregates, named_into}
 use Rattle.aql_scope.proofs.Lists.{zip_found}
 
 -- both take the same values; missing ones are null

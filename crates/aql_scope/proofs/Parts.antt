@@ -4,7 +4,7 @@ use Rattle.aql_tree.specs.declared.syntax.Ident.{Ident}
 use Rattle.aql_tree.specs.Tree.{ExprTree, ExprTrees, no_exprs, expr_then, no_members, named_then, computed_then, no_steps, name_then, at_then, inline_then, LinkTrees, no_links, link_then, AggregateTrees, no_aggregates, aggregate_then, ClauseTree, no_clauses, clause_then}
 use Rattle.aql_tree.specs.View.{trees, maybe, MemberPart, named, computed, members, StepPart, name, at, inline, steps, LinkPart, links, KeyPart, LetPart, AggregatePart, aggregates, clauses}
 use Rattle.aql_scope.specs.Lifts.{member_then, step_then}
-use Rattle.aql_scope.proofs.Turns.{before}
+use Rattle.aql_scope.specs.laws.Turns.{before}
 
 pub before_trees : (es : List ExprTree) → before expr_then es no_exprs ≡ trees es
 before_trees [] = refl

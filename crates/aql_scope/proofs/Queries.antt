@@ -8,7 +8,7 @@ use Rattle.aql_scope.specs.Numbering.{Numbering}
 use Rattle.aql_scope.specs.Lifting as spec
 use Rattle.aql_scope.specs.Lifting.{NumberedSubquery, Scoped, ScopedClause, ScopedClauses, with_lets, append_clauses}
 use Rattle.aql_scope.specs.Lifts.{Progress, let_of}
-use Rattle.aql_scope.proofs.Turns.{Given, before, from_here}
+use Rattle.aql_scope.specs.laws.Turns.{Given, before, from_here}
 use Rattle.aql_scope.proofs.Parts.{before_clauses}
 use Rattle.aql_scope.proofs.Declared.{before_append, before_lets_of, clauses_lets}
 

@@ -16,7 +16,7 @@ use Rattle.aql_meaning.specs.Visible.{sees, collection_meant}
 use Rattle.aql_meaning.specs.laws.Shuffles.{alike_permutation}
 use Rattle.aql_meaning.specs.laws.RowByRow.{each_related, each_own_related}
 use Rattle.aql_scope.specs.Numbering.{Numbering}
-use Rattle.aql_scope.proofs.Alike.{Alike, Below, alike_bind}
+use Rattle.aql_scope.specs.laws.Alike.{Alike, Below, alike_bind}
 use Rattle.aql_scope.proofs.Lists.{sorted_alike, zip_pairs, zip_seconds}
 
 module _ (names : Numbering) where

@@ -15,8 +15,8 @@ use Rattle.aql_meaning.specs.Paths.{Path, TraversesBy, TraversesFrom, Traverses,
 use Rattle.aql_meaning.specs.laws.Shuffles.{alike_permutation}
 use Rattle.aql_meaning.specs.laws.RowByRow.{each_related}
 use Rattle.aql_scope.specs.Numbering.{Numbering, number_traversal, traversal_names, maybe_number, number_after, enter}
-use Rattle.aql_scope.proofs.Alike.{Alike, Below, below_bind, alike_bind}
-use Rattle.aql_scope.proofs.Named.{named_given, below_entered}
+use Rattle.aql_scope.specs.laws.Alike.{Alike, Below, below_bind, alike_bind}
+use Rattle.aql_scope.specs.laws.Named.{named_given, below_entered}
 use Rattle.aql_scope.proofs.Lists.{zip_join, zip_starts}
 
 same_traversal_by : (n : ℕ) (w : TraversalShape) (es : List Datum) (pruned : Path → Bool) (id : List ℕ)

@@ -3,7 +3,7 @@ use Rattle.std.proofs.Common.{sym, ◌≡◌, ◌≤◌, ◌<◌, ℕ, List, tru
 use Rattle.std.specs.Prelude.{Result, ⊤, IfOk, IfErr, OnErr}
 use Rattle.std.specs.Io.KnownBytes.{Consumes, IsAtEnd}
 use Rattle.aql_io.specs.Bytes.{HandsOut}
-use Rattle.aql_script.specs.Meets.{Meets}
+use Rattle.aql_script.specs.inner.Meets.{Meets}
 use Rattle.aql_script.proofs.OfBytes.{fault_of_lines}
 use Rattle.aql_script.specs.Script.{lines, script, Loads, Hinders, IsFaulty}
 use Rattle.aql_script.specs.declared.loading.Loaded.{Loaded}

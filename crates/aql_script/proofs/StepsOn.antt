@@ -13,7 +13,7 @@ use Rattle.aql_doc.specs.declared.faults.CatalogFault.TheVariants.{Memory as Cat
 use Rattle.aql_doc.specs.declared.faults.DocFault.{DocFault}
 use Rattle.aql_doc.specs.declared.faults.DocFault.TheVariants.{Memory as DocMemory}
 use Rattle.aql_script.specs.Lines.{LineEffect, next, fault}
-use Rattle.aql_script.specs.Meets.{Refuses}
+use Rattle.aql_script.specs.inner.Meets.{Refuses}
 use Rattle.aql_script.specs.LineEffects.{declaration, declare_effect, declare_fault, index, index_at, index_effect, index_fault, document, with_value, document_effect, doc_fault, json_fault, shards_of, keys_of}
 use Rattle.aql_script.specs.declared.options.Options.{Options}
 use Rattle.aql_script.specs.declared.faults.LoadFault.{LoadFault}

@@ -3,7 +3,7 @@
 ghost use Rattle.std.specs.Prelude.{◌≡◌, ◌≤◌, length, IfOk, IfErr, OnOk, MatchResult};
 ghost use Rattle.std.specs.Bool.{MatchBool};
 ghost use Rattle.aql_script.specs.Lines.{next, query};
-ghost use Rattle.aql_script.specs.Meets.{Refuses};
+ghost use Rattle.aql_script.specs.inner.Meets.{Refuses};
 ghost use Rattle.aql_script.specs.LineEffects.{line_effect, directive_effect, declaration, index, document};
 ghost use Rattle.aql_script.specs.LineEffects.{keys_of, shards_of, declare_fault, index_fault, doc_fault, json_fault};
 ghost use Rattle.aql_script.specs.declared.faults.LoadFault.TheVariants.{Line};

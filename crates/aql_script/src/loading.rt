@@ -1,7 +1,7 @@
 ghost use Rattle.std.specs.Prelude.{◌≡◌, ◌≢◌, ◌≤◌, ◌<◌, ⊤, ℕ, List, length, Err, IfOk, IfErr, OnErr};
 ghost use Rattle.std.specs.Str.Lines.{strip_carriage_return};
 ghost use Rattle.aql_script.specs.Lines.{last, with_query};
-ghost use Rattle.aql_script.specs.Meets.{Meets};
+ghost use Rattle.aql_script.specs.inner.Meets.{Meets};
 ghost use Rattle.aql_script.specs.Script.{lines, Loads, Hinders, HasFault, IsOfBytes};
 ghost use Rattle.aql_io.specs.Bytes.{HandsOut};
 ghost use Rattle.aql_script.specs.LineEffects.{line_effect};

@@ -10,7 +10,7 @@ use Rattle.aql_meaning.specs.Lifted.{IsLifted}
 use Rattle.aql_doc.specs.Held.{Held, database}
 use Rattle.aql_doc.specs.Limits.{IsWithinLimits}
 use Rattle.aql_script.specs.declared.loading.Loaded.{Loaded}
-use Rattle.aql_scope.proofs.Walk.{scoped_is_lifted}
+use Rattle.aql_scope.specs.laws.Walk.{scoped_is_lifted}
 use Rattle.aql_plan.specs.declared.facts.Facts.{Facts}
 use Rattle.aql_plan.specs.declared.plan.Plan.{Plan}
 use Rattle.aql_plan.specs.declared.rules.RuleName.{RuleName}
@@ -21,7 +21,7 @@ use Rattle.aql_plan.specs.FirstPlan.{first_plan}
 use Rattle.aql_plan.specs.Refines.{dataset, Refines, Answers as PlanAnswers}
 use Rattle.aql_plan.specs.Runs.{Dataset}
 use Rattle.aql_plan.specs.WellFormed.{IsWellFormed}
-use Rattle.aql_plan_laws.proofs.FirstAnswers.{first_answers}
+use Rattle.aql_plan_laws.specs.laws.FirstAnswers.{first_answers}
 use Rattle.aql_engine.specs.Runnable.{HasExecutors}
 use Rattle.aql_shard.specs.Holding.{Holding}
 use Rattle.aql_shard.specs.Datasets.{stock, nothing_counted}

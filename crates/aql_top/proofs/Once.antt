@@ -6,7 +6,7 @@ use Rattle.aql_value.specs.Database.{Database}
 use Rattle.aql_lex.specs.declared.kinds.Token.{Token}
 use Rattle.aql_lex.specs.declared.faults.LexKind.{LexKind}
 use Rattle.aql_lex.specs.Reading.{Lexes, Stops}
-use Rattle.aql_lex.proofs.Readings.{one_reading}
+use Rattle.aql_lex.specs.laws.Readings.{one_reading}
 use Rattle.aql_tree.specs.Tree.{QueryTree}
 use Rattle.aql_parse.specs.Within.{traversals_within}
 use Rattle.aql_grammar.specs.Kinds.{Tokens, kinds_of}

@@ -17,7 +17,7 @@ use Rattle.aql_value.specs.Datum.{Datum, null, boolean, number, text, array, obj
 use Rattle.aql_value.specs.FromJson.{from_json, members_from_json}
 use Rattle.aql_value.specs.Attributes.{with_attribute}
 use Rattle.aql_value.specs.JsonLine.{json_line}
-use Rattle.aql_value.specs.Tokens.{ValueStands, ItemsStand, levels, ReadsValue, ReadsItems, ReadsMembers}
+use Rattle.aql_value.specs.inner.Tokens.{ValueStands, ItemsStand, levels, ReadsValue, ReadsItems, ReadsMembers}
 use Rattle.aql_value.specs.laws.Ranks.{same_bytes}
 use Rattle.aql_value.proofs.JsonLines.{read_whole}
 use Rattle.aql_value.proofs.Turns.{trees_before, trees_all, trees_last}

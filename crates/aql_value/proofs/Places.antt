@@ -8,12 +8,12 @@ use Rattle.std.specs.List.Sorted.{IsBinarySearchResult, IsSearchInRange, IsNonDe
 use Rattle.std.proofs.lemmas.Cmp.{nat_list_cmp_total}
 use Rattle.aql_value.specs.laws.Ranks.{same_bytes, above_bytes}
 use Rattle.aql_value.specs.Order.{BytesBelow}
-use Rattle.aql_value.specs.NameSearch.{EachBelow, StartsAbove, IsSearchResult}
+use Rattle.aql_value.specs.inner.NameSearch.{EachBelow, StartsAbove, IsSearchResult}
 use Rattle.aql_value.specs.Fields.{fields_in}
 use Rattle.aql_value.specs.Datum.{object_of}
 use Rattle.aql_value.specs.WellFormed.{FieldsWellFormed, IsBelowNames}
 use Rattle.aql_value.specs.declared.values.Member.{Member}
-use Rattle.aql_value.proofs.Kept.{above, starts_at, length-fields_in}
+use Rattle.aql_value.specs.laws.Kept.{above, starts_at, length-fields_in}
 
 abbrev Ascend : List Member → Type 0
 Ascend es = FieldsWellFormed (object_of (fields_in es))

@@ -7,7 +7,7 @@ use Rattle.aql_value.specs.Fields.{fields_in}
 use Rattle.aql_value.specs.Json.{items_text, fields_text}
 use Rattle.aql_value.specs.declared.values.Value.{Value}
 use Rattle.aql_value.specs.declared.values.Member.{Member}
-use Rattle.aql_value.specs.Writes.{Extends, Writes}
+use Rattle.aql_value.specs.inner.Writes.{Extends, Writes}
 
 pub longer : (a b c : List ℕ) → Extends a b → Extends b c → Extends a c
 longer a b c (r, p) (s, q) = (r ++ s, q ∙ ap (λ x. x ++ s) p ∙ append_assoc a r s)

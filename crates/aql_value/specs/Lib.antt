@@ -8,12 +8,9 @@ pub mod Compare
 pub mod TotalOrder
 pub mod WellFormed
 pub mod Attributes
-pub mod NameSearch
 pub mod Json
-pub mod Writes
 pub mod FromJson
 pub mod JsonLine
-pub mod Tokens
 pub mod HashInput
 pub mod RoundTrip
 pub mod Contents
@@ -23,3 +20,4 @@ pub mod Lends
 pub mod Shards
 pub mod laws
 pub mod formers
+pub mod inner

@@ -4,3 +4,4 @@ pub mod Ranks
 pub mod Strict
 pub mod Ranges
 pub mod Lists
+pub mod Kept

@@ -5,7 +5,7 @@ ghost use Rattle.aql_value.specs.Datum.{object_of};
 ghost use Rattle.aql_value.specs.View.{datum_of};
 ghost use Rattle.aql_value.specs.Attributes.{with_attribute, attribute};
 ghost use Rattle.aql_value.specs.Fields.{fields_in};
-ghost use Rattle.aql_value.specs.NameSearch.{IsSearchResult};
+ghost use Rattle.aql_value.specs.inner.NameSearch.{IsSearchResult};
 ghost use Rattle.aql_value.specs.WellFormed.{FieldsWellFormed};
 
 use crate::texts::recall_utf8;

@@ -3,7 +3,7 @@ ghost use Rattle.std.specs.Prelude.{◌≡◌, ◌<◌, length, option_and_then,
 ghost use Rattle.serde_json.specs.Find.{as_i64};
 ghost use Rattle.serde_json.specs.Read.{number_of, number_from};
 ghost use Rattle.aql_value.specs.JsonLine.{json_line};
-ghost use Rattle.aql_value.specs.Tokens.{ReadsValue, ReadsItems, ReadsMembers};
+ghost use Rattle.aql_value.specs.inner.Tokens.{ReadsValue, ReadsItems, ReadsMembers};
 ghost use Rattle.aql_value.specs.View.{datum_of};
 
 use crate::{Items, Members, Text, Value};

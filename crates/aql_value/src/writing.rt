@@ -5,7 +5,7 @@ ghost use Rattle.json.specs.Print.{quoted, escape_byte};
 ghost use Rattle.aql_value.specs.Datum.{array, object, array_of, object_of};
 ghost use Rattle.aql_value.specs.View.{datum_of};
 ghost use Rattle.aql_value.specs.Json.{json_text, comma_if};
-ghost use Rattle.aql_value.specs.Writes.{Writes, member_text};
+ghost use Rattle.aql_value.specs.inner.Writes.{Writes, member_text};
 
 use crate::values::Member;
 use crate::{Items, Members, OutOfMemory, Text, Value};

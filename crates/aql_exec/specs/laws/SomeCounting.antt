@@ -18,7 +18,7 @@ use Rattle.aql_meaning.specs.laws.SomeAnswer.{some_traversal}
 use Rattle.aql_plan.specs.Facts.{attributes_in}
 use Rattle.aql_plan.specs.Plan.{Reading, Node, EnumerateCollection, Index, Traversal, Filter}
 use Rattle.aql_plan.specs.Runs.{Dataset, Outside, Indexed, read, read_in_bounds, edges_in}
-use Rattle.aql_plan.proofs.SomeRun.{some_given}
+use Rattle.aql_plan.specs.laws.SomeRun.{some_given}
 use Rattle.aql_exec.specs.Rests.{Counts}
 use Rattle.aql_exec.specs.Counting.{counts, nothing, size_of_all, traversal_counts, GivesCounting}
 

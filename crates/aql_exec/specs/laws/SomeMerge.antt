@@ -7,7 +7,7 @@ use Rattle.aql_meaning.specs.Row.{Row}
 use Rattle.aql_meaning.specs.AtRows.{row_before, keys_of}
 use Rattle.aql_meaning.specs.Merges.{NotBefore, Merged}
 use Rattle.aql_meaning.specs.laws.SomeOrder.{keyed_order}
-use Rattle.aql_plan.proofs.SomeMerge.{some_merged}
+use Rattle.aql_plan.specs.laws.SomeMerge.{some_merged}
 use Rattle.aql_exec.specs.Operators.{MergedOf}
 
 -- the first so many lists of a family

@@ -11,14 +11,14 @@ use Rattle.aql_value.specs.Convert.{in_range, number_or_null, to_number}
 use Rattle.aql_value.specs.View.{datums_in}
 use Rattle.aql_func.specs.Lists.{firsts, add, sort_values}
 use Rattle.aql_func.specs.Aggregates.{Aggregate, count, sum, min, max, sorted_unique, count_distinct, aggregate, count_of, sum_of, exact_sum, is_null, is_bad, best, lesser, greater}
-use Rattle.aql_func.proofs.Firsts.{firsts_push}
-use Rattle.aql_func.proofs.Sums.{sum_push, bad_push}
+use Rattle.aql_func.specs.laws.Firsts.{firsts_push}
+use Rattle.aql_func.specs.laws.Sums.{sum_push, bad_push}
 use Rattle.aql_aggregate.specs.declared.accumulator.Accumulator.{Accumulator}
 use Rattle.aql_aggregate.specs.declared.accumulator.Accumulator.TheVariants as code
 use Rattle.aql_aggregate.specs.declared.summing.RunningSum.{RunningSum}
 use Rattle.aql_aggregate.specs.States.{Counts, Sums, Keeps, better_if}
-use Rattle.aql_aggregate.proofs.Best.{least_more, greatest_more}
-use Rattle.aql_aggregate.proofs.Totals.{numbers_alone}
+use Rattle.aql_aggregate.specs.laws.Best.{least_more, greatest_more}
+use Rattle.aql_aggregate.specs.laws.Totals.{numbers_alone}
 
 -- what grows by one member at a time is the same of two lists, where it was the same before
 module _ {X : Type 0} (f : List Datum → X) (g : X → Datum → X)

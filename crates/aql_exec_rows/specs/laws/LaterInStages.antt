@@ -16,9 +16,9 @@ use Rattle.aql_meaning.specs.declared.grouping.Stage.TheVariants as stage
 use Rattle.aql_aggregate.specs.declared.accumulator.Accumulator.{Accumulator}
 use Rattle.aql_aggregate.specs.declared.accumulator.Accumulator.TheVariants as members
 use Rattle.aql_aggregate.specs.States.{Sums, Keeps}
-use Rattle.aql_aggregate.proofs.Counts.{total, total_append}
-use Rattle.aql_aggregate.proofs.Totals.{any_append}
-use Rattle.aql_aggregate.proofs.Members.{distinct_alike, in_distinct}
+use Rattle.aql_aggregate.specs.laws.Counts.{total, total_append}
+use Rattle.aql_aggregate.specs.laws.Totals.{any_append}
+use Rattle.aql_aggregate.specs.laws.Members.{distinct_alike, in_distinct}
 use Rattle.aql_aggregate.specs.declared.staged_accumulator.PartialAccumulator.{PartialAccumulator}
 use Rattle.aql_aggregate.specs.declared.staged_accumulator.PartialAccumulator.TheVariants as part
 use Rattle.aql_aggregate.specs.declared.summing.RunningSum.{RunningSum}
@@ -31,9 +31,9 @@ use Rattle.aql_aggregate.specs.declared.staged.StagedAccumulator.TheVariants as 
 use Rattle.aql_aggregate.specs.PartialStates as parts
 use Rattle.aql_aggregate.specs.Joined.{CountsJoin, SumsJoin, Joins}
 use Rattle.aql_aggregate.specs.Staged.{Staged, made_in, made, KeepsAt, KeepsIn}
-use Rattle.aql_aggregate.proofs.Alike.{same_option, same_distinct}
-use Rattle.aql_aggregate.proofs.Sums.{numbers_append}
-use Rattle.aql_aggregate.proofs.AnyStates.{by_parts}
+use Rattle.aql_aggregate.specs.laws.Alike.{same_option, same_distinct}
+use Rattle.aql_aggregate.specs.laws.Sums.{numbers_append}
+use Rattle.aql_aggregate.specs.laws.AnyStates.{by_parts}
 use Rattle.aql_exec_rows.specs.laws.Later.{Alike, alike, lost, same_count, same_least, same_greatest, same_later}
 
 -- ---- what one accumulator keeps of two lists is the same

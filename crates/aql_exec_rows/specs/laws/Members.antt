@@ -8,7 +8,7 @@ use Rattle.aql_value.specs.Datum.{Datum, null}
 use Rattle.aql_value.specs.Contents.{list, same, is_in}
 use Rattle.aql_value.specs.laws.Strict.{compare_total}
 use Rattle.aql_func.specs.Aggregates.{Aggregate, aggregate_named}
-use Rattle.aql_func.proofs.Firsts.{in_firsts}
+use Rattle.aql_func.specs.laws.Firsts.{in_firsts}
 use Rattle.aql_tree.specs.declared.syntax.Let.{Let}
 use Rattle.aql_tree.specs.View.{AggregatePart, aggregates, aggregate_part}
 use Rattle.aql_meaning.specs.declared.grouping.Stage.{Stage}

@@ -11,7 +11,7 @@ use Rattle.aql_value.specs.Contents.{list, elements, same, is_in}
 use Rattle.aql_value.specs.View.{datums_in}
 use Rattle.aql_func.specs.Arguments.{argument}
 use Rattle.aql_func.specs.Lists.{firsts, sort_values}
-use Rattle.aql_func.proofs.Firsts.{same_is}
+use Rattle.aql_func.specs.laws.Firsts.{same_is}
 use Rattle.aql_tree.specs.declared.syntax.Let.{Let}
 use Rattle.aql_tree.specs.declared.syntax.Into.{Into}
 use Rattle.aql_tree.specs.View.{into_part}

@@ -6,7 +6,7 @@ use Rattle.aql_value.specs.Datum.{Datum}
 use Rattle.aql_tree.specs.declared.syntax.Direction.{Direction}
 use Rattle.aql_tree.specs.declared.syntax.Direction.TheVariants.{Outbound, Inbound, Any}
 use Rattle.aql_meaning.specs.Paths.{EdgeStep, steps_from, leaves, enters, along, against}
-use Rattle.aql_local.specs.EdgeSteps.{steps_by}
+use Rattle.aql_local.specs.inner.EdgeSteps.{steps_by}
 
 -- ---- one way
 

@@ -11,12 +11,12 @@ use Rattle.aql_plan.specs.Shapes.{HasNoFragment}
 use Rattle.aql_rewrite.specs.declared.swap.Rename.{Rename}
 use Rattle.aql_rewrite.specs.Places.{renamed_by, Rewriting, Stays, NoPlace, First, below, here, body}
 use Rattle.aql_rewrite.specs.laws.Walk.{none_at, none_over, found_here}
-use Rattle.aql_rewrite.specs.Applications.{Applications, at_once, next, Application}
+use Rattle.aql_rewrite.specs.inner.Applications.{Applications, at_once, next, Application}
 use Rattle.aql_rewrite.specs.laws.StepByStep.{joined}
 use Rattle.aql_rewrite.specs.Apart.{has_body}
 use Rattle.aql_rewrite.specs.laws.Taken.{Taken, Bodied}
 use Rattle.aql_rewrite.specs.Changed.{Changes}
-use Rattle.aql_passes.specs.Finished.{Finishes}
+use Rattle.aql_passes.specs.inner.Finished.{Finishes}
 use Rattle.aql_passes.specs.laws.Finishing.{first_nameless, input_reached, input_ended, stayed_finishes}
 
 pub no_body : (n : Node) → has_body n ≡ false → body_in n ≡ None

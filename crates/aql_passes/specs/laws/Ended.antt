@@ -9,8 +9,8 @@ use Rattle.aql_rewrite.specs.Size.{size}
 use Rattle.aql_rewrite.specs.ExprView.{each_over}
 use Rattle.aql_rewrite.specs.laws.FirstKept.{first_in_smaller}
 use Rattle.aql_rewrite.specs.laws.PartsBack.{parts_back}
-use Rattle.aql_rewrite.specs.Applications.{Applications, at_once, next}
-use Rattle.aql_passes.specs.Ends.{Ends, AllEnd}
+use Rattle.aql_rewrite.specs.inner.Applications.{Applications, at_once, next}
+use Rattle.aql_passes.specs.inner.Ends.{Ends, AllEnd}
 use Rattle.aql_passes.specs.laws.PartsAgain.{longer, parts_own, parts_again}
 use Rattle.aql_rewrite.specs.laws.StepByStep.{keeps_on, joined, along}
 

@@ -13,12 +13,12 @@ use Rattle.aql_rewrite.specs.Places.{renamed_by, Rewriting, Stays, NoPlace, NoPl
 use Rattle.aql_rewrite.specs.InputPlaces.{NoPlaceBelow, NoPlaceHere, FirstHere}
 use Rattle.aql_rewrite.specs.laws.Standing.{outside}
 use Rattle.aql_rewrite.specs.laws.Walk.{none_over}
-use Rattle.aql_rewrite.specs.Applications.{Applications, at_once, next, Application}
+use Rattle.aql_rewrite.specs.inner.Applications.{Applications, at_once, next, Application}
 use Rattle.aql_rewrite.specs.laws.StepByStep.{joined, along}
 use Rattle.aql_rewrite.specs.Apart.{is_start}
 use Rattle.aql_rewrite.specs.laws.Taken.{Taken}
 use Rattle.aql_rewrite.specs.Sums.{total}
-use Rattle.aql_passes.specs.Finished.{Finishes}
+use Rattle.aql_passes.specs.inner.Finished.{Finishes}
 
 -- how many nodes there are, and what they count
 abbrev pub work : (Node → ℕ) → Plan → ℕ

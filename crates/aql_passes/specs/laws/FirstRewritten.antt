@@ -13,12 +13,12 @@ use Rattle.aql_rewrite.specs.Apart.{is_start, has_body}
 use Rattle.aql_rewrite.specs.Changed.{IsChanged}
 use Rattle.aql_rewrite.specs.Placed.{IsPlaced}
 use Rattle.aql_rewrite.specs.Places.{Rewriting, Stays, NoPlace, First, below}
-use Rattle.aql_rewrite.specs.Applications.{at_once}
+use Rattle.aql_rewrite.specs.inner.Applications.{at_once}
 use Rattle.aql_rewrite.specs.InputPlaces.{NoPlaceBelow}
 use Rattle.aql_rewrite.specs.laws.Standing.{outside}
 use Rattle.aql_rewrite.specs.laws.Taken.{Taken}
 use Rattle.aql_rewrite.specs.laws.Walk.{found_here, found_inside, none_at, none_with, none_over}
-use Rattle.aql_passes.specs.Finished.{Finishes, IsRewritten, IsRewrittenHere}
+use Rattle.aql_passes.specs.inner.Finished.{Finishes, IsRewritten, IsRewrittenHere}
 use Rattle.aql_passes.specs.laws.Changing.{no_body}
 use Rattle.aql_passes.specs.laws.Finishing.{over_top, input_ended, first_seen, no_place_seen}
 

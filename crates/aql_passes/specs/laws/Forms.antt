@@ -10,10 +10,10 @@ use Rattle.aql_plan.specs.Shapes.{HasNoFragment}
 use Rattle.aql_rewrite.specs.declared.swap.Rename.{Rename}
 use Rattle.aql_rewrite.specs.Places.{Rewriting, First}
 use Rattle.aql_rewrite.specs.Apart.{is_start, has_body}
-use Rattle.aql_rewrite.specs.Applications.{at_once}
+use Rattle.aql_rewrite.specs.inner.Applications.{at_once}
 use Rattle.aql_rewrite.specs.laws.Taken.{Taken, taken, Bodied, lone_input}
 use Rattle.aql_rewrite.specs.Exchanged.{goes_below, Swaps}
-use Rattle.aql_passes.specs.Settled.{Settled, Settles}
+use Rattle.aql_passes.specs.inner.Settled.{Settled, Settles}
 use Rattle.aql_passes.specs.laws.Settling.{over_settled, stayed, sunk, body_settled}
 
 pub taken_where : (swaps : Node → Node → Bool) (n : Node) (p m b : Plan) → goes_below swaps p n ≡ true

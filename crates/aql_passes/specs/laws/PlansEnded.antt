@@ -14,8 +14,8 @@ use Rattle.aql_rewrite.specs.FirstInExpr.{none_left, FirstOf}
 use Rattle.aql_rewrite.specs.NodeExprs.{node_exprs, over_exprs}
 use Rattle.aql_rewrite.specs.Places.{Stays, NoPlace, NoPlaceAt, First, below, here, body}
 use Rattle.aql_passes.specs.AtExprs.{AtExprs}
-use Rattle.aql_rewrite.specs.Applications.{Applications, at_once, next, Application}
-use Rattle.aql_passes.specs.Ends.{AllEnd, ExprsEnd, PlanEnds}
+use Rattle.aql_rewrite.specs.inner.Applications.{Applications, at_once, next, Application}
+use Rattle.aql_passes.specs.inner.Ends.{AllEnd, ExprsEnd, PlanEnds}
 use Rattle.aql_passes.specs.laws.Ended.{as_many, each_new, first_longer}
 use Rattle.aql_passes.specs.laws.ExprsAgain.{exprs_own, exprs_again}
 use Rattle.aql_passes.specs.laws.ExprsBack.{exprs_back}

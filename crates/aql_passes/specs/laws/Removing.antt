@@ -24,7 +24,7 @@ use Rattle.aql_rewrite.specs.Apart.{is_start, has_body}
 use Rattle.aql_rewrite.specs.laws.Taken.{Taken}
 use Rattle.aql_rewrite.specs.laws.PassSteps.{Sound}
 use Rattle.aql_rewrite.specs.Removed.{TakesAway}
-use Rattle.aql_passes.specs.Removed.{Way, at_once, next, Removes, NoPlaceUnder}
+use Rattle.aql_passes.specs.inner.Removed.{Way, at_once, next, Removes, NoPlaceUnder}
 use Rattle.aql_passes.specs.laws.Finishing.{no_place_seen, first_seen}
 use Rattle.aql_passes.specs.laws.StaysPlaced.{placed_kept}
 

@@ -12,11 +12,11 @@ use Rattle.aql_plan.specs.Shapes.{HasNoFragment, IsNoFragment}
 use Rattle.aql_rewrite.specs.declared.swap.Rename.{Rename}
 use Rattle.aql_rewrite.specs.Places.{Rewriting, Stays, NoPlace, NoPlaceAt, First, below, here, body}
 use Rattle.aql_rewrite.specs.laws.Standing.{outside}
-use Rattle.aql_rewrite.specs.Applications.{Applications, at_once, next, Application}
+use Rattle.aql_rewrite.specs.inner.Applications.{Applications, at_once, next, Application}
 use Rattle.aql_rewrite.specs.laws.StepByStep.{joined, along}
 use Rattle.aql_rewrite.specs.Apart.{has_body}
 use Rattle.aql_rewrite.specs.Exchanged.{goes_below, Swaps}
-use Rattle.aql_passes.specs.Settled.{Settled, SettledIn, Settles}
+use Rattle.aql_passes.specs.inner.Settled.{Settled, SettledIn, Settles}
 
 module _ (R : Rewriting) (swaps : Node → Node → Bool) where
   abbrev Way : Uses → Plan → Plan → Bool → Bool → Type 0

@@ -19,7 +19,7 @@ use Rattle.aql_rewrite.specs.laws.Among.{has, has_front, has_back, has_either, b
 use Rattle.aql_rewrite.specs.laws.Standing.{outside}
 use Rattle.aql_rewrite.specs.laws.Walk.{placed_below}
 use Rattle.aql_rewrite.specs.laws.Steps.{Refining, Keeping, part_kept}
-use Rattle.aql_rewrite.specs.Applications.{Applications, at_once, next, Application}
+use Rattle.aql_rewrite.specs.inner.Applications.{Applications, at_once, next, Application}
 
 used_kept : (us : Uses) (away xs ys : List Ident) → KeepsVariables None us xs ys
     → are_among us (away ++ xs) ≡ true

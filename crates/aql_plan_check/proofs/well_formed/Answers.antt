@@ -7,7 +7,7 @@ use Rattle.aql_plan.specs.declared.facts.CollFact.{CollFact}
 use Rattle.aql_plan.specs.Variables.{FindsAll, are_distinct}
 use Rattle.aql_plan.specs.View.{plan_tree}
 use Rattle.aql_plan.specs.WellFormed.{CollectionFits}
-use Rattle.aql_plan_check.specs.Rows.{variables}
+use Rattle.aql_plan_check.specs.inner.Rows.{variables}
 use Rattle.aql_plan_check.proofs.Numbered.{result_numbered}
 use Rattle.aql_plan_check.proofs.Whole.{whole, not_distinct}
 use Rattle.aql_plan_check.proofs.well_formed.Goals as goal

@@ -10,7 +10,7 @@ use Rattle.aql_rewrite.specs.Placed.{IsWhole}
 use Rattle.aql_rewrite.specs.Places.{Rewriting, First, NoPlace, Reaches, at_once as reached_at_once, next as then_next, IsPass}
 use Rattle.aql_rewrite.specs.Swaps.{SetsNoMore}
 use Rattle.aql_rewrite.specs.laws.Steps.{Refining, Keeping, IsStep, some_step, refines_through_answers, sets_self, sets_through}
-use Rattle.aql_rewrite.specs.Applications.{Applications, at_once, next}
+use Rattle.aql_rewrite.specs.inner.Applications.{Applications, at_once, next}
 
 module _ (R : Rewriting) where
   -- one application that renames nothing, in a plan without fragments

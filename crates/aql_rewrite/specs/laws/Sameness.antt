@@ -34,8 +34,8 @@ use Rattle.aql_tree.specs.View.{trees, members, steps, links, maybe, MemberPart,
 use Rattle.aql_tree.specs.View.{StepPart, name, at, inline, LinkPart}
 use Rattle.aql_meaning.specs.Row.{same_ident}
 use Rattle.aql_meaning.specs.Plain.{IsPlain, AllPlain, MaybePlain, MembersPlain, StepsPlain, LinksPlain}
-use Rattle.aql_rewrite.specs.Same.{op_number, sign_number, kind_number, same_expr, same_list, same_maybe}
-use Rattle.aql_rewrite.specs.Same.{same_members, same_steps, same_links, same_member, same_step, same_link}
+use Rattle.aql_rewrite.specs.inner.Same.{op_number, sign_number, kind_number, same_expr, same_list, same_maybe}
+use Rattle.aql_rewrite.specs.inner.Same.{same_members, same_steps, same_links, same_member, same_step, same_link}
 
 -- ---- literals, variables, names and operators
 

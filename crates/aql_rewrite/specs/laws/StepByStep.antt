@@ -1,6 +1,6 @@
 -- Steps one after another.
 use Rattle.std.proofs.Common.{Bool}
-use Rattle.aql_rewrite.specs.Applications.{Applications, at_once, next}
+use Rattle.aql_rewrite.specs.inner.Applications.{Applications, at_once, next}
 
 module _ (A : Type 0) (S : A → A → Type 0) where
   -- what holds at first, and stays at each step, holds at the end

@@ -18,7 +18,7 @@ use Rattle.aql_plan.specs.Runs.{Outside, Runs, result_of}
 use Rattle.aql_plan.specs.Shapes.{calculated, with_subquery as subquery_shaped, plain_rows, lowest, other_reading, passing, KeepsShape}
 use Rattle.aql_plan.specs.Variables.{vars_of, vars_set, count}
 use Rattle.aql_plan_laws.specs.laws.Among.{count_append}
-use Rattle.aql_plan.proofs.SomeRun.{some_run}
+use Rattle.aql_plan.specs.laws.SomeRun.{some_run}
 use Rattle.aql_rewrite.specs.declared.swap.Rename.{Rename}
 use Rattle.aql_rewrite.specs.Places.{Stays, First}
 use Rattle.aql_rewrite.specs.Placed.{IsWhole, Placed}

@@ -18,7 +18,7 @@ use Rattle.aql_meaning.specs.Row.{Row, bind, bind_maybe}
 use Rattle.aql_meaning.specs.Uses.{uses}
 use Rattle.aql_meaning.specs.laws.SomeAnswer.{some_traversal}
 use Rattle.aql_meaning.specs.laws.SomeOrder.{keyed_order}
-use Rattle.aql_plan.proofs.SomeRun.{some_run}
+use Rattle.aql_plan.specs.laws.SomeRun.{some_run}
 use Rattle.aql_plan.specs.Needs.{sets}
 use Rattle.aql_plan.specs.Plan.{Node, EnumerateCollection, EnumerateList, Traversal, Calculation, Subquery, Sort}
 use Rattle.aql_plan.specs.Runs.{Dataset, Outside, read, edges_in, result_of, Runs, Gives}

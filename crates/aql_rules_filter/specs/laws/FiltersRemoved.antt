@@ -15,7 +15,7 @@ use Rattle.aql_plan.specs.Runs.{Outside}
 use Rattle.aql_plan.specs.Refines.{dataset}
 use Rattle.aql_plan.specs.Shapes.{Shape, Shaped, plain_rows}
 use Rattle.aql_plan_laws.specs.laws.Agreement.{rows_agree}
-use Rattle.aql_plan.proofs.SomeRun.{some_run}
+use Rattle.aql_plan.specs.laws.SomeRun.{some_run}
 use Rattle.aql_rewrite.specs.declared.swap.Rename.{Rename}
 use Rattle.aql_rewrite.specs.Places.{First}
 use Rattle.aql_rewrite.specs.Placed.{Placed, IsWhole}

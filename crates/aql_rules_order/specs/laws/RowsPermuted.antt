@@ -7,7 +7,7 @@ use Rattle.std.proofs.lemmas.List.Sorted.{IsPermutation-map, IsPermutation-trans
 use Rattle.aql_value.specs.Datum.{Datum, null}
 use Rattle.aql_value.specs.Contents.{list, elements, same}
 use Rattle.aql_func.specs.Aggregates.{Aggregate, aggregate, aggregate_named}
-use Rattle.aql_func.proofs.Shuffles.{shuffled}
+use Rattle.aql_func.specs.laws.Shuffles.{shuffled}
 use Rattle.aql_tree.specs.declared.syntax.Ident.{Ident}
 use Rattle.aql_tree.specs.Tree.{ExprTrees, AggregateTrees, no_aggregates, aggregate_then, IntoTree, no_into, into}
 use Rattle.aql_meaning.specs.declared.grouping.Stage.TheVariants as stage
@@ -26,8 +26,8 @@ use Rattle.aql_plan.specs.Plan.{Node, EnumerateCollection, EnumerateList, Traver
 use Rattle.aql_plan.specs.Runs.{Dataset, Outside, read, edges_in, result_of, Runs, Gives}
 use Rattle.aql_plan.specs.Shapes.{IsNoFragment}
 use Rattle.aql_plan_laws.specs.laws.Lists.{weaker}
-use Rattle.aql_aggregate.proofs.Members.{distinct_alike}
-use Rattle.aql_aggregate.proofs.Order.{same_any, in_any_order}
+use Rattle.aql_aggregate.specs.laws.Members.{distinct_alike}
+use Rattle.aql_aggregate.specs.laws.Order.{same_any, in_any_order}
 use Rattle.aql_rewrite.specs.laws.Flat.{each_flat}
 use Rattle.aql_rules_order.specs.RemoveRedundantSorts.{goes_by_row, ignores_order}
 use Rattle.aql_rules_order.specs.laws.Members.{argument_at, criteria_of, groups_of, members, aggregated, given_row, WithTaken, OfGroup, RowsGrouped, by_rows, as_defined}

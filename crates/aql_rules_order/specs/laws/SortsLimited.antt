@@ -20,7 +20,7 @@ use Rattle.aql_plan.specs.Refines.{dataset}
 use Rattle.aql_plan.specs.Runs.{Dataset, Outside, Runs, Gives, result_of}
 use Rattle.aql_plan.specs.Shapes.{Shape, Shaped, is_inside, plain_rows, lowest, other_reading, passing, sorting, KeepsShape}
 use Rattle.aql_plan_laws.specs.laws.Agreement.{rows_agree}
-use Rattle.aql_plan.proofs.SomeRun.{some_run}
+use Rattle.aql_plan.specs.laws.SomeRun.{some_run}
 use Rattle.aql_rewrite.specs.declared.swap.Rename.{Rename}
 use Rattle.aql_rewrite.specs.Changed.{IsChanged}
 use Rattle.aql_rewrite.specs.Places.{Stays, First}

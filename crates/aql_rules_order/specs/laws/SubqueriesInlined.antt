@@ -28,7 +28,7 @@ use Rattle.aql_plan_laws.specs.laws.FoundMapped.{NodeFinds}
 use Rattle.aql_plan_laws.specs.laws.Idents.{same_self, same_is}
 use Rattle.aql_plan_laws.specs.laws.RenamedPlaces.{number_is_no_result}
 use Rattle.aql_plan_laws.specs.laws.ShapesKept.{one_is_rows}
-use Rattle.aql_plan.proofs.SomeRun.{some_run}
+use Rattle.aql_plan.specs.laws.SomeRun.{some_run}
 use Rattle.aql_rewrite.specs.declared.swap.Rename.{Rename}
 use Rattle.aql_rewrite.specs.Apart.{is_start, has_body}
 use Rattle.aql_rewrite.specs.Nodes.{gives_new_rows, is_collect}

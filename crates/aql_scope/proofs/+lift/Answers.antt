@@ -18,14 +18,14 @@ use Rattle.aql_tree.specs.Tree.{expr_then, no_exprs, no_members, no_steps, no_li
 use Rattle.aql_tree.specs.View.{tree, trees, links, clauses, maybe, clause_tree, query_tree, member_part, step_part, link_part, key_part, let_part, aggregate_part, into_part, into_tree}
 use Rattle.aql_scope.specs.Lifting as spec
 use Rattle.aql_scope.specs.Lifts.{Lifts, bound, progress, visible, member_then, one_member, step_then, one_step}
-use Rattle.aql_scope.proofs.Turns.{Given, turn_there, finish_there, same_item, one_further, lifts_as}
+use Rattle.aql_scope.specs.laws.Turns.{Given, turn_there, finish_there, same_item, one_further, lifts_as}
 use Rattle.aql_scope.proofs.Forms.{query_made, query_parts, of_for, of_query, no_variable, no_query}
 use Rattle.aql_scope.proofs.Declared.{for_lifted, let_lifted, bound_same}
 use Rattle.aql_scope.proofs.Queries.{clause_turn, query_given}
 use Rattle.aql_scope.proofs.Clauses.{QueryGiven, inner_same, pushed, subquery_lifted, let_query_lifted, into_some, into_lifted}
 use Rattle.aql_scope.proofs.Groups.{beside, entered_more, enter_criteria, criterion_turn, enter_aggregates, aggregate_turn}
 use Rattle.aql_scope.proofs.Parts.{before_trees, before_members, before_steps, before_links, before_keys, before_lets, before_aggregates, link_part_then, key_then}
-use Rattle.aql_scope.proofs.Elements.{link_is, key_is, let_is as let_part_is, aggregate_is, member_first, step_first}
+use Rattle.aql_scope.specs.laws.Elements.{link_is, key_is, let_is as let_part_is, aggregate_is, member_first, step_first}
 use Rattle.aql_scope.proofs.+lift.Goals as goal
 
 pub lift_exprs::lift_all-loop-expr-preserved : goal.lift_exprs::lift_all-loop-expr-preserved

@@ -4,7 +4,7 @@ use Rattle.aql_tree.specs.View.{tree, trees, members, steps, links, clauses, cla
 use Rattle.aql_tree.specs.View.{member_part, step_part, link_part, key_part, let_part, aggregate_part}
 use Rattle.aql_scope.specs.Lifting as spec
 use Rattle.aql_scope.specs.Lifts.{progress, visible, member_then, step_then}
-use Rattle.aql_scope.proofs.Turns.{Goes, Unvisited}
+use Rattle.aql_scope.specs.laws.Turns.{Goes, Unvisited}
 use Rattle.aql_scope.proofs.Parts.{link_part_then, key_then, let_then, aggregate_part_then}
 use Rattle.aql_scope.proofs.Queries.{GoesOn}
 use Rattle.aql_scope.proofs.Groups.{criteria_of, enter_criteria, aggregates_of, enter_aggregates}

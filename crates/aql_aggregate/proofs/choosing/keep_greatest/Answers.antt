@@ -1,7 +1,7 @@
 use Rattle.std.proofs.Common.{Some, ap, ◌∙◌}
 use Rattle.aql_value.specs.View.{datum_of}
 use Rattle.aql_aggregate.specs.States.{datum_in}
-use Rattle.aql_aggregate.proofs.Best.{greatest_more, is_taken, is_left}
+use Rattle.aql_aggregate.specs.laws.Best.{greatest_more, is_taken, is_left}
 use Rattle.aql_aggregate.proofs.choosing.keep_greatest.Goals as goal
 
 pub returns-in_ok-copy : goal.returns-in_ok-copy

@@ -1,7 +1,7 @@
 use Rattle.std.proofs.Common.{true, ap, ◌∙◌}
 use Rattle.aql_value.specs.View.{datums_in}
 use Rattle.aql_func.specs.Lists.{add}
-use Rattle.aql_func.proofs.Firsts.{keys_noted}
+use Rattle.aql_func.specs.laws.Firsts.{keys_noted}
 use Rattle.aql_aggregate.proofs.distinct.note.Goals as goal
 
 pub returns : goal.returns

@@ -1,7 +1,7 @@
 use Rattle.std.proofs.Common.{◌++◌, ap, subst}
 use Rattle.aql_value.specs.View.{datum_of, datums_in}
 use Rattle.aql_aggregate.specs.States.{Keeps}
-use Rattle.aql_aggregate.proofs.Alike.{in_list}
+use Rattle.aql_aggregate.specs.laws.Alike.{in_list}
 use Rattle.aql_aggregate.proofs.elements.add_elements.Goals as goal
 
 pub returns-in_ok-add_each : goal.returns-in_ok-add_each

@@ -1,6 +1,6 @@
 use Rattle.std.proofs.Common.{ap}
 use Rattle.aql_value.specs.View.{datum_of}
-use Rattle.aql_aggregate.proofs.Alike.{count_fits, count_lost}
+use Rattle.aql_aggregate.specs.laws.Alike.{count_fits, count_lost}
 use Rattle.aql_aggregate.proofs.elements.element_count.Goals as goal
 
 pub returns-in-Ok : goal.returns-in-Ok

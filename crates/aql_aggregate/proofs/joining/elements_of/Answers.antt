@@ -1,6 +1,6 @@
 use Rattle.std.proofs.Common.{ap}
 use Rattle.aql_value.specs.View.{datum_of, datums_in}
-use Rattle.aql_aggregate.proofs.Alike.{in_list}
+use Rattle.aql_aggregate.specs.laws.Alike.{in_list}
 use Rattle.aql_aggregate.proofs.joining.elements_of.Goals as goal
 
 pub returns-in-List : goal.returns-in-List

@@ -4,7 +4,7 @@ use Rattle.std.specs.Int.{w128, int_div_euclid, int_rem_euclid}
 use Rattle.std.proofs.lemmas.Int.{ints}
 use mir.Val.{to_z, of_z}
 use Rattle.aql_value.specs.Convert.{number_or_null}
-use Rattle.aql_aggregate.proofs.Totals.{halves}
+use Rattle.aql_aggregate.specs.laws.Totals.{halves}
 use Rattle.aql_aggregate.proofs.joining.whole.Goals as goal
 
 pub returns-then-top : goal.returns-then-top

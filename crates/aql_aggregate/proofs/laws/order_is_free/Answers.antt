@@ -1,4 +1,4 @@
-use Rattle.aql_aggregate.proofs.Order.{in_any_order}
+use Rattle.aql_aggregate.specs.laws.Order.{in_any_order}
 use Rattle.aql_aggregate.proofs.laws.order_is_free.Goals as goal
 
 pub returns : goal.returns

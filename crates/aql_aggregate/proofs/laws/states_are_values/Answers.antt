@@ -1,4 +1,4 @@
-use Rattle.aql_aggregate.proofs.Formed.{states_formed}
+use Rattle.aql_aggregate.specs.laws.Formed.{states_formed}
 use Rattle.aql_aggregate.proofs.laws.states_are_values.Goals as goal
 
 pub returns : goal.returns

@@ -2,7 +2,7 @@ use Rattle.std.proofs.Common.{◌∙◌, ap, get_or}
 use Rattle.aql_tree.specs.View.{tree}
 use Rattle.aql_plan.specs.Plan.{Over, Filter}
 use Rattle.aql_plan.specs.View.{plan_tree}
-use Rattle.aql_scope.proofs.Turns.{one_further}
+use Rattle.aql_scope.specs.laws.Turns.{one_further}
 use Rattle.aql_build.proofs.Moved.{at_hand, none_left, side_moved, sides_moved}
 use Rattle.aql_build.proofs.conditions.filter_sides.Goals as goal
 

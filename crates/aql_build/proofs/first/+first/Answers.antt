@@ -2,7 +2,7 @@ use Rattle.std.proofs.Common.{get_or, arith}
 use Rattle.std.proofs.lemmas.Grind.{common_steps}
 use Rattle.aql_tree.specs.declared.syntax.Clause.{the_lemmas}
 use Rattle.aql_plan.specs.View.{plan_tree}
-use Rattle.aql_scope.proofs.Turns.{one_further}
+use Rattle.aql_scope.specs.laws.Turns.{one_further}
 use Rattle.aql_build.proofs.Moved.{at_hand, none_left, clause_moved, clauses_moved, numbers_split}
 use Rattle.aql_build.proofs.first.+first.Goals as goal
 

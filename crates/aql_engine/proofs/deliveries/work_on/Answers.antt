@@ -2,7 +2,7 @@ use Rattle.std.proofs.Common.{◌≡◌, inl, inr, true, sym, ◌∙◌}
 use Rattle.std.proofs.Math.Nat.{le_refl}
 use Rattle.std.proofs.lemmas.Bool.{false≢true}
 use Rattle.aql_exec.specs.Counting.{nothing}
-use Rattle.aql_exec.proofs.Telling.{ahead_none, rises_none}
+use Rattle.aql_exec.specs.laws.Telling.{ahead_none, rises_none}
 use Rattle.aql_engine.specs.Tree.{Waits, WaitsAt}
 use Rattle.aql_engine.proofs.Inputs.{fewer_wait}
 use Rattle.aql_engine.proofs.Leading.{one_zero, zero_one}

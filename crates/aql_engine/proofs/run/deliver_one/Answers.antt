@@ -1,6 +1,6 @@
 use Rattle.std.proofs.Common.{subst}
 use Rattle.aql_exec.specs.Counting.{nothing}
-use Rattle.aql_exec.proofs.Telling.{ahead_none, rises_none}
+use Rattle.aql_exec.specs.laws.Telling.{ahead_none, rises_none}
 use Rattle.aql_engine.proofs.run.deliver_one.Goals as goal
 
 pub returns-else-owns-clause-undisturbed : goal.returns-else-owns-clause-undisturbed

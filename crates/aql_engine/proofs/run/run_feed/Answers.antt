@@ -2,7 +2,7 @@ use Rattle.std.proofs.Common.{◌≤◌, inl, inr, length, refl, ◌∙◌, arit
 use Rattle.aql_exec.specs.Rests.{Over}
 use Rattle.aql_exec.specs.Counting.{nothing}
 use Rattle.aql_block.specs.Tables.{rows_of}
-use Rattle.aql_exec.proofs.Telling.{ahead_none, rises_none}
+use Rattle.aql_exec.specs.laws.Telling.{ahead_none, rises_none}
 use Rattle.aql_engine.specs.Run.{rows_in}
 use Rattle.aql_engine.proofs.Leading.{plus, rises_then}
 use Rattle.aql_engine.proofs.Running.{rows_came, later, all_came, rises_within, follows_all}

@@ -6,7 +6,7 @@ use Rattle.aql_exec.specs.Rests.{Rest}
 use Rattle.aql_exec.specs.Steps.{unless_waiting, told}
 use Rattle.aql_exec.specs.Operators.{height, arity, Produces, leaf, StartRow, no_rest}
 use Rattle.aql_exec.specs.Counting.{nothing}
-use Rattle.aql_exec.proofs.Telling.{rises_none}
+use Rattle.aql_exec.specs.laws.Telling.{rises_none}
 use Rattle.aql_engine.specs.Tree.{Waits, WaitsAt, tree_plan, TreeRests, TreeOwn, NodeValid}
 use Rattle.aql_engine.specs.laws.TreesKept.{tree_kept_rests, tree_some, choose}
 use Rattle.aql_engine.proofs.Leading.{plus, rises_then, leads_init, leads_first, leads_second, leads_started, leads_given, leads_beside, one_zero, zero_one}

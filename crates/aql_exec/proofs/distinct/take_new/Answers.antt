@@ -3,9 +3,9 @@ use Rattle.std.proofs.lemmas.List.{map-append}
 use Rattle.aql_value.specs.View.{datum_of, datums_in}
 use Rattle.aql_value.specs.Contents.{is_in}
 use Rattle.aql_func.specs.Lists.{add, add_all}
-use Rattle.aql_func.proofs.Firsts.{any_tree, keys_noted}
+use Rattle.aql_func.specs.laws.Firsts.{any_tree, keys_noted}
 use Rattle.aql_exec.specs.FirstResults.{unseen}
-use Rattle.aql_exec.proofs.Firsts.{take_one, is_new, is_old}
+use Rattle.aql_exec.specs.laws.Firsts.{take_one, is_new, is_old}
 use Rattle.aql_exec.proofs.distinct.take_new.Goals as goal
 
 pub loop-value-preserved-in_ok-push : goal.loop-value-preserved-in_ok-push

@@ -2,7 +2,7 @@ use Rattle.std.proofs.Common.{◌≡◌, ◌==◌, false, length, sym, ◌∙◌
 use Rattle.std.specs.List.{list_any, before_first, after_first}
 use Rattle.std.proofs.lemmas.Str.Pattern.{contains_char}
 use Rattle.aql_func.specs.Objects.{is_slash}
-use Rattle.aql_func.proofs.Identifiers.{id_is, no_slash}
+use Rattle.aql_func.specs.laws.Identifiers.{id_is, no_slash}
 use Rattle.aql_exec_graph.proofs.ids.is_id.Goals as goal
 
 pub returns-else-contains : goal.returns-else-contains

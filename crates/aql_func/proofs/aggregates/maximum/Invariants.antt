@@ -1,7 +1,7 @@
 use Rattle.std.proofs.Common.{◌≡◌, ◌≤◌, length, drop}
 use Rattle.aql_value.specs.View.{datums_in}
 use Rattle.aql_func.specs.Aggregates.{best, greater}
-use Rattle.aql_func.specs.Optional.{optional_datum}
+use Rattle.aql_func.specs.inner.Optional.{optional_datum}
 use Rattle.aql_func.proofs.aggregates.maximum.Given as goal
 
 abbrev pub invariant-loop-at : goal.invariant-loop-at

@@ -8,7 +8,7 @@ use Rattle.aql_value.specs.View.{datum_of, datums_in}
 use Rattle.aql_value.specs.Convert.{to_number}
 use Rattle.aql_func.specs.Aggregates.{is_bad, exact_sum}
 use Rattle.aql_func.proofs.Steps.{done}
-use Rattle.aql_func.proofs.Sums.{sum_push, bad_push, bad_at, spoils, spoilt, wider}
+use Rattle.aql_func.specs.laws.Sums.{sum_push, bad_push, bad_at, spoils, spoilt, wider}
 use Rattle.aql_func.proofs.aggregates.sum_of.Goals as goal
 use Rattle.aql_func.proofs.aggregates.sum_of.Goals.{in-Null, in-Num}
 

@@ -1,5 +1,5 @@
 use Rattle.std.proofs.Common.{◌∙◌}
-use Rattle.aql_func.proofs.Firsts.{held}
+use Rattle.aql_func.specs.laws.Firsts.{held}
 use Rattle.aql_func.proofs.arrays.is_in.Goals as goal
 
 pub returns : goal.returns

@@ -1,5 +1,5 @@
 use Rattle.std.proofs.Common.{◌≡◌, length, map, drop, get_or, ap, ◌∙◌, arith}
-use Rattle.aql_func.specs.Pieces.{piece_of, row_of}
+use Rattle.aql_func.specs.inner.Pieces.{piece_of, row_of}
 use Rattle.aql_func.proofs.Rows.{row_counted, row_head}
 use Rattle.aql_func.proofs.like.fits.Goals as goal
 

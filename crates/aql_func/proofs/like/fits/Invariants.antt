@@ -1,5 +1,5 @@
 use Rattle.std.proofs.Common.{◌≡◌, ◌≤◌, length, map, drop}
-use Rattle.aql_func.specs.Pieces.{piece_of, row_of}
+use Rattle.aql_func.specs.inner.Pieces.{piece_of, row_of}
 use Rattle.aql_func.proofs.like.fits.Given as goal
 
 abbrev pub invariant-loop-at : goal.invariant-loop-at

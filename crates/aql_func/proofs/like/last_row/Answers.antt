@@ -1,5 +1,5 @@
 use Rattle.std.proofs.Common.{◌+◌, ◌++◌, ◌∷◌, [], false, drop, ap, sym, ◌∙◌, append_assoc}
-use Rattle.aql_func.specs.Pieces.{row_of}
+use Rattle.aql_func.specs.inner.Pieces.{row_of}
 use Rattle.aql_func.proofs.Steps.{left_values}
 use Rattle.aql_func.proofs.like.last_row.Goals as goal
 

@@ -1,5 +1,5 @@
 use Rattle.std.proofs.Common.{◌≡◌, ◌++◌, [], drop}
-use Rattle.aql_func.specs.Pieces.{row_of}
+use Rattle.aql_func.specs.inner.Pieces.{row_of}
 use Rattle.aql_func.proofs.like.last_row.Given as goal
 
 abbrev pub invariant-loop-c : goal.invariant-loop-c

@@ -1,6 +1,6 @@
 use Rattle.std.proofs.Common.{◌≡◌, ◌++◌, map, length}
 use Rattle.aql_func.specs.Like.{pieces}
-use Rattle.aql_func.specs.Pieces.{piece_of}
+use Rattle.aql_func.specs.inner.Pieces.{piece_of}
 use Rattle.aql_func.proofs.like.pieces.Given as goal
 
 abbrev pub invariant-loop-c : goal.invariant-loop-c

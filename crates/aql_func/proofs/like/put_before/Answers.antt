@@ -1,6 +1,6 @@
 use Rattle.std.proofs.Common.{◌∷◌, length, ap, sym, ◌∙◌}
 use Rattle.aql_func.specs.Like.{one, this}
-use Rattle.aql_func.specs.Pieces.{piece_of, row_of, ors, shift}
+use Rattle.aql_func.specs.inner.Pieces.{piece_of, row_of, ors, shift}
 use Rattle.aql_func.proofs.Rows.{run_row, one_row, this_row, ors_counted, shifted_counted}
 use Rattle.aql_func.proofs.like.put_before.Goals as goal
 

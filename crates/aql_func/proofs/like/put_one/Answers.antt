@@ -1,6 +1,6 @@
 use Rattle.std.proofs.Common.{◌≡◌, ◌++◌, suc, length, take, drop, ap, sym, ◌∙◌, arith}
 use Rattle.std.proofs.lemmas.List.{drop_all}
-use Rattle.aql_func.specs.Pieces.{piece_of, shift}
+use Rattle.aql_func.specs.inner.Pieces.{piece_of, shift}
 use Rattle.aql_func.proofs.Rows.{last_set}
 use Rattle.aql_func.proofs.like.put_one.Goals as goal
 

@@ -1,5 +1,5 @@
 use Rattle.std.proofs.Common.{◌≡◌, ◌++◌, length, take, drop}
-use Rattle.aql_func.specs.Pieces.{piece_of, shift}
+use Rattle.aql_func.specs.inner.Pieces.{piece_of, shift}
 use Rattle.aql_func.proofs.like.put_one.Given as goal
 
 abbrev pub invariant-loop-at : goal.invariant-loop-at

@@ -1,5 +1,5 @@
 use Rattle.std.proofs.Common.{◌≡◌, ◌<◌, ◌-◌, ◌||◌, suc, length, take, drop, get_or, ap, subst, sym, ◌∙◌, refl, add-one, arith}
-use Rattle.aql_func.specs.Pieces.{ors}
+use Rattle.aql_func.specs.inner.Pieces.{ors}
 use Rattle.aql_func.proofs.Rows.{ors_last, ors_more, front_kept, row_kept}
 use Rattle.aql_func.proofs.like.put_run.Goals as goal
 

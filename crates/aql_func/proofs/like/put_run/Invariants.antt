@@ -1,5 +1,5 @@
 use Rattle.std.proofs.Common.{◌≡◌, ◌<◌, length, take, drop}
-use Rattle.aql_func.specs.Pieces.{ors}
+use Rattle.aql_func.specs.inner.Pieces.{ors}
 use Rattle.aql_func.proofs.like.put_run.Given as goal
 
 abbrev pub invariant-loop-at : goal.invariant-loop-at

@@ -3,7 +3,7 @@ use Rattle.aql_value.specs.View.{datum_of, datums_in}
 use Rattle.aql_value.specs.Contents.{is_in}
 use Rattle.aql_func.specs.Lists.{add_all}
 use Rattle.aql_func.proofs.Steps.{left}
-use Rattle.aql_func.proofs.Firsts.{in_firsts, seen_more}
+use Rattle.aql_func.specs.laws.Firsts.{in_firsts, seen_more}
 use Rattle.aql_func.proofs.lists.add_all_once.Goals as goal
 
 pub loop-value-init : goal.loop-value-init

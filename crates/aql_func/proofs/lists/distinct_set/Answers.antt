@@ -2,7 +2,7 @@ use Rattle.std.proofs.Common.{ap, sym, ◌∙◌, take}
 use Rattle.aql_value.specs.View.{datum_of, datums_in}
 use Rattle.aql_func.specs.Lists.{firsts}
 use Rattle.aql_func.proofs.Steps.{done}
-use Rattle.aql_func.proofs.Firsts.{noted, firsts_push}
+use Rattle.aql_func.specs.laws.Firsts.{noted, firsts_push}
 use Rattle.aql_func.proofs.lists.distinct_set.Goals as goal
 
 pub loop-value-preserved : goal.loop-value-preserved

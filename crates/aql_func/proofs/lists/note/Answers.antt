@@ -2,7 +2,7 @@ use Rattle.std.proofs.Common.{true, not, ap, ◌∙◌}
 use Rattle.aql_value.specs.Contents.{is_in}
 use Rattle.aql_value.specs.View.{datums_in}
 use Rattle.aql_func.specs.Lists.{add}
-use Rattle.aql_func.proofs.Firsts.{any_tree, keys_noted}
+use Rattle.aql_func.specs.laws.Firsts.{any_tree, keys_noted}
 use Rattle.aql_func.proofs.lists.note.Goals as goal
 
 pub returns-clause-new : goal.returns-clause-new

@@ -1,6 +1,6 @@
 use Rattle.std.proofs.Common.{◌≡◌, IfOk, ap, subst, ◌∙◌}
 use Rattle.aql_value.specs.View.{datums_in}
-use Rattle.aql_func.specs.Sieves.{sift}
+use Rattle.aql_func.specs.inner.Sieves.{sift}
 use Rattle.aql_func.proofs.Sieves.{sift_firsts}
 use Rattle.aql_func.proofs.lists.sift.Goals as goal
 

@@ -2,9 +2,9 @@ use Rattle.std.proofs.Common.{◌≡◌, ◌+◌, ◌∷◌, ◌++◌, [], take,
 use Rattle.aql_value.specs.Datum.{Datum}
 use Rattle.aql_value.specs.View.{datum_of, datums_in}
 use Rattle.aql_value.specs.Contents.{is_in}
-use Rattle.aql_func.specs.Sieves.{sift}
+use Rattle.aql_func.specs.inner.Sieves.{sift}
 use Rattle.aql_func.proofs.Steps.{done}
-use Rattle.aql_func.proofs.Firsts.{sift_more, any_tree, sift_yes, sift_no}
+use Rattle.aql_func.specs.laws.Firsts.{sift_more, any_tree, sift_yes, sift_no}
 use Rattle.aql_func.proofs.lists.sift_by.Goals as goal
 use Rattle.aql_func.proofs.lists.sift_by.Goals.{then-contains-present+in_ok-append, else-contains-present}
 

@@ -1,6 +1,6 @@
 use Rattle.std.proofs.Common.{◌≡◌, take}
 use Rattle.aql_value.specs.View.{datums_in}
-use Rattle.aql_func.specs.Sieves.{sift}
+use Rattle.aql_func.specs.inner.Sieves.{sift}
 use Rattle.aql_func.proofs.lists.sift_by.Given as goal
 
 abbrev pub invariant-loop-value : goal.invariant-loop-value

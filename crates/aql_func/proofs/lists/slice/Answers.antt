@@ -4,8 +4,8 @@ use mir.Val.{to_z, of_z}
 use Rattle.aql_value.specs.View.{datum_of, datums_in}
 use Rattle.aql_value.specs.Convert.{to_number}
 use Rattle.aql_func.specs.Lists.{index_from, slice, up_to}
-use Rattle.aql_func.specs.Optional.{optional_datum}
-use Rattle.aql_func.proofs.Parts.{trees_dropped, trees_counted}
+use Rattle.aql_func.specs.inner.Optional.{optional_datum}
+use Rattle.aql_func.specs.laws.Parts.{trees_dropped, trees_counted}
 use Rattle.aql_func.proofs.lists.slice.Goals as goal
 
 pub returns-in-None : goal.returns-in-None

@@ -1,4 +1,4 @@
-use Rattle.aql_func.proofs.Ascending.{sorted_is}
+use Rattle.aql_func.specs.laws.Ascending.{sorted_is}
 use Rattle.aql_func.proofs.lists.sort.Goals as goal
 
 pub returns : goal.returns

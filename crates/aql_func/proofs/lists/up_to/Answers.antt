@@ -2,8 +2,8 @@ use Rattle.std.proofs.Common.{rules, ◌≡◌, length, take, ap, ◌∙◌}
 use Rattle.std.specs.Int.{w64}
 use mir.Val.{to_z, of_z}
 use Rattle.aql_value.specs.View.{datums_in}
-use Rattle.aql_func.specs.Prefixes.{prefix_length}
-use Rattle.aql_func.proofs.Parts.{kept_up_to}
+use Rattle.aql_func.specs.inner.Prefixes.{prefix_length}
+use Rattle.aql_func.specs.laws.Parts.{kept_up_to}
 use Rattle.aql_func.proofs.lists.up_to.Goals as goal
 
 pub returns : goal.returns

@@ -2,7 +2,7 @@ use Rattle.std.proofs.Common.{ap, sym, ◌∙◌}
 use Rattle.aql_value.specs.View.{datum_of, datums_in}
 use Rattle.aql_value.specs.Contents.{record_of}
 use Rattle.aql_func.specs.Arguments.{of_object}
-use Rattle.aql_func.specs.Choices.{choose}
+use Rattle.aql_func.specs.inner.Choices.{choose}
 use Rattle.aql_value.specs.laws.Lists.{fields_list-object_of}
 use Rattle.aql_func.proofs.objects.choose.Goals as goal
 

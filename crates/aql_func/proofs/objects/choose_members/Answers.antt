@@ -1,6 +1,6 @@
 use Rattle.std.proofs.Common.{◌≡◌, IfOk, ap, subst, ◌∙◌}
 use Rattle.aql_value.specs.View.{datums_in}
-use Rattle.aql_func.specs.Choices.{choose}
+use Rattle.aql_func.specs.inner.Choices.{choose}
 use Rattle.aql_func.proofs.Members.{chosen_firsts}
 use Rattle.aql_func.proofs.objects.choose_members.Goals as goal
 

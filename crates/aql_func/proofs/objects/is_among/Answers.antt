@@ -3,7 +3,7 @@ use Rattle.aql_value.specs.Datum.{text}
 use Rattle.aql_value.specs.View.{datums_in}
 use Rattle.aql_value.specs.Contents.{is_in}
 use Rattle.aql_value.specs.declared.values.Value.TheVariants.{Text}
-use Rattle.aql_func.proofs.Firsts.{any_tree}
+use Rattle.aql_func.specs.laws.Firsts.{any_tree}
 use Rattle.aql_func.proofs.objects.is_among.Goals as goal
 
 pub returns : goal.returns

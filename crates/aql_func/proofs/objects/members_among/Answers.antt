@@ -4,9 +4,9 @@ use Rattle.aql_value.specs.View.{datum_of, datums_in}
 use Rattle.aql_value.specs.Fields.{fields_in}
 use Rattle.aql_value.specs.WellFormed.{FieldsWellFormed}
 use Rattle.aql_value.specs.Attributes.{with_attribute}
-use Rattle.aql_func.specs.Choices.{is_chosen, choose}
+use Rattle.aql_func.specs.inner.Choices.{is_chosen, choose}
 use Rattle.aql_func.proofs.Members.{chosen_more}
-use Rattle.aql_func.proofs.Firsts.{sift_yes, sift_no}
+use Rattle.aql_func.specs.laws.Firsts.{sift_yes, sift_no}
 use Rattle.aql_func.proofs.objects.members_among.Goals as goal
 use Rattle.aql_func.proofs.objects.members_among.Goals.{then-branch-present+in_ok-set_copy, else-branch-present}
 

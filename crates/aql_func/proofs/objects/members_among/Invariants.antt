@@ -1,7 +1,7 @@
 use Rattle.std.proofs.Common.{◌≡◌, take}
 use Rattle.aql_value.specs.View.{datums_in}
 use Rattle.aql_value.specs.Fields.{fields_in}
-use Rattle.aql_func.specs.Choices.{choose}
+use Rattle.aql_func.specs.inner.Choices.{choose}
 use Rattle.aql_func.proofs.objects.members_among.Given as goal
 
 abbrev pub invariant-loop-member : goal.invariant-loop-member

@@ -1,7 +1,7 @@
 use Rattle.std.proofs.Common.{◌+◌, map, drop, ap, sym, ◌∙◌}
 use Rattle.aql_value.specs.View.{datum_of, datums_in}
 use Rattle.aql_value.specs.Contents.{elements}
-use Rattle.aql_func.specs.Sieves.{sieve, sift}
+use Rattle.aql_func.specs.inner.Sieves.{sieve, sift}
 use Rattle.aql_func.proofs.Steps.{left}
 use Rattle.aql_func.proofs.sets.sieve_through.Goals as goal
 

@@ -1,7 +1,7 @@
 use Rattle.std.proofs.Common.{◌≡◌, map, drop}
 use Rattle.aql_value.specs.View.{datums_in}
 use Rattle.aql_value.specs.Contents.{elements}
-use Rattle.aql_func.specs.Sieves.{sieve}
+use Rattle.aql_func.specs.inner.Sieves.{sieve}
 use Rattle.aql_func.proofs.sets.sieve_through.Given as goal
 
 abbrev pub invariant-loop-other : goal.invariant-loop-other

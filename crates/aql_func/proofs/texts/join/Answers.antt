@@ -4,7 +4,7 @@ use Rattle.aql_value.specs.View.{datum_of, datums_in}
 use Rattle.aql_value.specs.Convert.{to_text}
 use Rattle.aql_func.specs.Aggregates.{is_null, without_null}
 use Rattle.aql_func.specs.Texts.{join_by}
-use Rattle.aql_func.specs.Joins.{with_part}
+use Rattle.aql_func.specs.inner.Joins.{with_part}
 use Rattle.aql_func.proofs.Steps.{done}
 use Rattle.aql_func.proofs.Joins.{has_some, join_push, has_some_push, texts_push, not_true, not_false}
 use Rattle.aql_func.proofs.texts.join.Goals as goal

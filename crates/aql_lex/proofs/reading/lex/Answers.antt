@@ -4,8 +4,8 @@ use Rattle.std.specs.Prelude.{Ok, Err}
 use Rattle.aql_lex.specs.declared.faults.LexFault.TheVariants as LexFault
 use Rattle.std.proofs.lemmas.List.Elements.{All-push}
 use Rattle.aql_lex.specs.Tokens.{IsUnsigned}
-use Rattle.aql_lex.proofs.Readings.{token_unsigned, few_more, past_separator, past_token, stops_here}
-use Rattle.aql_lex.proofs.Readings.{ends_here, same_fault, not_both, one_stop, one_reading}
+use Rattle.aql_lex.specs.laws.Readings.{token_unsigned, few_more, past_separator, past_token, stops_here}
+use Rattle.aql_lex.specs.laws.Readings.{ends_here, same_fault, not_both, one_stop, one_reading}
 use Rattle.aql_lex.proofs.reading.lex.Goals as goal
 
 pub loop-character-preserved-in-Ok-Separator : goal.loop-character-preserved-in-Ok-Separator

@@ -3,7 +3,7 @@ use Rattle.std.specs.Prelude.{All}
 use Rattle.aql_lex.specs.Tokens.{IsUnsigned}
 use denote.Text.{Utf8}
 use denote.Shadow.{shadow}
-use Rattle.aql_lex.proofs.Readings.{Continues}
+use Rattle.aql_lex.specs.laws.Readings.{Continues}
 use Rattle.aql_lex.proofs.reading.lex.Given as goal
 
 abbrev pub invariant-loop-character : goal.invariant-loop-character

@@ -1,5 +1,5 @@
 use Rattle.std.proofs.Common.{length, refl}
-use Rattle.aql_lex.proofs.Readings.{one_reading}
+use Rattle.aql_lex.specs.laws.Readings.{one_reading}
 use Rattle.aql_lex.proofs.reading.text_has_one_reading.Goals as goal
 
 pub returns : goal.returns

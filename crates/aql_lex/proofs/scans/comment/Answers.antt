@@ -3,7 +3,7 @@ use Rattle.std.proofs.lemmas.List.Elements.{All-from_get_or}
 use Rattle.std.proofs.lemmas.Str.Pattern.{split_parts, split_text_parts}
 use Rattle.aql_lex.specs.Characters.{slash, star, line_feed}
 use Rattle.aql_lex.proofs.Cuts.{first_close}
-use Rattle.aql_lex.proofs.Names.{line_takes, last_line_takes, block_takes, open_comment_takes}
+use Rattle.aql_lex.specs.laws.Names.{line_takes, last_line_takes, block_takes, open_comment_takes}
 use Rattle.aql_lex.proofs.scans.comment.Goals as goal
 
 pub returns-in-Some-split_once-clause-takes : goal.returns-in-Some-split_once-clause-takes

@@ -7,9 +7,9 @@ use Rattle.std.proofs.lemmas.Int.{to_z-of_z, fits_signed_from_abs}
 use Rattle.std.specs.Prelude.{FitsSigned, pos}
 use mir.Syntax.{w64}
 use Rattle.aql_lex.specs.Numbers.{is_fraction}
-use Rattle.aql_lex.proofs.Runs.{cut_is_run}
+use Rattle.aql_lex.specs.laws.Runs.{cut_is_run}
 use Rattle.aql_lex.proofs.Cuts.{digits_boundary}
-use Rattle.aql_lex.proofs.Digits.{fraction_takes, number_takes, large_takes, run_is_digits, some_digits}
+use Rattle.aql_lex.specs.laws.Digits.{fraction_takes, number_takes, large_takes, run_is_digits, some_digits}
 use Rattle.aql_lex.proofs.scans.number.Goals as goal
 
 own : IsNumeralModel (λ ds. list_all is_ascii_digit ds ≡ true) (digits_value 10)

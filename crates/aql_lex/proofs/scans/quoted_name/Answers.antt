@@ -3,7 +3,7 @@ use Rattle.std.proofs.lemmas.List.{nil_from_length}
 use Rattle.std.proofs.lemmas.List.Elements.{All-from_get_or}
 use Rattle.std.proofs.lemmas.Str.Pattern.{split_parts}
 use Rattle.aql_lex.specs.Characters.{backtick}
-use Rattle.aql_lex.proofs.Names.{quoted_takes, empty_name_takes, open_name_takes}
+use Rattle.aql_lex.specs.laws.Names.{quoted_takes, empty_name_takes, open_name_takes}
 use Rattle.aql_lex.proofs.scans.quoted_name.Goals as goal
 
 pub returns-then-is_empty-clause-takes : goal.returns-then-is_empty-clause-takes

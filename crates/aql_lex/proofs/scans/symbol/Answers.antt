@@ -1,6 +1,6 @@
-use Rattle.aql_lex.proofs.Spellings.{symbol_shortens}
+use Rattle.aql_lex.specs.laws.Spellings.{symbol_shortens}
 use Rattle.aql_lex.proofs.CodeTables.{symbol_table}
-use Rattle.aql_lex.proofs.Names.{symbol_takes, no_symbol_takes}
+use Rattle.aql_lex.specs.laws.Names.{symbol_takes, no_symbol_takes}
 use Rattle.aql_lex.proofs.scans.symbol.Goals as goal
 
 pub symbol_in-requires-clause-table : goal.symbol_in-requires-clause-table

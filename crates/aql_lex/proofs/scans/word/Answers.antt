@@ -3,9 +3,9 @@ use Rattle.std.specs.List.{prefix_len}
 use Rattle.aql_lex.specs.declared.kinds.TokenKind.TheVariants as k
 use Rattle.aql_lex.specs.Characters.{is_word_part}
 use Rattle.aql_lex.specs.Tokens.{IsToken}
-use Rattle.aql_lex.proofs.Runs.{cut_is_run}
+use Rattle.aql_lex.specs.laws.Runs.{cut_is_run}
 use Rattle.aql_lex.proofs.Cuts.{word_boundary}
-use Rattle.aql_lex.proofs.Names.{word_takes, run_is_word}
+use Rattle.aql_lex.specs.laws.Names.{word_takes, run_is_word}
 use Rattle.aql_lex.proofs.scans.word.Goals as goal
 use Rattle.aql_lex.proofs.scans.word.Goals.{in-Some, in-None+in_ok-new-in-None}
 

@@ -1,5 +1,5 @@
 use Rattle.std.proofs.Common.{sym}
-use Rattle.aql_lex.proofs.Quotes.{ascii_boundary}
+use Rattle.aql_lex.specs.laws.Quotes.{ascii_boundary}
 use Rattle.aql_lex.proofs.texts.escape.Goals as goal
 
 pub split_at-requires : goal.split_at-requires

@@ -3,8 +3,8 @@ use Rattle.std.specs.Prelude.{string_bytes, encode_utf8}
 use Rattle.std.proofs.lemmas.Bool.Decides.{nat_tests}
 use Rattle.aql_lex.specs.Characters.{backslash, is_quote}
 use Rattle.aql_lex.specs.Texts.{Writes}
-use Rattle.aql_lex.proofs.Quotes.{Continues, continues_here, goes_plain, goes_escaped, ascii_front}
-use Rattle.aql_lex.proofs.Quotes.{text_takes, open_text_takes, bad_escape_takes}
+use Rattle.aql_lex.specs.laws.Quotes.{Continues, continues_here, goes_plain, goes_escaped, ascii_front}
+use Rattle.aql_lex.specs.laws.Quotes.{text_takes, open_text_takes, bad_escape_takes}
 use Rattle.aql_lex.proofs.texts.text_scan.Goals as goal
 
 small_quote : (q : ℕ) → is_quote q ≡ true → q < 128

@@ -2,7 +2,7 @@ use Rattle.std.proofs.Common.{◌≤◌, length}
 use Rattle.std.specs.Prelude.{string_bytes}
 use denote.Text.{Utf8}
 use denote.Shadow.{shadow}
-use Rattle.aql_lex.proofs.Quotes.{Continues}
+use Rattle.aql_lex.specs.laws.Quotes.{Continues}
 use Rattle.aql_lex.proofs.texts.text_scan.Given as goal
 
 abbrev pub invariant-loop-character : goal.invariant-loop-character

@@ -1,7 +1,7 @@
 use Rattle.std.proofs.Common.{◌≡◌, ◌<◌, ◌≤◌, ℕ, true, arith}
 use Rattle.std.specs.Char.Utf16.{is_high_surrogate}
 use Rattle.std.proofs.lemmas.Bool.Decides.{nat_tests}
-use Rattle.aql_lex.proofs.Quotes.{pair_gives}
+use Rattle.aql_lex.specs.laws.Quotes.{pair_gives}
 use Rattle.aql_lex.proofs.texts.unicode_escape.Goals as goal
 
 is_high : (unit : ℕ) → 55296 ≤ unit → unit < 56320 → is_high_surrogate unit ≡ true

@@ -2,7 +2,7 @@ use Rattle.std.proofs.Common.{◌≡◌, ◌++◌, take}
 use Rattle.std.specs.Prelude.{flat_map}
 use Rattle.aql_value.specs.View.{datums_in}
 use Rattle.aql_exec_graph.specs.Found.{steps_in}
-use Rattle.aql_local.specs.EdgeSteps.{steps_by}
+use Rattle.aql_local.specs.inner.EdgeSteps.{steps_by}
 use Rattle.aql_local.proofs.edge_steps.add_steps.Given as goal
 
 abbrev pub invariant-loop-edge : goal.invariant-loop-edge

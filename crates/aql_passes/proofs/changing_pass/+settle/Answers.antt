@@ -9,7 +9,7 @@ use Rattle.aql_rewrite.specs.View.{above_uses}
 use Rattle.aql_rewrite.specs.laws.Walk.{above_new, above_old}
 use Rattle.aql_rewrite.specs.laws.Taken.{taken, bodied, lone_input, lone_inside}
 use Rattle.aql_rewrite.specs.Changed.{IsChanged}
-use Rattle.aql_passes.specs.Finished.{Finishes}
+use Rattle.aql_passes.specs.inner.Finished.{Finishes}
 use Rattle.aql_passes.specs.laws.Finishing.{start_finishes}
 use Rattle.aql_passes.specs.laws.Changing.{twice_below, twice_inside, changed_finishes, bare_finishes}
 use Rattle.aql_passes.specs.laws.Changing.{body_finishes}

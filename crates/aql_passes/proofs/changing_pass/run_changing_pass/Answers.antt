@@ -3,7 +3,7 @@ use Rattle.std.proofs.Common.{false, refl, subst}
 use Rattle.aql_meaning.specs.Uses.{Uses}
 use Rattle.aql_plan.specs.View.{plan_tree}
 use Rattle.aql_rewrite.specs.laws.PassSteps.{is_pass, pass_sound}
-use Rattle.aql_passes.specs.Finished.{Finishes}
+use Rattle.aql_passes.specs.inner.Finished.{Finishes}
 use Rattle.aql_passes.proofs.changing_pass.run_changing_pass.Goals as goal
 
 pub returns-clause-passed : goal.returns-clause-passed

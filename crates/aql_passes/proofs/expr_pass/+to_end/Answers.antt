@@ -6,7 +6,7 @@ use Rattle.aql_plan.specs.Plan.{Plan, Over, Subquery}
 use Rattle.aql_plan.specs.Shapes.{HasNoFragment}
 use Rattle.aql_plan.specs.View.{plan_tree, node_tree}
 use Rattle.aql_rewrite.specs.laws.RenamedPlans.{no_body}
-use Rattle.aql_passes.specs.Ends.{ExprsEnd, PlanEnds}
+use Rattle.aql_passes.specs.inner.Ends.{ExprsEnd, PlanEnds}
 use Rattle.aql_passes.specs.laws.PlansEnded.{start_ends, node_ends, body_ends}
 use Rattle.aql_passes.proofs.expr_pass.+to_end.Goals as goal
 

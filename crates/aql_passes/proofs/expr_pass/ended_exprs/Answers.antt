@@ -4,7 +4,7 @@ use Rattle.std.proofs.lemmas.Result.{IfOk-weaker}
 use Rattle.aql_tree.specs.Tree.{ExprTree}
 use Rattle.aql_tree.specs.View.{tree}
 use Rattle.aql_rewrite.specs.ExprView.{lent}
-use Rattle.aql_passes.specs.Ends.{AllEnd}
+use Rattle.aql_passes.specs.inner.Ends.{AllEnd}
 use Rattle.aql_passes.proofs.expr_pass.ended_exprs.Goals as goal
 
 pub returns : goal.returns

@@ -2,7 +2,7 @@ use Rattle.std.proofs.Common.{◌*◌, ◌+◌, map, take}
 use Rattle.aql_tree.specs.View.{tree}
 use Rattle.aql_rewrite.specs.Size.{size, size_all}
 use Rattle.aql_rewrite.specs.ExprView.{lent}
-use Rattle.aql_passes.specs.Ends.{AllEnd}
+use Rattle.aql_passes.specs.inner.Ends.{AllEnd}
 use Rattle.aql_passes.proofs.exprs.+ends.Given as goal
 
 abbrev pub decreases-to_end : goal.decreases-to_end

@@ -12,7 +12,7 @@ use Rattle.aql_rewrite.specs.Placed.{IsPlaced}
 use Rattle.aql_rewrite.specs.View.{above_uses}
 use Rattle.aql_rewrite.specs.laws.Taken.{taken}
 use Rattle.aql_rewrite.specs.laws.Walk.{above_new, above_old, placed_inside, weight_body}
-use Rattle.aql_passes.specs.Finished.{IsRewritten, IsRewrittenHere}
+use Rattle.aql_passes.specs.inner.Finished.{IsRewritten, IsRewrittenHere}
 use Rattle.aql_passes.specs.laws.FirstRewritten.{start_rewritten, weight_taken, input_rewritten, input_back}
 use Rattle.aql_passes.specs.laws.FirstRewritten.{node_rewritten, top_rewritten, bare_stays, body_held}
 use Rattle.aql_passes.specs.laws.FirstRewritten.{body_rewritten, rewritten_seen}

@@ -11,7 +11,7 @@ use Rattle.aql_rewrite.specs.Placed.{IsPlaced}
 use Rattle.aql_rewrite.specs.View.{above_uses}
 use Rattle.aql_rewrite.specs.laws.Walk.{above_new, above_old}
 use Rattle.aql_rewrite.specs.laws.Taken.{taken}
-use Rattle.aql_passes.specs.Finished.{Finishes, IsRewrittenHere}
+use Rattle.aql_passes.specs.inner.Finished.{Finishes, IsRewrittenHere}
 use Rattle.aql_passes.specs.laws.Finishing.{work, work_below, start_finishes, input_reached}
 use Rattle.aql_passes.specs.laws.Finishing.{stayed_finishes, then_stepped, then_lower, then_finishes}
 use Rattle.aql_passes.specs.laws.Finishing.{finishes_seen}

@@ -5,7 +5,7 @@ use Rattle.aql_plan.specs.View.{plan_tree}
 use Rattle.aql_rewrite.specs.View.{above_uses}
 use Rattle.aql_rewrite.specs.laws.Walk.{placed_whole}
 use Rattle.aql_rewrite.specs.laws.PassSteps.{is_pass, pass_sound}
-use Rattle.aql_passes.specs.Finished.{Finishes}
+use Rattle.aql_passes.specs.inner.Finished.{Finishes}
 use Rattle.aql_passes.proofs.part_pass.run_part_pass.Goals as goal
 
 pub settle-requires : goal.settle-requires

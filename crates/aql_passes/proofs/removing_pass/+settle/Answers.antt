@@ -12,7 +12,7 @@ use Rattle.aql_rewrite.specs.Renames.{over_each}
 use Rattle.aql_rewrite.specs.laws.RenamedPlans.{placed_plain}
 use Rattle.aql_rewrite.specs.laws.Walk.{placed_inside}
 use Rattle.aql_rewrite.specs.laws.Taken.{taken}
-use Rattle.aql_passes.specs.Removed.{Removes}
+use Rattle.aql_passes.specs.inner.Removed.{Removes}
 use Rattle.aql_passes.specs.laws.Removing.{body_of, body_within, way_weight, start_removes, input_reached}
 use Rattle.aql_passes.specs.laws.Removing.{input_ended, then_inside, then_gone, bare_removes, body_removes}
 use Rattle.aql_passes.specs.laws.Removing.{stays_placed}

@@ -1,6 +1,6 @@
 use Rattle.std.proofs.Common.{drop}
 use Rattle.std.specs.Prelude.{◌↔◌}
-use Rattle.aql_plan_check.specs.Sameness.{AreAttributes}
+use Rattle.aql_plan_check.specs.inner.Sameness.{AreAttributes}
 use Rattle.aql_plan_check.proofs.equality.are_attributes.Given as goal
 
 abbrev pub invariant-loop-i : goal.invariant-loop-i

@@ -1,7 +1,7 @@
 use Rattle.std.proofs.Common.{map, drop}
 use Rattle.std.specs.Prelude.{◌↔◌}
 use Rattle.aql_tree.specs.View.{let_part}
-use Rattle.aql_plan_check.specs.Sameness.{LetsSame}
+use Rattle.aql_plan_check.specs.inner.Sameness.{LetsSame}
 use Rattle.aql_plan_check.proofs.equality.same_lets.Given as goal
 
 abbrev pub invariant-loop-i : goal.invariant-loop-i

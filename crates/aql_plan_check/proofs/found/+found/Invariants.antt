@@ -1,8 +1,8 @@
 use Rattle.std.proofs.Common.{map, drop}
 use Rattle.std.specs.Prelude.{◌↔◌}
 use Rattle.aql_tree.specs.View.{tree, trees, member_part, members, step_part, steps, link_part, links}
-use Rattle.aql_plan_check.specs.Findings.{AllFind, MembersFind, StepsFind, LinksFind}
-use Rattle.aql_plan_check.specs.Rows.{variables}
+use Rattle.aql_plan_check.specs.inner.Findings.{AllFind, MembersFind, StepsFind, LinksFind}
+use Rattle.aql_plan_check.specs.inner.Rows.{variables}
 use Rattle.aql_plan_check.proofs.found.+found.Given as goal
 
 abbrev pub invariant-all_find-loop-expr : goal.invariant-all_find-loop-expr

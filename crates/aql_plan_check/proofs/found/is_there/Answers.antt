@@ -1,6 +1,6 @@
 use Rattle.std.proofs.Common.{◌∙◌, ap, sym, true≢false}
 use Rattle.aql_tree.specs.declared.syntax.Ident.{Ident}
-use Rattle.aql_plan_check.specs.Rows.{variables}
+use Rattle.aql_plan_check.specs.inner.Rows.{variables}
 use Rattle.aql_plan_check.proofs.SameVariables.{any_of, any_variables, no_name}
 use Rattle.aql_plan_check.proofs.found.is_there.Goals as goal
 

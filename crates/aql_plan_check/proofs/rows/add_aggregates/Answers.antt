@@ -4,7 +4,7 @@ use Rattle.aql_tree.specs.declared.syntax.Ident.{Ident}
 use Rattle.aql_tree.specs.declared.syntax.AggregateItem.{AggregateItem}
 use Rattle.aql_tree.specs.View.{aggregate_part, aggregates as aggregate_trees}
 use Rattle.aql_meaning.specs.Visible.{aggregate_vars}
-use Rattle.aql_plan_check.specs.Rows.{AreNumbers}
+use Rattle.aql_plan_check.specs.inner.Rows.{AreNumbers}
 use Rattle.aql_plan_check.proofs.SameVariables.{adds_next}
 use Rattle.aql_plan_check.proofs.Tests.{left}
 use Rattle.aql_plan_check.proofs.rows.add_aggregates.Goals as goal

@@ -1,7 +1,7 @@
 use Rattle.std.proofs.Common.{map, drop}
 use Rattle.aql_tree.specs.View.{aggregates as aggregate_trees, aggregate_part}
 use Rattle.aql_meaning.specs.Visible.{aggregate_vars}
-use Rattle.aql_plan_check.specs.Rows.{AreNumbers}
+use Rattle.aql_plan_check.specs.inner.Rows.{AreNumbers}
 use Rattle.aql_plan_check.proofs.SameVariables.{AddsLeft}
 use Rattle.aql_plan_check.proofs.rows.add_aggregates.Given as goal
 

@@ -3,7 +3,7 @@ use Rattle.std.proofs.Common.{ap, subst, List, map, drop, ◌+◌}
 use Rattle.aql_tree.specs.declared.syntax.Ident.{Ident}
 use Rattle.aql_tree.specs.declared.syntax.Let.{Let}
 use Rattle.aql_tree.specs.View.{let_part}
-use Rattle.aql_plan_check.specs.Rows.{AreNumbers}
+use Rattle.aql_plan_check.specs.inner.Rows.{AreNumbers}
 use Rattle.aql_plan_check.proofs.SameVariables.{adds_next}
 use Rattle.aql_plan_check.proofs.Tests.{left}
 use Rattle.aql_plan_check.proofs.rows.add_groups.Goals as goal

@@ -1,6 +1,6 @@
 use Rattle.std.proofs.Common.{map, drop}
 use Rattle.aql_tree.specs.View.{let_part}
-use Rattle.aql_plan_check.specs.Rows.{AreNumbers}
+use Rattle.aql_plan_check.specs.inner.Rows.{AreNumbers}
 use Rattle.aql_plan_check.proofs.SameVariables.{AddsLeft}
 use Rattle.aql_plan_check.proofs.rows.add_groups.Given as goal
 

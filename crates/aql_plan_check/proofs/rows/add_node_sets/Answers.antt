@@ -8,7 +8,7 @@ use Rattle.aql_plan.specs.declared.plan.Node.{Node}
 use Rattle.aql_plan.specs.Needs.{sets}
 use Rattle.aql_plan.specs.View.{node_tree}
 use Rattle.aql_plan_laws.specs.laws.Carried.{all_parts}
-use Rattle.aql_plan_check.specs.Rows.{AreNumbers, IsNum}
+use Rattle.aql_plan_check.specs.inner.Rows.{AreNumbers, IsNum}
 use Rattle.aql_plan_check.proofs.rows.add_node_sets.Goals as goal
 
 pub add_collected-requires-clause-all : goal.add_collected-requires-clause-all

@@ -1,6 +1,6 @@
 use Rattle.std.proofs.Common.{◌≡◌, ◌≤◌, drop, length, true}
 use Rattle.aql_plan.specs.Variables.{are_distinct}
-use Rattle.aql_plan_check.specs.Rows.{variables, Same}
+use Rattle.aql_plan_check.specs.inner.Rows.{variables, Same}
 use Rattle.aql_plan_check.proofs.sets.no_duplicates.Given as goal
 
 abbrev pub invariant-loop-at : goal.invariant-loop-at

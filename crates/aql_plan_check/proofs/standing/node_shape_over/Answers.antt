@@ -6,8 +6,8 @@ use Rattle.aql_tree.specs.declared.syntax.AggregateItem.{AggregateItem}
 use Rattle.aql_tree.specs.View.{into_part, into_tree}
 use Rattle.aql_plan.specs.declared.plan.Node.{Node}
 use Rattle.aql_plan.specs.View.{node_tree}
-use Rattle.aql_plan_check.specs.Standing.{MayStand, next}
-use Rattle.aql_plan_check.specs.View.{collect_of, shape_of}
+use Rattle.aql_plan_check.specs.inner.Standing.{MayStand, next}
+use Rattle.aql_plan_check.specs.inner.View.{collect_of, shape_of}
 use Rattle.aql_plan_check.proofs.Collected.{Stood, collected}
 use Rattle.aql_plan_check.proofs.standing.node_shape_over.Goals as goal
 

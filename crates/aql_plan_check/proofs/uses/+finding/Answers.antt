@@ -6,7 +6,7 @@ use Rattle.aql_plan.specs.Plan.{Plan, Over, Node, top}
 use Rattle.aql_plan.specs.Variables.{FindsAll, input_uses, filter_uses, are_among}
 use Rattle.aql_plan.specs.View.{plan_tree}
 use Rattle.aql_rewrite.specs.laws.Walk.{weight_below}
-use Rattle.aql_plan_check.specs.Rows.{variables, ResultNumbered, Finds}
+use Rattle.aql_plan_check.specs.inner.Rows.{variables, ResultNumbered, Finds}
 use Rattle.aql_plan_check.proofs.Finding.{at_plan, lost_below, lost_input, lost_body, found_over, as_result, result_found, kept_is, gives_rows}
 use Rattle.aql_plan_check.proofs.Tests.{same_test}
 use Rattle.aql_plan_check.proofs.UsesFound.{input_found, filter_found}

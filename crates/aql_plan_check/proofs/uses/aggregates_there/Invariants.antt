@@ -2,8 +2,8 @@ use Rattle.std.proofs.Common.{map, drop}
 use Rattle.std.specs.Prelude.{◌↔◌}
 use Rattle.aql_tree.specs.View.{aggregates as aggregate_trees, aggregate_part}
 use Rattle.aql_meaning.specs.Visible.{aggregate_vars}
-use Rattle.aql_plan_check.specs.Findings.{AreAmong}
-use Rattle.aql_plan_check.specs.Rows.{variables}
+use Rattle.aql_plan_check.specs.inner.Findings.{AreAmong}
+use Rattle.aql_plan_check.specs.inner.Rows.{variables}
 use Rattle.aql_plan_check.proofs.uses.aggregates_there.Given as goal
 
 abbrev pub invariant-loop-aggregate : goal.invariant-loop-aggregate

@@ -4,7 +4,7 @@ use Rattle.std.proofs.lemmas.Grind.{common_steps}
 use Rattle.std.specs.Prelude.{bytes_eq}
 use Rattle.std.specs.Cmp.Lexicographic.{pointwise}
 use Rattle.aql_tree.specs.View.{tree, member_part, step_part, link_part}
-use Rattle.aql_rewrite.specs.Same.{same_expr, same_member, same_step, same_link}
+use Rattle.aql_rewrite.specs.inner.Same.{same_expr, same_member, same_step, same_link}
 use Rattle.aql_rewrite.proofs.Compared.{lists_compared, objects_compared, accesses_compared, calls_compared}
 use Rattle.aql_rewrite.proofs.Compared.{chains_compared}
 use Rattle.aql_rewrite.proofs.equality.+equality.Goals as goal

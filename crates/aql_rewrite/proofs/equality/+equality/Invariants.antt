@@ -1,7 +1,7 @@
 use Rattle.std.proofs.Common.{◌≡◌, map, drop}
 use Rattle.std.specs.Cmp.Lexicographic.{pointwise}
 use Rattle.aql_tree.specs.View.{tree, member_part, step_part, link_part}
-use Rattle.aql_rewrite.specs.Same.{same_expr, same_member, same_step, same_link}
+use Rattle.aql_rewrite.specs.inner.Same.{same_expr, same_member, same_step, same_link}
 use Rattle.aql_rewrite.proofs.equality.+equality.Given as goal
 
 abbrev pub invariant-same_exprs-loop-i : goal.invariant-same_exprs-loop-i

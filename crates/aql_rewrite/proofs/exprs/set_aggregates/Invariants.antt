@@ -1,6 +1,6 @@
 use Rattle.aql_tree.specs.View.{tree, aggregate_part}
 use Rattle.std.proofs.Common.{map}
-use Rattle.aql_rewrite.specs.NodeViews.{aggregates_over, after_each_aggregate}
+use Rattle.aql_rewrite.specs.inner.NodeViews.{aggregates_over, after_each_aggregate}
 use Rattle.aql_rewrite.proofs.InPlace.{Goes}
 use Rattle.aql_rewrite.proofs.exprs.set_aggregates.Given as goal
 

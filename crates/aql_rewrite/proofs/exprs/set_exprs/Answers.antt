@@ -6,7 +6,7 @@ use Rattle.aql_meaning.specs.View.{last_tree}
 use Rattle.aql_plan.specs.View.{node_tree}
 use Rattle.aql_rewrite.specs.ExprView.{option_over}
 use Rattle.aql_rewrite.specs.NodeExprs.{over_last, after_last}
-use Rattle.aql_rewrite.specs.NodeViews.{aggregates_over, after_each_aggregate, into_over}
+use Rattle.aql_rewrite.specs.inner.NodeViews.{aggregates_over, after_each_aggregate, into_over}
 use Rattle.aql_rewrite.proofs.NodeForms.{sort_form, gather_form, distribute_form, index_form, collect_form}
 use Rattle.aql_rewrite.proofs.exprs.set_exprs.Goals as goal
 

@@ -1,6 +1,6 @@
 use Rattle.aql_tree.specs.View.{tree, let_part}
 use Rattle.std.proofs.Common.{map}
-use Rattle.aql_rewrite.specs.NodeViews.{lets_over, after_each}
+use Rattle.aql_rewrite.specs.inner.NodeViews.{lets_over, after_each}
 use Rattle.aql_rewrite.proofs.InPlace.{Goes}
 use Rattle.aql_rewrite.proofs.exprs.set_groups.Given as goal
 

@@ -1,7 +1,7 @@
 use Rattle.std.proofs.Common.{◌∙◌, ◌∷◌, refl, ap, ap₂, map, sym}
 use Rattle.aql_tree.specs.View.{tree}
 use Rattle.aql_rewrite.specs.ExprView.{each_over}
-use Rattle.aql_rewrite.specs.NodeViews.{after_each}
+use Rattle.aql_rewrite.specs.inner.NodeViews.{after_each}
 use Rattle.aql_rewrite.proofs.InPlace.{begun, one_set, all_set, none_left}
 use Rattle.aql_rewrite.proofs.exprs.set_list.Goals as goal
 

@@ -1,7 +1,7 @@
 use Rattle.aql_tree.specs.View.{tree}
 use Rattle.std.proofs.Common.{map}
 use Rattle.aql_rewrite.specs.ExprView.{each_over}
-use Rattle.aql_rewrite.specs.NodeViews.{after_each}
+use Rattle.aql_rewrite.specs.inner.NodeViews.{after_each}
 use Rattle.aql_rewrite.proofs.InPlace.{Goes}
 use Rattle.aql_rewrite.proofs.exprs.set_list.Given as goal
 

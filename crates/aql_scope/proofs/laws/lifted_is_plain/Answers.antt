@@ -1,4 +1,4 @@
-use Rattle.aql_scope.proofs.Walk.{walked, scoped_is_lifted}
+use Rattle.aql_scope.specs.laws.Walk.{walked, scoped_is_lifted}
 use Rattle.aql_scope.proofs.laws.lifted_is_plain.Goals as goal
 
 pub returns : goal.returns

@@ -1,4 +1,4 @@
-use Rattle.aql_scope.proofs.Walk.{walked_query, are_numbers}
+use Rattle.aql_scope.specs.laws.Walk.{walked_query, are_numbers}
 use Rattle.aql_scope.proofs.laws.scoped_is_numbered.Goals as goal
 
 pub returns : goal.returns

@@ -1,7 +1,7 @@
 use Rattle.std.proofs.Common.{◌≡◌, ◌<◌, ◌+◌, [], inl, inr, sym, ap, ◌∙◌, arith, subst, length}
 use Rattle.std.specs.Prelude.{Result}
 use Rattle.aql_script.specs.Lines.{next, query, fault, with_query}
-use Rattle.aql_script.specs.Meets.{Meets}
+use Rattle.aql_script.specs.inner.Meets.{Meets}
 use Rattle.aql_script.specs.LineEffects.{line_effect}
 use Rattle.aql_script.specs.declared.loading.Loaded.{Loaded}
 use Rattle.aql_script.specs.declared.faults.LoadFault.{LoadFault}

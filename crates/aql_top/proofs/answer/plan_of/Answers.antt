@@ -3,7 +3,7 @@ use Rattle.aql_tree.specs.View.{query_tree}
 use Rattle.aql_plan.specs.View.{plan_tree}
 use Rattle.aql_top.specs.Reading.{IsWritten, IsScoped}
 use Rattle.aql_plan.specs.WellFormed.{IsWellFormed}
-use Rattle.aql_engine.proofs.Fragments.{no_fragment}
+use Rattle.aql_engine.specs.laws.Fragments.{no_fragment}
 use Rattle.aql_top.proofs.ChosenExecutors.{chosen_kept}
 use Rattle.aql_top.proofs.Answering.{resolved, has_query, executors, is_chosen_plan, chosen_answers}
 use Rattle.aql_top.proofs.answer.plan_of.Goals as goal

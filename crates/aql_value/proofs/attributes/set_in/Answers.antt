@@ -1,8 +1,8 @@
 use Rattle.std.proofs.Common.{Ok, Err, refl, ap, ◌∙◌, subst}
-use Rattle.aql_value.specs.NameSearch.{IsSearchResult}
+use Rattle.aql_value.specs.inner.NameSearch.{IsSearchResult}
 use Rattle.aql_value.specs.Fields.{fields_in}
 use Rattle.aql_value.specs.declared.values.Member.{Member}
-use Rattle.aql_value.proofs.Kept.{replaced, inserted, named_at, place_within, place_up_to}
+use Rattle.aql_value.specs.laws.Kept.{replaced, inserted, named_at, place_within, place_up_to}
 use Rattle.aql_value.proofs.attributes.set_in.Goals as goal
 
 pub returns-in-Ok-clause-ok : goal.returns-in-Ok-clause-ok

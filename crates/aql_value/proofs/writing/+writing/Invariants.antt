@@ -3,7 +3,7 @@ use Rattle.aql_value.specs.Datum.{array, object, array_of, object_of}
 use Rattle.aql_value.specs.View.{datums_in}
 use Rattle.aql_value.specs.Fields.{fields_in}
 use Rattle.aql_value.specs.Json.{json_text, items_text, fields_text}
-use Rattle.aql_value.specs.Writes.{Extends}
+use Rattle.aql_value.specs.inner.Writes.{Extends}
 use Rattle.aql_value.proofs.writing.+writing.Given as goal
 
 abbrev pub invariant-write_items-loop-i : goal.invariant-write_items-loop-i

@@ -1,6 +1,6 @@
 use Rattle.std.proofs.Common.{◌≡◌, ◌++◌, ◌∷◌, [], drop}
 use Rattle.json.specs.Print.{quoted, escape}
-use Rattle.aql_value.specs.Writes.{Extends}
+use Rattle.aql_value.specs.inner.Writes.{Extends}
 use Rattle.aql_value.proofs.writing.write_quoted.Given as goal
 
 abbrev pub invariant-loop-b : goal.invariant-loop-b

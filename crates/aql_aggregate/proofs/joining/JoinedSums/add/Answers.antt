@@ -6,7 +6,7 @@ use Rattle.aql_value.specs.View.{datum_of}
 use Rattle.aql_func.specs.Arguments.{argument}
 use Rattle.aql_func.specs.Aggregates.{part_at}
 use Rattle.aql_aggregate.specs.Joined.{Adds, CountsJoin}
-use Rattle.aql_aggregate.proofs.AnyStates.{one_marked, part_more}
+use Rattle.aql_aggregate.specs.laws.AnyStates.{one_marked, part_more}
 use Rattle.aql_aggregate.proofs.joining.JoinedSums.add.Goals as goal
 
 pub returns : goal.returns

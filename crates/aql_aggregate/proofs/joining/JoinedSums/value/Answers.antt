@@ -6,7 +6,7 @@ use mir.Val.{to_z, of_z}
 use Rattle.aql_value.specs.Convert.{number_or_null}
 use Rattle.aql_value.specs.View.{datum_of}
 use Rattle.aql_func.specs.Aggregates.{is_null, part_at}
-use Rattle.aql_aggregate.proofs.AnyStates.{spoilt_is, sums_value}
+use Rattle.aql_aggregate.specs.laws.AnyStates.{spoilt_is, sums_value}
 use Rattle.aql_aggregate.proofs.joining.JoinedSums.value.Goals as goal
 
 pub returns : goal.returns

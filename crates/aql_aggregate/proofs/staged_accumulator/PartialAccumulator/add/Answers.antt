@@ -1,7 +1,7 @@
 use Rattle.std.proofs.Common.{[], ◌∷◌, refl}
 use Rattle.aql_value.specs.View.{datum_of}
 use Rattle.aql_func.specs.Aggregates.{min, max, sorted_unique}
-use Rattle.aql_aggregate.proofs.Alike.{least_more, greatest_more, unique_more}
+use Rattle.aql_aggregate.specs.laws.Alike.{least_more, greatest_more, unique_more}
 use Rattle.aql_aggregate.proofs.staged_accumulator.PartialAccumulator.add.Goals as goal
 
 pub returns-in_ok-add-in-Min-clause-keeps : goal.returns-in_ok-add-in-Min-clause-keeps

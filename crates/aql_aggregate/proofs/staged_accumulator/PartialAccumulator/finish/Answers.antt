@@ -1,6 +1,6 @@
 use Rattle.aql_value.specs.View.{datum_of}
 use Rattle.aql_func.specs.Aggregates.{sorted_unique}
-use Rattle.aql_aggregate.proofs.Alike.{distinct_counted}
+use Rattle.aql_aggregate.specs.laws.Alike.{distinct_counted}
 use Rattle.aql_aggregate.proofs.staged_accumulator.PartialAccumulator.finish.Goals as goal
 
 pub returns-in_ok-finish-in-CountDistinct : goal.returns-in_ok-finish-in-CountDistinct

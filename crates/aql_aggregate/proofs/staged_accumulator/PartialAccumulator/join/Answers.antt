@@ -1,7 +1,7 @@
 use Rattle.aql_value.specs.Contents.{elements}
 use Rattle.aql_value.specs.View.{datum_of}
 use Rattle.aql_func.specs.Aggregates.{min, max, sorted_unique}
-use Rattle.aql_aggregate.proofs.Alike.{least_more, greatest_more, unique_more, least_of_state, greatest_of_state, members_of_state}
+use Rattle.aql_aggregate.specs.laws.Alike.{least_more, greatest_more, unique_more, least_of_state, greatest_of_state, members_of_state}
 use Rattle.aql_aggregate.proofs.staged_accumulator.PartialAccumulator.join.Goals as goal
 
 pub returns-in_ok-add_elements-in-Min-clause-keeps : goal.returns-in_ok-add_elements-in-Min-clause-keeps

@@ -1,6 +1,6 @@
 use Rattle.aql_value.specs.View.{datum_of}
 use Rattle.aql_func.specs.Aggregates.{min, max}
-use Rattle.aql_aggregate.proofs.Alike.{least_state, greatest_state}
+use Rattle.aql_aggregate.specs.laws.Alike.{least_state, greatest_state}
 use Rattle.aql_aggregate.proofs.staged_accumulator.PartialAccumulator.state.Goals as goal
 
 pub returns-in_ok-at_most_one-in-Min : goal.returns-in_ok-at_most_one-in-Min

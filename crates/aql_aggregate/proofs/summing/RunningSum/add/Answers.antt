@@ -6,9 +6,9 @@ use mir.Val.{to_z, of_z}
 use Rattle.std.proofs.lemmas.Int.{ints}
 use Rattle.aql_value.specs.View.{datum_of}
 use Rattle.aql_func.specs.Aggregates.{is_bad, is_number, exact_sum}
-use Rattle.aql_aggregate.proofs.Sums.{numbers_append}
-use Rattle.aql_func.proofs.Sums.{bad_push, wider}
-use Rattle.aql_aggregate.proofs.Marks.{unmarked, not_saturated}
+use Rattle.aql_aggregate.specs.laws.Sums.{numbers_append}
+use Rattle.aql_func.specs.laws.Sums.{bad_push, wider}
+use Rattle.aql_aggregate.specs.laws.Marks.{unmarked, not_saturated}
 use Rattle.aql_aggregate.proofs.summing.RunningSum.add.Goals as goal
 
 pub returns-in-Num : goal.returns-in-Num

@@ -9,9 +9,9 @@ use Rattle.aql_value.specs.Truth.{truth}
 use Rattle.aql_value.specs.View.{datum_of}
 use Rattle.aql_func.specs.Arguments.{argument}
 use Rattle.aql_func.specs.Aggregates.{is_bad, is_number, exact_sum}
-use Rattle.aql_aggregate.proofs.Totals.{any_append}
-use Rattle.aql_aggregate.proofs.Formed.{within}
-use Rattle.aql_aggregate.proofs.Sums.{numbers_append, opened, four, item_at, numbers_of, total_joined}
+use Rattle.aql_aggregate.specs.laws.Totals.{any_append}
+use Rattle.aql_aggregate.specs.laws.Formed.{within}
+use Rattle.aql_aggregate.specs.laws.Sums.{numbers_append, opened, four, item_at, numbers_of, total_joined}
 use Rattle.aql_aggregate.proofs.summing.RunningSum.join.Goals as goal
 
 pub returns-in_default-as_slice : goal.returns-in_default-as_slice

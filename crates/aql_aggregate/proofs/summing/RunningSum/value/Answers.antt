@@ -1,6 +1,6 @@
 use Rattle.std.proofs.Common.{ap, ◌∙◌, not}
 use Rattle.aql_value.specs.View.{datum_of}
-use Rattle.aql_aggregate.proofs.Sums.{value_is}
+use Rattle.aql_aggregate.specs.laws.Sums.{value_is}
 use Rattle.aql_aggregate.proofs.summing.RunningSum.value.Goals as goal
 
 pub returns : goal.returns

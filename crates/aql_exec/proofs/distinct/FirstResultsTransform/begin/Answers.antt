@@ -3,7 +3,7 @@ use Rattle.aql_value.specs.View.{datums_in}
 use Rattle.aql_tree.specs.View.{tree}
 use Rattle.aql_block.specs.Tables.{rows_of}
 use Rattle.aql_block.specs.Rows.{row_of}
-use Rattle.aql_exec.proofs.Firsts.{returns_firsts}
+use Rattle.aql_exec.specs.laws.Firsts.{returns_firsts}
 use Rattle.aql_exec.proofs.distinct.FirstResultsTransform.begin.Goals as goal
 
 pub returns-clause-left : goal.returns-clause-left

@@ -5,7 +5,7 @@ use Rattle.aql_block.specs.Tables.{rows_of}
 use Rattle.aql_exec.specs.Counting.{nothing}
 use Rattle.aql_exec.specs.FirstResults.{shown}
 use Rattle.aql_exec.proofs.Keeping.{both_ok, cut}
-use Rattle.aql_exec.proofs.Firsts.{front_results, shown_fewer}
+use Rattle.aql_exec.specs.laws.Firsts.{front_results, shown_fewer}
 use Rattle.aql_exec.proofs.distinct.FirstResultsTransform.next.Goals as goal
 
 pub returns-clause-left : goal.returns-clause-left

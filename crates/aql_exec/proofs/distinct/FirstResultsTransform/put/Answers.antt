@@ -1,7 +1,7 @@
 use Rattle.aql_value.specs.View.{datums_in}
 use Rattle.aql_tree.specs.View.{tree}
 use Rattle.aql_block.specs.Tables.{rows_of}
-use Rattle.aql_exec.proofs.Firsts.{put_results}
+use Rattle.aql_exec.specs.laws.Firsts.{put_results}
 use Rattle.aql_exec.proofs.distinct.FirstResultsTransform.put.Goals as goal
 
 pub returns-clause-left : goal.returns-clause-left

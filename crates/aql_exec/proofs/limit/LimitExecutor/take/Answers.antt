@@ -3,7 +3,7 @@ use Rattle.std.proofs.lemmas.List.{nil_from_length}
 use mathlib.Core.Bool.{false≢true}
 use Rattle.aql_block.specs.Tables.{rows_of}
 use Rattle.aql_block.specs.declared.calls.Call.{Call}
-use Rattle.aql_exec.proofs.Telling.{only_input}
+use Rattle.aql_exec.specs.laws.Telling.{only_input}
 use Rattle.aql_exec.proofs.Limited.{limit_taken}
 use Rattle.aql_exec.proofs.Asking.{same_follows, not_true}
 use Rattle.aql_exec.proofs.limit.LimitExecutor.take.Goals as goal

@@ -4,7 +4,7 @@ use Rattle.aql_block.specs.Tables.{rows_of}
 use Rattle.aql_block.specs.declared.calls.Call.{Call}
 use Rattle.aql_block.specs.declared.calls.Progress.TheVariants.{Done}
 use Rattle.aql_exec.specs.Counting.{nothing}
-use Rattle.aql_exec.proofs.Telling.{rises_none, ahead_none, led_none, no_other, only_port}
+use Rattle.aql_exec.specs.laws.Telling.{rises_none, ahead_none, led_none, no_other, only_port}
 use Rattle.aql_exec.proofs.Limited.{limit_told}
 use Rattle.aql_exec.proofs.Asking.{not_true}
 use Rattle.aql_exec.proofs.Answering.{came_of, enough_left, answers_of, either, either_of, zero_or, all_given, none_more, none_in, same_limits}

@@ -1,7 +1,7 @@
 use Rattle.std.proofs.Common.{◌≡◌, false}
 use Rattle.aql_block.specs.Tables.{rows_of}
-use Rattle.aql_exec.proofs.Telling.{only_input}
-use Rattle.aql_exec.proofs.Handing.{taken}
+use Rattle.aql_exec.specs.laws.Telling.{only_input}
+use Rattle.aql_exec.specs.laws.Handing.{taken}
 use Rattle.aql_exec.proofs.mapped.MappedExecutor.take.Goals as goal
 
 pub returns-clause-leads : goal.returns-clause-leads

@@ -5,8 +5,8 @@ use Rattle.aql_block.specs.Tables.{rows_of}
 use Rattle.aql_block.specs.declared.calls.Call.{Call}
 use Rattle.aql_block.specs.declared.calls.Progress.TheVariants.{Done}
 use Rattle.aql_exec.specs.Counting.{nothing}
-use Rattle.aql_exec.proofs.Telling.{rises_none, ahead_none, led_none, no_other, only_port}
-use Rattle.aql_exec.proofs.Handing.{handed, same_images}
+use Rattle.aql_exec.specs.laws.Telling.{rises_none, ahead_none, led_none, no_other, only_port}
+use Rattle.aql_exec.specs.laws.Handing.{handed, same_images}
 use Rattle.aql_exec.proofs.mapped.MappedExecutor.turn.Goals as goal
 
 pub returns-then-self-clause-leads : goal.returns-then-self-clause-leads

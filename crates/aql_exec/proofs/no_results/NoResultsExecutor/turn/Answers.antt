@@ -2,7 +2,7 @@ use Rattle.std.proofs.Common.{[], refl, ap}
 use Rattle.aql_block.specs.Tables.{rows_of}
 use Rattle.aql_block.specs.declared.calls.Progress.TheVariants.{Done}
 use Rattle.aql_exec.specs.Counting.{nothing}
-use Rattle.aql_exec.proofs.Telling.{rises_none, led_none, no_other}
+use Rattle.aql_exec.specs.laws.Telling.{rises_none, led_none, no_other}
 use Rattle.aql_exec.proofs.no_results.NoResultsExecutor.turn.Goals as goal
 
 pub returns-clause-leads : goal.returns-clause-leads

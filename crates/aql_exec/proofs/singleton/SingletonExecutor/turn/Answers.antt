@@ -5,7 +5,7 @@ use Rattle.aql_block.specs.Tables.{rows_of}
 use Rattle.aql_block.specs.declared.calls.Progress.TheVariants.{Done}
 use Rattle.aql_exec.specs.Counting.{nothing}
 use Rattle.aql_exec.specs.Leaves.{held_row}
-use Rattle.aql_exec.proofs.Telling.{rises_none, all_told, no_other}
+use Rattle.aql_exec.specs.laws.Telling.{rises_none, all_told, no_other}
 use Rattle.aql_exec.proofs.singleton.SingletonExecutor.turn.Goals as goal
 
 pub returns-in_default-clause-leads : goal.returns-in_default-clause-leads

@@ -1,7 +1,7 @@
 use Rattle.std.proofs.Common.{◌++◌, [], refl, sym, ◌∙◌, subst, arith}
 use Rattle.std.proofs.lemmas.List.{nil_from_length}
 use Rattle.aql_block.specs.Tables.{rows_of}
-use Rattle.aql_exec.proofs.Telling.{only_input}
+use Rattle.aql_exec.specs.laws.Telling.{only_input}
 use Rattle.aql_exec.proofs.Advancing.{put_adding}
 use Rattle.aql_exec.proofs.stream.StreamExecutor.take.Goals as goal
 

@@ -5,7 +5,7 @@ use Rattle.aql_func.specs.Lists.{sort_values}
 use Rattle.aql_meaning.specs.Groups.{GroupedRow}
 use Rattle.aql_block.specs.Tables.{rows_of}
 use Rattle.aql_exec.specs.Rests.{Rest, Ahead}
-use Rattle.aql_exec.proofs.Telling.{only_input}
+use Rattle.aql_exec.specs.laws.Telling.{only_input}
 use Rattle.aql_exec_rows.specs.GroupStates.{seen, Holds, finished_in, result_of}
 use Rattle.aql_exec_rows.specs.Collecting.{GivesOver}
 use Rattle.aql_exec_rows.specs.declared.groups.Groups.{Groups}

@@ -3,7 +3,7 @@ use Rattle.std.proofs.lemmas.List.{nil_from_length}
 use mathlib.Core.Bool.{false≢true}
 use Rattle.aql_exec.specs.Steps.{IsCall}
 use Rattle.aql_exec.specs.Counting.{nothing}
-use Rattle.aql_exec.proofs.Telling.{rises_none, ahead_none, no_other}
+use Rattle.aql_exec.specs.laws.Telling.{rises_none, ahead_none, no_other}
 use Rattle.aql_exec_rows.proofs.Telling.{still, rows_given, none_left}
 use Rattle.aql_exec_rows.proofs.collect.CollectExecutor.turn.Goals as goal
 

@@ -1,8 +1,8 @@
 use Rattle.std.proofs.Common.{◌∙◌, Some, not, option_map, refl, ap, sym, subst}
 use Rattle.std.proofs.lemmas.Option.{slice_get-map}
 use Rattle.aql_value.specs.View.{datum_of, datums_in}
-use Rattle.aql_func.proofs.Firsts.{any_tree, keys_noted, same_is}
-use Rattle.aql_exec.proofs.Firsts.{is_new, is_old}
+use Rattle.aql_func.specs.laws.Firsts.{any_tree, keys_noted, same_is}
+use Rattle.aql_exec.specs.laws.Firsts.{is_new, is_old}
 use Rattle.aql_exec_rows.specs.GroupStates.{Grows}
 use Rattle.aql_exec_rows.proofs.groups.Groups.group_index.Goals as goal
 

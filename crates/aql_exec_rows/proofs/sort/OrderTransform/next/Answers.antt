@@ -1,7 +1,7 @@
 use Rattle.std.proofs.Common.{◌∙◌, ◌≤◌, length, reverse, ap, sym, subst, arith, length-append}
 use Rattle.aql_block.specs.Tables.{rows_of}
 use Rattle.aql_exec.specs.Counting.{nothing}
-use Rattle.aql_exec.proofs.Telling.{rises_none}
+use Rattle.aql_exec.specs.laws.Telling.{rises_none}
 use Rattle.aql_exec_rows.specs.Keys.{keyed_in, rows_alone}
 use Rattle.aql_exec_rows.specs.Sorting.{AreFew}
 use Rattle.aql_exec_rows.proofs.Joining.{none_ahead, front_leaves, row_count, fewer_few, if_ok, both_on_ok}

@@ -1,7 +1,7 @@
 use Rattle.std.proofs.Common.{◌≡◌, ◌∙◌, ◌-◌, ◌++◌, [], length, drop, reverse, refl, ap, sym, subst, arith, length-drop}
 use Rattle.std.proofs.lemmas.List.{length-take}
 use Rattle.aql_exec.specs.Counting.{nothing}
-use Rattle.aql_exec.proofs.Telling.{rises_none}
+use Rattle.aql_exec.specs.laws.Telling.{rises_none}
 use Rattle.aql_exec_rows.specs.declared.sort.Order.{Order}
 use Rattle.aql_exec_rows.specs.Keys.{keyed_in, rows_alone}
 use Rattle.aql_exec_rows.specs.Sorting.{AllHave}

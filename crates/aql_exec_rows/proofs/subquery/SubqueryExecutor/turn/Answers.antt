@@ -9,7 +9,7 @@ use Rattle.aql_block.specs.Tables.{rows_of}
 use Rattle.aql_exec.specs.Steps.{IsCall}
 use Rattle.aql_exec.specs.Counting.{nothing}
 use Rattle.aql_exec.specs.Operators.{Produces}
-use Rattle.aql_exec.proofs.Telling.{ahead_none, no_other, rises_none}
+use Rattle.aql_exec.specs.laws.Telling.{ahead_none, no_other, rises_none}
 use Rattle.aql_exec_rows.specs.Subqueries.{Leaves, room_of}
 use Rattle.aql_exec_rows.specs.laws.SomeArrays.{not_one}
 use Rattle.aql_exec_rows.proofs.Arrays.{still, rows_given, body_begun, none_left, passed, room_begun}

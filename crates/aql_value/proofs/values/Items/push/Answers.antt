@@ -1,4 +1,4 @@
-use Rattle.aql_value.proofs.Kept.{items_pushed}
+use Rattle.aql_value.specs.laws.Kept.{items_pushed}
 use Rattle.aql_value.proofs.values.Items.push.Goals as goal
 
 pub invariant_of-self-2 : goal.invariant_of-self-2

@@ -3,7 +3,7 @@ use Rattle.aql_value.specs.Datum.{object_of}
 use Rattle.aql_value.specs.View.{datum_of}
 use Rattle.aql_value.specs.Fields.{fields_in}
 use Rattle.aql_value.specs.WellFormed.{FieldsWellFormed}
-use Rattle.aql_value.proofs.Kept.{well_with, on_either}
+use Rattle.aql_value.specs.laws.Kept.{well_with, on_either}
 use Rattle.aql_value.proofs.values.Members.set.Goals as goal
 
 pub invariant_of-self : goal.invariant_of-self

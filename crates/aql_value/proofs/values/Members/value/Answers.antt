@@ -1,10 +1,10 @@
 use Rattle.std.proofs.Common.{Ok, Err, Some, sym, ap, ◌∙◌, subst}
-use Rattle.aql_value.specs.NameSearch.{IsSearchResult}
+use Rattle.aql_value.specs.inner.NameSearch.{IsSearchResult}
 use Rattle.aql_value.specs.Fields.{fields_in}
 use Rattle.aql_value.specs.View.{datum_of}
 use Rattle.aql_value.specs.Attributes.{attribute}
 use Rattle.aql_value.specs.declared.values.Member.{Member}
-use Rattle.aql_value.proofs.Kept.{attribute_at, attribute_absent, place_within}
+use Rattle.aql_value.specs.laws.Kept.{attribute_at, attribute_absent, place_within}
 use Rattle.aql_value.proofs.values.Members.value.Goals as goal
 
 pub returns-in-Ok : goal.returns-in-Ok

@@ -1,0 +1,12 @@
+pub mod Alike
+pub mod AnyStates
+pub mod Best
+pub mod Chosen
+pub mod Counts
+pub mod Formed
+pub mod Grouping
+pub mod Marks
+pub mod Members
+pub mod Order
+pub mod Sums
+pub mod Totals

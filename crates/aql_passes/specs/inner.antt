@@ -1,0 +1,4 @@
+pub mod Ends
+pub mod Finished
+pub mod Removed
+pub mod Settled

@@ -1,0 +1,2 @@
+pub mod SomeMerge
+pub mod SomeRun

@@ -1,0 +1,3 @@
+pub mod NameSearch
+pub mod Tokens
+pub mod Writes
