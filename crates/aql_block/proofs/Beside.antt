@@ -4,7 +4,7 @@ use Rattle.std.specs.Prelude.{Some, slice_get, slice_set, unwrap_or}
 use Rattle.std.specs.List.{AllByRecursion}
 use Rattle.aql_value.specs.Datum.{Datum, null}
 use Rattle.aql_block.specs.Tables.{marked}
-use Rattle.aql_block.specs.Columns.{Column, blanks, beside, rows_in, Fits, pushed, values_at, without, first_of, rest_of, marked_of}
+use Rattle.aql_block.specs.Columns.{ColumnView, blanks, beside, rows_in, Fits, pushed, values_at, without, first_of, rest_of, marked_of}
 
 pub length-blanks : (n : ℕ) → length (blanks n) ≡ n
 length-blanks zero = refl
@@ -18,7 +18,7 @@ length-beside (v ∷ vs) [] e = refl
 length-beside (v ∷ vs) (row ∷ rows) e = ap suc (length-beside vs rows (cc))
 
 -- columns of n values have n rows
-pub length-rows_in : (n room : ℕ) (cs : List Column) → AllByRecursion (Fits n room) cs
+pub length-rows_in : (n room : ℕ) (cs : List ColumnView) → AllByRecursion (Fits n room) cs
     → length (rows_in n cs) ≡ n
 length-rows_in n room [] h = length-blanks n
 length-rows_in n room (c ∷ cs) h =
@@ -39,7 +39,7 @@ beside_more [] (other ∷ rows) v row e = absurd (cc)
 beside_more (w ∷ vs) [] v row e = absurd (cc)
 beside_more (w ∷ vs) (other ∷ rows) v row e = ap (λ rest. (w ∷ other) ∷ rest) (beside_more vs rows v row (cc))
 
-pub rows_in-pushed : (n room : ℕ) (cs : List Column) (vs : List Datum) → AllByRecursion (Fits n room) cs
+pub rows_in-pushed : (n room : ℕ) (cs : List ColumnView) (vs : List Datum) → AllByRecursion (Fits n room) cs
     → length cs ≡ length vs → rows_in (suc n) (pushed cs vs) ≡ rows_in n cs ++ vs ∷ []
 rows_in-pushed n room [] [] h e = blanks_more n
 rows_in-pushed n room [] (v ∷ vs) h e = absurd (cc)
@@ -64,7 +64,7 @@ beside_at (v ∷ vs) [] row at e none_there = absurd (cc)
 beside_at (v ∷ vs) (other ∷ rows) row zero e h = ap (λ r. Some (v ∷ r)) (cc)
 beside_at (v ∷ vs) (other ∷ rows) row (suc at) e h = beside_at vs rows row at (cc) h
 
-pub row_in_at : (n room : ℕ) (cs : List Column) (at : ℕ) → AllByRecursion (Fits n room) cs → at < n
+pub row_in_at : (n room : ℕ) (cs : List ColumnView) (at : ℕ) → AllByRecursion (Fits n room) cs → at < n
     → slice_get (rows_in n cs) at ≡ Some (values_at cs at)
 row_in_at n room [] at h l = blank_at n at l
 row_in_at n room (c ∷ cs) at h l =
@@ -87,7 +87,7 @@ beside_set (w ∷ vs) (other ∷ rows) v row zero = refl
 beside_set (w ∷ vs) (other ∷ rows) v row (suc at) =
     ap (λ rest. (w ∷ other) ∷ rest) (beside_set vs rows v row at)
 
-pub rows_in-without : (n at : ℕ) (cs : List Column)
+pub rows_in-without : (n at : ℕ) (cs : List ColumnView)
     → rows_in n (map (without at) cs) ≡ slice_set (rows_in n cs) at (map (λ c. null) cs)
 rows_in-without n at [] = blank_set n at
 rows_in-without n at (c ∷ cs) =
@@ -110,7 +110,7 @@ beside_take (suc k) [] rows = refl
 beside_take (suc k) (v ∷ vs) [] = refl
 beside_take (suc k) (v ∷ vs) (row ∷ rows) = ap (λ rest. (v ∷ row) ∷ rest) (beside_take k vs rows)
 
-pub rows_in-first_of : (k n : ℕ) (cs : List Column)
+pub rows_in-first_of : (k n : ℕ) (cs : List ColumnView)
     → rows_in (min n k) (map (first_of k) cs) ≡ take k (rows_in n cs)
 rows_in-first_of k n [] = blank_take k n
 rows_in-first_of k n (c ∷ cs) =
@@ -134,7 +134,7 @@ beside_drop (suc k) [] rows = refl
 beside_drop (suc k) (v ∷ vs) [] = beside_none (drop k vs)
 beside_drop (suc k) (v ∷ vs) (row ∷ rows) = beside_drop k vs rows
 
-pub rows_in-rest_of : (k n : ℕ) (cs : List Column)
+pub rows_in-rest_of : (k n : ℕ) (cs : List ColumnView)
     → rows_in (n - k) (map (rest_of k) cs) ≡ drop k (rows_in n cs)
 rows_in-rest_of k n [] = blank_drop k n
 rows_in-rest_of k n (c ∷ cs) =
@@ -160,7 +160,7 @@ beside_marked (v ∷ vs) (row ∷ rows) (true ∷ marks) e =
     ap (λ rest. (v ∷ row) ∷ rest) (beside_marked vs rows marks (cc))
 beside_marked (v ∷ vs) (row ∷ rows) (false ∷ marks) e = beside_marked vs rows marks (cc)
 
-pub rows_in-marked_of : (n room : ℕ) (marks : List Bool) (cs : List Column)
+pub rows_in-marked_of : (n room : ℕ) (marks : List Bool) (cs : List ColumnView)
     → AllByRecursion (Fits n room) cs → length marks ≡ n
     → rows_in (length (marked marks marks)) (map (marked_of marks) cs) ≡ marked (rows_in n cs) marks
 rows_in-marked_of n room marks [] h e =

@@ -7,25 +7,26 @@ use Rattle.aql_value.specs.Datum.{Datum, null}
 use Rattle.aql_meaning.specs.Row.{Row}
 use Rattle.aql_block.specs.Rows.{Entries}
 use Rattle.aql_block.specs.Tables.{marked}
-use Rattle.aql_block.specs.Columns.{Column, Fits, IsFilled, HasRoom, pushed, moved_values, single_columns, without, first_of, rest_of, marked_of}
+use Rattle.aql_block.specs.Columns.{ColumnView, Fits, IsFilled, HasRoom, pushed, moved_values, single_columns, without, first_of, rest_of, marked_of}
 
 -- what follows from one fact of each, where the fact of each column follows
-pub each : {P Q : Column → Type 0} → ((c : Column) → P c → Q c) → (cs : List Column) → AllByRecursion P cs
+pub each : {P Q : ColumnView → Type 0} → ((c : ColumnView) → P c → Q c) → (cs : List ColumnView)
+    → AllByRecursion P cs
     → AllByRecursion Q cs
 each f [] h = tt
 each f (c ∷ cs) h = (f c h.0, each f cs h.1)
 
 -- the same of columns to which the same was done
-pub each_map : (P Q : Column → Type 0) (g : Column → Column) → ((c : Column) → P c → Q (g c))
-    → (cs : List Column) → AllByRecursion P cs → AllByRecursion Q (map g cs)
+pub each_map : (P Q : ColumnView → Type 0) (g : ColumnView → ColumnView) → ((c : ColumnView) → P c → Q (g c))
+    → (cs : List ColumnView) → AllByRecursion P cs → AllByRecursion Q (map g cs)
 each_map P Q g f [] h = tt
 each_map P Q g f (c ∷ cs) h = (f c h.0, each_map P Q g f cs h.1)
 
-pub all_room : (n room : ℕ) (cs : List Column) → AllByRecursion (Fits n room) cs → n < room
+pub all_room : (n room : ℕ) (cs : List ColumnView) → AllByRecursion (Fits n room) cs → n < room
     → AllByRecursion HasRoom cs
 all_room n room cs h l = each (λ c f. (let e = f.0 in let le = f.1 in omega arith)) cs h
 
-pub all_place : (n room at : ℕ) (cs : List Column) → AllByRecursion (Fits n room) cs → at < n
+pub all_place : (n room at : ℕ) (cs : List ColumnView) → AllByRecursion (Fits n room) cs → at < n
     → AllByRecursion (λ c. at < length c.held) cs
 all_place n room at cs h l = each (λ c f. (let e = f.0 in omega arith)) cs h
 
@@ -33,12 +34,12 @@ pub length-taken : (xs : List ℕ) (row : Row) → length (moved_values xs row) 
 length-taken [] row = refl
 length-taken (x ∷ xs) row = ap suc (length-taken xs _)
 
-pub length-pushed : (cs : List Column) (vs : List Datum) → length (pushed cs vs) ≡ length cs
+pub length-pushed : (cs : List ColumnView) (vs : List Datum) → length (pushed cs vs) ≡ length cs
 length-pushed [] vs = refl
 length-pushed (c ∷ cs) [] = refl
 length-pushed (c ∷ cs) (v ∷ vs) = ap suc (length-pushed cs vs)
 
-fits_pushed : (n room : ℕ) (cs : List Column) (vs : List Datum) → AllByRecursion (Fits n room) cs
+fits_pushed : (n room : ℕ) (cs : List ColumnView) (vs : List Datum) → AllByRecursion (Fits n room) cs
     → length cs ≡ length vs → AllByRecursion (Fits (suc n) room) (pushed cs vs)
 fits_pushed n room [] vs h e = tt
 fits_pushed n room (c ∷ cs) [] h e = absurd (cc)
@@ -52,7 +53,7 @@ pub filled_new : (xs : List ℕ) (room : ℕ)
 filled_new xs room = record { count = counts xs; fit = fits xs; within = omega arith }
   where
     counts : (ys : List ℕ)
-        → length (replicate {A = Column} (length ys) (record { room = room; held = [] })) ≡ length ys
+        → length (replicate {A = ColumnView} (length ys) (record { room = room; held = [] })) ≡ length ys
     counts [] = refl
     counts (y ∷ ys) = ap suc (counts ys)
 
@@ -72,7 +73,7 @@ filled_single es = record { count = counts es; fit = fits es; within = omega ari
     fits [] = tt
     fits (f ∷ fs) = ((refl, omega arith), fits fs)
 
-pub filled_set : (xs : List ℕ) (cs : List Column) (n room x more : ℕ) (vs : List Datum)
+pub filled_set : (xs : List ℕ) (cs : List ColumnView) (n room x more : ℕ) (vs : List Datum)
     → IsFilled xs cs n room → length vs ≡ n → n ≤ more
     → IsFilled (x ∷ xs) (record { room = more; held = vs } ∷ cs) n n
 filled_set xs cs n room x more vs h e le = record {
@@ -81,7 +82,7 @@ filled_set xs cs n room x more vs h e le = record {
   within = omega arith;
 }
 
-pub filled_pushed : (xs : List ℕ) (cs : List Column) (n room : ℕ) (row : Row) → IsFilled xs cs n room
+pub filled_pushed : (xs : List ℕ) (cs : List ColumnView) (n room : ℕ) (row : Row) → IsFilled xs cs n room
     → n < room → IsFilled xs (pushed cs (moved_values xs row)) (n + 1) room
 filled_pushed xs cs n room row h l = record {
   count = length-pushed cs (moved_values xs row) ∙ h.count;
@@ -89,7 +90,7 @@ filled_pushed xs cs n room row h l = record {
   within = omega arith;
 }
 
-pub filled_without : (xs : List ℕ) (cs : List Column) (n room at : ℕ) → IsFilled xs cs n room
+pub filled_without : (xs : List ℕ) (cs : List ColumnView) (n room at : ℕ) → IsFilled xs cs n room
     → IsFilled xs (map (without at) cs) n room
 filled_without xs cs n room at h = record {
   count = length-map cs (without at) ∙ h.count;
@@ -97,7 +98,7 @@ filled_without xs cs n room at h = record {
   within = h.within;
 }
 
-pub filled_first : (xs : List ℕ) (cs : List Column) (n room k : ℕ) → IsFilled xs cs n room
+pub filled_first : (xs : List ℕ) (cs : List ColumnView) (n room k : ℕ) → IsFilled xs cs n room
     → IsFilled xs (map (first_of k) cs) (min n k) room
 filled_first xs cs n room k h = record {
   count = length-map cs (first_of k) ∙ h.count;
@@ -106,7 +107,7 @@ filled_first xs cs n room k h = record {
   within = (let b = h.within in omega arith);
 }
 
-pub filled_rest : (xs : List ℕ) (cs : List Column) (n room k : ℕ) → IsFilled xs cs n room
+pub filled_rest : (xs : List ℕ) (cs : List ColumnView) (n room k : ℕ) → IsFilled xs cs n room
     → IsFilled xs (map (rest_of k) cs) (n - k) (n - k)
 filled_rest xs cs n room k h = record {
   count = length-map cs (rest_of k) ∙ h.count;
@@ -130,7 +131,7 @@ length-marked-le (x ∷ xs) [] = omega arith
 length-marked-le (x ∷ xs) (true ∷ marks) = (let h = length-marked-le xs marks in omega arith)
 length-marked-le (x ∷ xs) (false ∷ marks) = (let h = length-marked-le xs marks in omega arith)
 
-pub filled_marked : (xs : List ℕ) (cs : List Column) (n room : ℕ) (marks : List Bool)
+pub filled_marked : (xs : List ℕ) (cs : List ColumnView) (n room : ℕ) (marks : List Bool)
     → IsFilled xs cs n room → length marks ≡ n
     → IsFilled xs (map (marked_of marks) cs) (length (marked marks marks)) room
 filled_marked xs cs n room marks h e = record {
@@ -140,11 +141,11 @@ filled_marked xs cs n room marks h e = record {
   within = (let b = h.within in let k = length-marked-le marks marks in omega arith);
 }
 
-pub filled_made : (xs : List ℕ) (k room : ℕ) (cs : List Column)
+pub filled_made : (xs : List ℕ) (k room : ℕ) (cs : List ColumnView)
     → cs ≡ replicate k (record { room = room; held = [] }) → k ≡ length xs → IsFilled xs cs 0 room
 filled_made xs k room cs e same =
-    subst (λ (ds : List Column). IsFilled xs ds 0 room)
-    (sym (e ∙ ap (λ (n : ℕ). replicate {A = Column} n (record { room = room; held = [] })) same))
+    subst (λ (ds : List ColumnView). IsFilled xs ds 0 room)
+    (sym (e ∙ ap (λ (n : ℕ). replicate {A = ColumnView} n (record { room = room; held = [] })) same))
     (filled_new xs room)
 
 pub below_room : (n room : ℕ) → n ≤ room → (n ≡ room → ⊥) → n < room

@@ -11,7 +11,7 @@ use Rattle.aql_meaning.specs.Row.{Row, bind, same_ident}
 use Rattle.aql_meaning.specs.laws.Rows.{binds_swap}
 use Rattle.aql_block.specs.Rows.{Entries, row_of, variables_of, is_among, IsFirst}
 use Rattle.aql_block.specs.Tables.{cells}
-use Rattle.aql_block.specs.Columns.{Column, beside, rows_in, Fits, values_at}
+use Rattle.aql_block.specs.Columns.{ColumnView, beside, rows_in, Fits, values_at}
 use Rattle.aql_block.specs.laws.Registers.{bind_self, same_num}
 use Rattle.aql_block.proofs.Beside.{length-rows_in}
 
@@ -140,7 +140,7 @@ later_column y x ys (v ∷ held) (vs ∷ rows) h e =
     (bind_other y x (row_of (cells ys vs)) v h)
     ∙ ap (λ rest. row_of (cells ys vs) (Num x) ∷ rest) (later_column y x ys held rows h (cc))
 
-pub column_values : (xs : List ℕ) (cs : List Column) (n room x at : ℕ) (d : Column) → IsFirst xs x at
+pub column_values : (xs : List ℕ) (cs : List ColumnView) (n room x at : ℕ) (d : ColumnView) → IsFirst xs x at
     → AllByRecursion (Fits n room) cs → length cs ≡ length xs
     → map (λ vs. row_of (cells xs vs) (Num x)) (rows_in n cs) ≡ map (λ v. Some v) (get_or cs at d).held
 column_values [] cs n room x at d none_there h e = absurd none_there

@@ -10,22 +10,22 @@ use Rattle.aql_tree.specs.declared.syntax.Ident.TheVariants.{Num}
 use Rattle.aql_meaning.specs.Row.{Row, bind, value_at}
 use Rattle.aql_block.specs.Rows.{Entries, row_of, HasAll}
 use Rattle.aql_block.specs.Tables.{cells, marked}
-use Rattle.aql_block.specs.Columns.{Column, HasRoom, pushed, moved_values, values_at}
+use Rattle.aql_block.specs.Columns.{ColumnView, HasRoom, pushed, moved_values, values_at}
 use Rattle.aql_block.specs.laws.Registers.{has_all_bind}
 
 -- ---- each column
 
-pub each_at : (P : Column → Type 0) (cs : List Column) (i : ℕ) (c : Column) → AllByRecursion P cs
+pub each_at : (P : ColumnView → Type 0) (cs : List ColumnView) (i : ℕ) (c : ColumnView) → AllByRecursion P cs
     → i < length cs → c ≡ get_or cs i c → P c
 each_at P [] i c h l is = absurd (omega arith)
 each_at P (d ∷ cs) zero c h l is = subst P (sym is) h.0
 each_at P (d ∷ cs) (suc i) c h l is = each_at P cs i c h.1 (omega arith) is
 
 -- the columns of which the first ones were worked on
-abbrev pub Worked : (Column → Column) → ℕ → List Column → List Column → Type 0
+abbrev pub Worked : (ColumnView → ColumnView) → ℕ → List ColumnView → List ColumnView → Type 0
 Worked f i now old = now ≡ map f (take i old) ++ drop i old
 
-pub length-worked : (f : Column → Column) (i : ℕ) (now old : List Column) → Worked f i now old
+pub length-worked : (f : ColumnView → ColumnView) (i : ℕ) (now old : List ColumnView) → Worked f i now old
     → length now ≡ length old
 length-worked f i now old w =
     ap length w
@@ -38,7 +38,8 @@ length-worked f i now old w =
     ))
 
 -- the column that comes next is as it was
-pub worked_next : (f : Column → Column) (i : ℕ) (now old : List Column) (c : Column) → Worked f i now old
+pub worked_next : (f : ColumnView → ColumnView) (i : ℕ) (now old : List ColumnView) (c : ColumnView)
+    → Worked f i now old
     → i < length old → c ≡ get_or now i c → c ≡ get_or old i c
 worked_next f i now old c w l is =
     let e : length (map f (take i old)) ≡ i = length-map (take i old) f ∙ (omega (arith, length-take i old)) in
@@ -46,17 +47,18 @@ worked_next f i now old c w l is =
     ∙ ap (λ cs. get_or (map f (take i old) ++ cs) i c) (drop_more old i c l)
     ∙ get_or_at (map f (take i old)) (get_or old i c) (drop (i + 1) old) c i e
 
-pub worked_more : (f : Column → Column) (i : ℕ) (now old : List Column) (c : Column) → Worked f i now old
+pub worked_more : (f : ColumnView → ColumnView) (i : ℕ) (now old : List ColumnView) (c : ColumnView)
+    → Worked f i now old
     → i < length old → c ≡ get_or now i c → Worked f (i + 1) (set now i (f c)) old
 worked_more f i now old c w l is = map_over_more f old now i c l w is
 
-pub worked_all : (f : Column → Column) (i : ℕ) (now old : List Column) → Worked f i now old
+pub worked_all : (f : ColumnView → ColumnView) (i : ℕ) (now old : List ColumnView) → Worked f i now old
     → length old ≤ i → now ≡ map f old
 worked_all f i now old w l =
     w ∙ ap₂ (λ cs ds. map f cs ++ ds) (take_all i old l) (drop_all i old l) ∙ append-nil (map f old)
 
 -- what was handed on of the first columns
-pub handed_more : (f : Column → Column) (i : ℕ) (old out : List Column) (c : Column)
+pub handed_more : (f : ColumnView → ColumnView) (i : ℕ) (old out : List ColumnView) (c : ColumnView)
     → out ≡ map f (take i old) → i < length old → c ≡ get_or old i c
     → out ++ f c ∷ [] ≡ map f (take (i + 1) old)
 handed_more f i old out c e l is =
@@ -64,7 +66,7 @@ handed_more f i old out c e l is =
     ∙ sym (map-append f (take i old) (get_or old i c ∷ []))
     ∙ ap (λ cs. map f cs) (sym (take_more old i c l))
 
-pub handed_all : (f : Column → Column) (i : ℕ) (old out : List Column) → out ≡ map f (take i old)
+pub handed_all : (f : ColumnView → ColumnView) (i : ℕ) (old out : List ColumnView) → out ≡ map f (take i old)
     → length old ≤ i → out ≡ map f old
 handed_all f i old out e l = e ∙ ap (λ cs. map f cs) (take_all i old l)
 
@@ -75,7 +77,7 @@ length-cells [] vs = refl
 length-cells (x ∷ xs) [] = ap suc (length-cells xs [])
 length-cells (x ∷ xs) (v ∷ vs) = ap suc (length-cells xs vs)
 
-cell_more : (xs : List ℕ) (cs : List Column) (at i x : ℕ) (c : Column) (v : Datum)
+cell_more : (xs : List ℕ) (cs : List ColumnView) (at i x : ℕ) (c : ColumnView) (v : Datum)
     → i < length xs → length cs ≡ length xs → x ≡ get_or xs i x → c ≡ get_or cs i c
     → slice_get c.held at ≡ Some v
     → take (suc i) (cells xs (values_at cs at)) ≡ take i (cells xs (values_at cs at)) ++ (x, v) ∷ []
@@ -83,13 +85,13 @@ cell_more [] cs at i x c v l e isx isc h = absurd (omega arith)
 cell_more (y ∷ xs) [] at i x c v l e isx isc h = absurd (cc)
 cell_more (y ∷ xs) (d ∷ cs) at zero x c v l e isx isc h =
     let value : unwrap_or (slice_get d.held at) null ≡ v =
-    ap (λ (p : Column). unwrap_or (slice_get p.held at) null) (sym isc) ∙ ap (λ o. unwrap_or o null) h in
+    ap (λ (p : ColumnView). unwrap_or (slice_get p.held at) null) (sym isc) ∙ ap (λ o. unwrap_or o null) h in
     ap₂ (λ z w. (z, w) ∷ []) (sym isx) value
 cell_more (y ∷ xs) (d ∷ cs) at (suc i) x c v l e isx isc h =
     ap (λ es. (y, unwrap_or (slice_get d.held at) null) ∷ es)
     (cell_more xs cs at i x c v (omega arith) (cc) isx isc h)
 
-pub cell_there : (xs : List ℕ) (cs : List Column) (at i x : ℕ) (c : Column) (v : Datum) (es : Entries)
+pub cell_there : (xs : List ℕ) (cs : List ColumnView) (at i x : ℕ) (c : ColumnView) (v : Datum) (es : Entries)
     → es ≡ take i (cells xs (values_at cs at)) → i < length xs → length cs ≡ length xs
     → x ≡ get_or xs i x → c ≡ get_or cs i c → slice_get c.held at ≡ Some v
     → es ++ (x, v) ∷ [] ≡ take (i + 1) (cells xs (values_at cs at))
@@ -104,7 +106,7 @@ all_cells xs vs i es is l = is ∙ take_all i (cells xs vs) (omega (arith, lengt
 
 -- ---- values that are pushed
 
-pub record Pushing (registers : List ℕ) (i : ℕ) (now : List Column) (row : Row) (old : List Column)
+pub record Pushing (registers : List ℕ) (i : ℕ) (now : List ColumnView) (row : Row) (old : List ColumnView)
     (start : Row) : Type 0 where
   pub count : length now ≡ length registers
   pub room : AllByRecursion HasRoom (drop i now)
@@ -112,11 +114,11 @@ pub record Pushing (registers : List ℕ) (i : ℕ) (now : List Column) (row : R
   pub leads : take i now ++ pushed (drop i now) (moved_values (drop i registers) row)
       ≡ pushed old (moved_values registers start)
 
-abbrev pub with_value : Column → Datum → Column
+abbrev pub with_value : ColumnView → Datum → ColumnView
 with_value c v = record { room = c.room; held = c.held ++ v ∷ [] }
 
-pub pushing_next : (registers : List ℕ) (i : ℕ) (now : List Column) (row : Row) (old : List Column)
-    (start : Row) (x : ℕ) (c : Column) → Pushing registers i now row old start → i < length registers
+pub pushing_next : (registers : List ℕ) (i : ℕ) (now : List ColumnView) (row : Row) (old : List ColumnView)
+    (start : Row) (x : ℕ) (c : ColumnView) → Pushing registers i now row old start → i < length registers
     → x ≡ get_or registers i x → c ≡ get_or now i c
     → HasRoom c × IsSome (row (Num x))
 pushing_next registers i now row old start x c p l isx isc =
@@ -129,8 +131,9 @@ pushing_next registers i now row old start x c p l isx isc =
     (drop_more registers i x l ∙ ap (λ y. y ∷ drop (i + 1) registers) (sym isx)) p.all in
     (rooms.0, has.0)
 
-pub pushing_more : (registers : List ℕ) (i : ℕ) (now : List Column) (row next : Row) (old : List Column)
-    (start : Row) (x : ℕ) (c : Column) (v : Datum) → Pushing registers i now row old start
+pub pushing_more : (registers : List ℕ) (i : ℕ) (now : List ColumnView) (row next : Row)
+    (old : List ColumnView)
+    (start : Row) (x : ℕ) (c : ColumnView) (v : Datum) → Pushing registers i now row old start
     → i < length registers → x ≡ get_or registers i x → c ≡ get_or now i c
     → v ≡ value_at row (Num x) → next ≡ bind (Num x) row null
     → Pushing registers (i + 1) (set now i (with_value c v)) next old start
@@ -161,7 +164,7 @@ pushing_more registers i now row next old start x c v p l isx isc isv isn =
           ∙ p.leads;
     }
 
-pub pushing_all : (registers : List ℕ) (i : ℕ) (now : List Column) (row : Row) (old : List Column)
+pub pushing_all : (registers : List ℕ) (i : ℕ) (now : List ColumnView) (row : Row) (old : List ColumnView)
     (start : Row) → Pushing registers i now row old start → length registers ≤ i
     → now ≡ pushed old (moved_values registers start)
 pushing_all registers i now row old start p l =

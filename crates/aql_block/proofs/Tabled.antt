@@ -13,7 +13,7 @@ use Rattle.aql_block.specs.Rows.{Entries, row_of, HasAll, only, IsFirst}
 use Rattle.std.specs.Prelude.{Vec}
 use Rattle.std.specs.Vec.{with_items}
 use Rattle.aql_block.specs.Tables.{Table, cells, marked}
-use Rattle.aql_block.specs.Columns.{Column, blanks, beside, rows_in, Fits, IsFilled, pushed, moved_values, single_columns, values_at, without, first_of, rest_of, marked_of}
+use Rattle.aql_block.specs.Columns.{ColumnView, blanks, beside, rows_in, Fits, IsFilled, pushed, moved_values, single_columns, values_at, without, first_of, rest_of, marked_of}
 use Rattle.aql_block.specs.laws.Registers.{only_taken}
 use Rattle.aql_block.proofs.Beside.{length-rows_in, rows_in-pushed, row_in_at, rows_in-without, rows_in-first_of, rows_in-rest_of, rows_in-marked_of}
 use Rattle.aql_block.proofs.Filled.{length-taken, length-pushed}
@@ -23,12 +23,12 @@ use Rattle.aql_block.proofs.Found.{first_cell, no_cell}
 abbrev pub rows_by : List ℕ → List (List Datum) → List Row
 rows_by xs rows = map (λ vs. row_of (cells xs vs)) rows
 
-pub rows_held : (xs : List ℕ) (cs : List Column) (n room : ℕ) → IsFilled xs cs n room
+pub rows_held : (xs : List ℕ) (cs : List ColumnView) (n room : ℕ) → IsFilled xs cs n room
     → length (rows_by xs (rows_in n cs)) ≡ n
 rows_held xs cs n room h =
     length-map (rows_in n cs) (λ vs. row_of (cells xs vs)) ∙ length-rows_in n room cs h.fit
 
-pub rows_pushed : (xs : List ℕ) (cs : List Column) (n room : ℕ) (row : Row) → IsFilled xs cs n room
+pub rows_pushed : (xs : List ℕ) (cs : List ColumnView) (n room : ℕ) (row : Row) → IsFilled xs cs n room
     → HasAll xs row
     → rows_by xs (rows_in (n + 1) (pushed cs (moved_values xs row))) ≡ rows_by xs (rows_in n cs)
     ++ only xs row ∷ []
@@ -40,19 +40,19 @@ rows_pushed xs cs n room row h all =
     ∙ map-append (λ vs. row_of (cells xs vs)) (rows_in n cs) (moved_values xs row ∷ [])
     ∙ ap (λ r. rows_by xs (rows_in n cs) ++ r ∷ []) (only_taken xs row all)
 
-pub row_at : (xs : List ℕ) (cs : List Column) (n room at : ℕ) → IsFilled xs cs n room → at < n
+pub row_at : (xs : List ℕ) (cs : List ColumnView) (n room at : ℕ) → IsFilled xs cs n room → at < n
     → slice_get (rows_by xs (rows_in n cs)) at ≡ Some (row_of (cells xs (values_at cs at)))
 row_at xs cs n room at h l =
     slice_get-map (λ vs. row_of (cells xs vs)) (rows_in n cs) at
     ∙ ap (λ o. option_map (λ vs. row_of (cells xs vs)) o) (row_in_at n room cs at h.fit l)
 
 -- null in each register
-nulls : (xs : List ℕ) (cs : List Column) → cells xs (map (λ c. null) cs) ≡ cells xs []
+nulls : (xs : List ℕ) (cs : List ColumnView) → cells xs (map (λ c. null) cs) ≡ cells xs []
 nulls [] cs = refl
 nulls (x ∷ xs) [] = refl
 nulls (x ∷ xs) (c ∷ cs) = ap (λ es. (x, null) ∷ es) (nulls xs cs)
 
-pub rows_without : (xs : List ℕ) (cs : List Column) (n at : ℕ)
+pub rows_without : (xs : List ℕ) (cs : List ColumnView) (n at : ℕ)
     → rows_by xs (rows_in n (map (without at) cs))
     ≡ slice_set (rows_by xs (rows_in n cs)) at (row_of (cells xs []))
 rows_without xs cs n at =
@@ -60,7 +60,7 @@ rows_without xs cs n at =
     ∙ map-set (λ vs. row_of (cells xs vs)) (rows_in n cs) at (map (λ c. null) cs)
     ∙ ap (λ es. slice_set (rows_by xs (rows_in n cs)) at (row_of es)) (nulls xs cs)
 
-pub rows_first : (xs : List ℕ) (cs : List Column) (n k : ℕ)
+pub rows_first : (xs : List ℕ) (cs : List ColumnView) (n k : ℕ)
     → rows_by xs (rows_in (min n k) (map (first_of k) cs)) ≡ take k (rows_by xs (rows_in n cs))
 rows_first xs cs n k =
     ap (λ rows. rows_by xs rows) (rows_in-first_of k n cs)
@@ -71,7 +71,7 @@ drop-map f zero xs = refl
 drop-map f (suc n) [] = refl
 drop-map f (suc n) (x ∷ xs) = drop-map f n xs
 
-pub rows_rest : (xs : List ℕ) (cs : List Column) (n k : ℕ)
+pub rows_rest : (xs : List ℕ) (cs : List ColumnView) (n k : ℕ)
     → rows_by xs (rows_in (n - k) (map (rest_of k) cs)) ≡ drop k (rows_by xs (rows_in n cs))
 rows_rest xs cs n k =
     ap (λ rows. rows_by xs rows) (rows_in-rest_of k n cs)
@@ -84,7 +84,8 @@ marked-map f (x ∷ xs) [] = refl
 marked-map f (x ∷ xs) (true ∷ marks) = ap (λ rest. f x ∷ rest) (marked-map f xs marks)
 marked-map f (x ∷ xs) (false ∷ marks) = marked-map f xs marks
 
-pub rows_marked : (xs : List ℕ) (cs : List Column) (n room : ℕ) (marks : List Bool) → IsFilled xs cs n room
+pub rows_marked : (xs : List ℕ) (cs : List ColumnView) (n room : ℕ) (marks : List Bool)
+    → IsFilled xs cs n room
     → length marks ≡ n
     → rows_by xs (rows_in (length (marked marks marks)) (map (marked_of marks) cs))
     ≡ marked (rows_by xs (rows_in n cs)) marks
@@ -114,14 +115,14 @@ rows_of_values x [] = refl
 rows_of_values x (v ∷ vs) = ap (λ rest. bind (Num x) empty_row v ∷ rest) (rows_of_values x vs)
 
 -- the value of a register at a place
-pub value_there : (xs : List ℕ) (cs : List Column) (n room at x place : ℕ) (c : Column)
+pub value_there : (xs : List ℕ) (cs : List ColumnView) (n room at x place : ℕ) (c : ColumnView)
     → IsFilled xs cs n room → at < n → IsFirst xs x place → slice_get cs place ≡ Some c
     → row_of (cells xs (values_at cs at)) (Num x) ≡ slice_get c.held at
 value_there xs cs n room at x place c h l first there =
     first_cell xs (values_at cs at) x place first
     ∙ ap (λ o. Some (unwrap_or o null))
-    (slice_get-map (λ (d : Column). unwrap_or (slice_get d.held at) null) cs place
-    ∙ ap (λ o. option_map (λ (d : Column). unwrap_or (slice_get d.held at) null) o) there)
+    (slice_get-map (λ (d : ColumnView). unwrap_or (slice_get d.held at) null) cs place
+    ∙ ap (λ o. option_map (λ (d : ColumnView). unwrap_or (slice_get d.held at) null) o) there)
     ∙ held cs place h.fit there
   where
     within : (vs : List Datum) (k : ℕ) → k < length vs
@@ -130,12 +131,12 @@ value_there xs cs n room at x place c h l first there =
     within (v ∷ vs) zero g = refl
     within (v ∷ vs) (suc k) g = within vs k (omega arith)
 
-    held : (ds : List Column) (k : ℕ) → AllByRecursion (Fits n room) ds → slice_get ds k ≡ Some c
+    held : (ds : List ColumnView) (k : ℕ) → AllByRecursion (Fits n room) ds → slice_get ds k ≡ Some c
         → Some (unwrap_or (slice_get c.held at) null) ≡ slice_get c.held at
     held [] k g none_there = absurd (cc)
     held (d ∷ ds) zero g e =
         let same : d ≡ c = cc in
-        within c.held at (let m = g.0.0 in let k = ap (λ (p : Column). length p.held) same in omega arith)
+        within c.held at (let m = g.0.0 in let k = ap (λ (p : ColumnView). length p.held) same in omega arith)
     held (d ∷ ds) (suc k) g e = held ds k g.1 e
 
 -- whether a block is full
@@ -157,7 +158,7 @@ no_row_there xs (row ∷ rows) (suc at) l = no_row_there xs rows at (omega arith
 abbrev pub table_of : List ℕ → ℕ → List (List Datum) → Table
 table_of xs room rows = record { registers = xs; room = room; values = rows }
 
-no_rows : (cs : List Column) → rows_in 0 cs ≡ []
+no_rows : (cs : List ColumnView) → rows_in 0 cs ≡ []
 no_rows [] = refl
 no_rows (c ∷ cs) = ap (λ rows. beside c.held rows) (no_rows cs) ∙ none c.held
   where
@@ -165,16 +166,17 @@ no_rows (c ∷ cs) = ap (λ rows. beside c.held rows) (no_rows cs) ∙ none c.he
     none [] = refl
     none (v ∷ vs) = refl
 
-pub new_table : (xs ys : List ℕ) (room : ℕ) (cs : List Column) → xs ≡ ys
+pub new_table : (xs ys : List ℕ) (room : ℕ) (cs : List ColumnView) → xs ≡ ys
     → table_of xs room (rows_in 0 cs) ≡ table_of ys room []
 new_table xs ys room cs e = ap₂ (λ zs rows. table_of zs room rows) e (no_rows cs)
 
 -- columns that stand in the place of others
-pub with_mapped : {Z : Type 0} (f : Column → Column) (v : Vec Column Z) (ws : List Column) → ws ≡ map f v.items
+pub with_mapped : {Z : Type 0} (f : ColumnView → ColumnView) (v : Vec ColumnView Z) (ws : List ColumnView) → ws ≡ map f v.items
     → v.len ≡ length v.items → (with_items v ws).items ≡ map f v.items
 with_mapped f v ws e l = with_items_is v ws (ap length e ∙ length-map v.items f ∙ sym l) ∙ e
 
-pub cells_here : (xs : List ℕ) (cs : List Column) (n room at : ℕ) → AllByRecursion (Fits n room) cs → at < n
+pub cells_here : (xs : List ℕ) (cs : List ColumnView) (n room at : ℕ) → AllByRecursion (Fits n room) cs
+    → at < n
     → cells xs (unwrap_or (slice_get (rows_in n cs) at) []) ≡ cells xs (values_at cs at)
 cells_here xs cs n room at h l = ap (λ o. cells xs (unwrap_or o [])) (row_in_at n room cs at h l)
 
@@ -183,6 +185,6 @@ pub looked_up : (xs : List ℕ) (rows : List (List Datum)) (x : ℕ)
 looked_up xs [] x = refl
 looked_up xs (row ∷ rows) x = ap (λ rest. row_of (cells xs row) (Num x) ∷ rest) (looked_up xs rows x)
 
-pub with_pushed : {Z : Type 0} (v : Vec Column Z) (ws : List Column) (vs : List Datum) → ws ≡ pushed v.items vs
+pub with_pushed : {Z : Type 0} (v : Vec ColumnView Z) (ws : List ColumnView) (vs : List Datum) → ws ≡ pushed v.items vs
     → v.len ≡ length v.items → (with_items v ws).items ≡ pushed v.items vs
 with_pushed v ws vs e l = with_items_is v ws (ap length e ∙ length-pushed v.items vs ∙ sym l) ∙ e

@@ -29,9 +29,9 @@ impl Drop for Column {
 
 impl Model for Column {
     ghost use Rattle.std.specs.Prelude.{◌≤◌, vec_capacity};
-    ghost use Rattle.aql_block.specs.Columns.{Column, coded_column};
+    ghost use Rattle.aql_block.specs.Columns.{ColumnView, coded_column};
 
-    ghost Value = { Column };
+    ghost Value = { ColumnView };
 
     ghost coded = { coded_column };
 

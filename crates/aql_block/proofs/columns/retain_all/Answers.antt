@@ -1,5 +1,5 @@
 use Rattle.std.proofs.Common.{◌≡◌, ◌∙◌, ◌+◌, ◌<◌, length, set, ap, sym, subst, arith}
-use Rattle.aql_block.specs.Columns.{Column, marked_of}
+use Rattle.aql_block.specs.Columns.{ColumnView, marked_of}
 use Rattle.aql_block.proofs.Steps.{Worked, worked_more}
 use Rattle.aql_block.proofs.columns.retain_all.Goals as goal
 
@@ -9,6 +9,6 @@ loop-column-preserved c =
     let now = c.loop-column.column-items in
     let old = c.args.columns.now in
     let l : i < length old = omega arith in
-    subst (λ (p : Column). Worked (marked_of c.args.marks.now) (i + 1) (set now i p) old)
-    (sym (c.retain.ensures ∙ ap (λ (p : Column). marked_of c.args.marks.now p) (sym c.column-item.is)))
+    subst (λ (p : ColumnView). Worked (marked_of c.args.marks.now) (i + 1) (set now i p) old)
+    (sym (c.retain.ensures ∙ ap (λ (p : ColumnView). marked_of c.args.marks.now p) (sym c.column-item.is)))
     (worked_more (marked_of c.args.marks.now) i now old c.column-item.result c.loop-column.invariant l c.column-item.is)

@@ -1,5 +1,5 @@
 use Rattle.std.proofs.Common.{◌≡◌, ◌∙◌, ◌+◌, ◌<◌, ◌++◌, ◌∷◌, [], length, set, ap, sym, subst, arith}
-use Rattle.aql_block.specs.Columns.{Column, first_of, rest_of}
+use Rattle.aql_block.specs.Columns.{ColumnView, first_of, rest_of}
 use Rattle.aql_block.proofs.Steps.{Worked, worked_more, worked_next, handed_more}
 use Rattle.aql_block.proofs.columns.split_all.Goals as goal
 
@@ -12,11 +12,11 @@ loop-column-preserved c =
     let l : i < length old = omega arith in
     let was = worked_next (first_of at) i now old c.column-item.result c.loop-column.invariant.0 l
     c.column-item.is in (
-      subst (λ (p : Column). Worked (first_of at) (i + 1) (set now i p) old)
-          (sym (c.in_ok-split.ensures.first ∙ ap (λ (p : Column). first_of at p) (sym c.column-item.is)))
+      subst (λ (p : ColumnView). Worked (first_of at) (i + 1) (set now i p) old)
+          (sym (c.in_ok-split.ensures.first ∙ ap (λ (p : ColumnView). first_of at p) (sym c.column-item.is)))
           (worked_more (first_of at) i now old c.column-item.result c.loop-column.invariant.0 l c.column-item.is),
       c.in_ok-push.ensures.items
-          ∙ ap (λ (p : Column). c.loop-column.rest.items ++ p ∷ [])
-          (c.in_ok-split.ensures.rest ∙ ap (λ (p : Column). rest_of at p) (sym c.column-item.is))
+          ∙ ap (λ (p : ColumnView). c.loop-column.rest.items ++ p ∷ [])
+          (c.in_ok-split.ensures.rest ∙ ap (λ (p : ColumnView). rest_of at p) (sym c.column-item.is))
           ∙ handed_more (rest_of at) i old c.loop-column.rest.items c.column-item.result c.loop-column.invariant.1 l was,
     )

@@ -1,5 +1,5 @@
 use Rattle.std.proofs.Common.{◌≡◌, ◌∙◌, ◌+◌, ◌<◌, length, set, ap, sym, subst, arith}
-use Rattle.aql_block.specs.Columns.{Column, first_of}
+use Rattle.aql_block.specs.Columns.{ColumnView, first_of}
 use Rattle.aql_block.proofs.Steps.{Worked, worked_more}
 use Rattle.aql_block.proofs.columns.truncate_all.Goals as goal
 
@@ -9,6 +9,6 @@ loop-column-preserved c =
     let now = c.loop-column.column-items in
     let old = c.args.columns.now in
     let l : i < length old = omega arith in
-    subst (λ (p : Column). Worked (first_of c.args.len) (i + 1) (set now i p) old)
-    (sym (c.truncate.ensures ∙ ap (λ (p : Column). first_of c.args.len p) (sym c.column-item.is)))
+    subst (λ (p : ColumnView). Worked (first_of c.args.len) (i + 1) (set now i p) old)
+    (sym (c.truncate.ensures ∙ ap (λ (p : ColumnView). first_of c.args.len p) (sym c.column-item.is)))
     (worked_more (first_of c.args.len) i now old c.column-item.result c.loop-column.invariant l c.column-item.is)

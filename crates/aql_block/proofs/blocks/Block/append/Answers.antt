@@ -2,7 +2,7 @@ use Rattle.std.proofs.Common.{◌≡◌, ◌∙◌, ◌+◌, ◌<◌, ◌++◌, 
 use Rattle.std.specs.List.{AllByRecursion}
 use Rattle.aql_block.specs.Rows.{row_of, HasAll, only}
 use Rattle.aql_block.specs.Tables.{Table, rows_of}
-use Rattle.aql_block.specs.Columns.{Column, HasRoom, rows_in, IsFilled, pushed, moved_values}
+use Rattle.aql_block.specs.Columns.{ColumnView, HasRoom, rows_in, IsFilled, pushed, moved_values}
 use Rattle.aql_block.proofs.Filled.{all_room, below_room, filled_pushed}
 use Rattle.aql_block.proofs.Tabled.{rows_by, rows_held, rows_pushed, with_pushed}
 use Rattle.aql_block.proofs.blocks.Block.append.Goals as goal
@@ -18,7 +18,7 @@ push_values-requires-clause-room c =
     let full : c.is_full.result ≡ true =
     c.is_full.ensures.1 (held ∙ e ∙ ap (λ (t : Table). t.room) c.self.view_is) in
     let both : true ≡ false = sym full ∙ c.if-is_full.false in absurd (cc)) in
-    subst (λ (cs : List Column). AllByRecursion HasRoom cs) (sym c.deref_mut.ensures.value)
+    subst (λ (cs : List ColumnView). AllByRecursion HasRoom cs) (sym c.deref_mut.ensures.value)
     (all_room b.rows b.room b.columns.items c.self.invariant.fit l)
 
 pub overflow_add-self : goal.overflow_add-self
@@ -48,10 +48,10 @@ invariant_of-self c =
     let w = with_pushed b.columns c.push_values.new.columns
     (moved_values b.registers.items (row_of c.args.row))
     (c.push_values.ensures
-    ∙ ap₂ (λ (cs : List Column) (xs : List ℕ). pushed cs (moved_values xs (row_of c.args.row)))
+    ∙ ap₂ (λ (cs : List ColumnView) (xs : List ℕ). pushed cs (moved_values xs (row_of c.args.row)))
     c.deref_mut.ensures.value c.deref.ensures.value)
     b.columns.ok.0 in
-    subst (λ (cs : List Column). IsFilled b.registers.items cs (b.rows + 1) b.room) (sym w)
+    subst (λ (cs : List ColumnView). IsFilled b.registers.items cs (b.rows + 1) b.room) (sym w)
     (filled_pushed b.registers.items b.columns.items b.rows b.room (row_of c.args.row) c.self.invariant l)
 
 pub returns-clause-ok : goal.returns-clause-ok
@@ -60,10 +60,10 @@ returns-clause-ok c =
     let w = with_pushed b.columns c.push_values.new.columns
     (moved_values b.registers.items (row_of c.args.row))
     (c.push_values.ensures
-    ∙ ap₂ (λ (cs : List Column) (xs : List ℕ). pushed cs (moved_values xs (row_of c.args.row)))
+    ∙ ap₂ (λ (cs : List ColumnView) (xs : List ℕ). pushed cs (moved_values xs (row_of c.args.row)))
     c.deref_mut.ensures.value c.deref.ensures.value)
     b.columns.ok.0 in
-    ap (λ (cs : List Column). rows_by b.registers.items (rows_in (b.rows + 1) cs)) w
+    ap (λ (cs : List ColumnView). rows_by b.registers.items (rows_in (b.rows + 1) cs)) w
     ∙ rows_pushed b.registers.items b.columns.items b.rows b.room (row_of c.args.row) c.self.invariant
     (subst (λ (t : Table). HasAll t.registers (row_of c.args.row)) (sym c.self.view_is) c.requires)
     ∙ ap (λ (t : Table). rows_of t ++ only t.registers (row_of c.args.row) ∷ []) c.self.view_is

@@ -5,7 +5,7 @@ use Rattle.aql_tree.specs.declared.syntax.Ident.TheVariants.{Num}
 use Rattle.aql_meaning.specs.Row.{Row}
 use Rattle.aql_block.specs.Rows.{is_among, IsFirst}
 use Rattle.aql_block.specs.Tables.{Table, rows_of}
-use Rattle.aql_block.specs.Columns.{Column, rows_in}
+use Rattle.aql_block.specs.Columns.{ColumnView, rows_in}
 use Rattle.aql_block.proofs.Found.{among, first_register, column_values}
 use Rattle.aql_block.proofs.Tabled.{looked_up}
 use Rattle.aql_block.proofs.blocks.Block.into_values.Goals as goal
@@ -37,5 +37,5 @@ returns-clause-values c =
     ∙ looked_up b.registers.items (rows_in b.rows b.columns.items) c.args.var
     ∙ column_values b.registers.items b.columns.items b.rows b.room c.args.var c.in_ok-at.at
     c.swap_remove.result first c.self.invariant.fit c.self.invariant.count
-    ∙ ap (λ (p : Column). map (λ (v : Datum). Some v) p.held) (sym c.swap_remove.ensures.value)
+    ∙ ap (λ (p : ColumnView). map (λ (v : Datum). Some v) p.held) (sym c.swap_remove.ensures.value)
     ∙ ap (λ (ds : List Datum). map (λ (v : Datum). Some v) ds) (sym c.into_values.ensures)

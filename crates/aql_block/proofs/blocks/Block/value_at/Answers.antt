@@ -4,7 +4,7 @@ use Rattle.std.specs.Prelude.{Some, None, slice_get}
 use Rattle.aql_tree.specs.declared.syntax.Ident.TheVariants.{Num}
 use Rattle.aql_block.specs.Rows.{Entries, row_of, is_among, IsFirst}
 use Rattle.aql_block.specs.Tables.{Table, cells, cells_at}
-use Rattle.aql_block.specs.Columns.{Column, values_at}
+use Rattle.aql_block.specs.Columns.{ColumnView, values_at}
 use Rattle.aql_block.proofs.Beside.{length-rows_in}
 use Rattle.aql_block.proofs.Found.{no_cell, first_register}
 use Rattle.aql_block.proofs.Tabled.{cells_here, value_there}
@@ -40,7 +40,7 @@ returns-in-Some c =
     ∙ sym (value_there b.registers.items b.columns.items b.rows b.room c.args.at c.args.var c.in-Some.place
     c.index.result.now c.self.invariant here first
     (slice_get-get_or b.columns.items c.in-Some.place c.index.result.now within
-    ∙ ap (λ (p : Column). Some p) (sym c.index.ensures)))
+    ∙ ap (λ (p : ColumnView). Some p) (sym c.index.ensures)))
     ∙ ap (λ (es : Entries). row_of es (Num c.args.var))
     (sym (cells_here b.registers.items b.columns.items b.rows b.room c.args.at c.self.invariant.fit here))
     ∙ ap (λ (t : Table). row_of (cells_at t c.args.at) (Num c.args.var)) c.self.view_is
