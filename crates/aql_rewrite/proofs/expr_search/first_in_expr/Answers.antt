@@ -7,7 +7,7 @@ use Rattle.aql_rewrite.specs.Keeps.{Keeps}
 use Rattle.aql_rewrite.specs.Size.{size}
 use Rattle.aql_rewrite.specs.laws.FirstKept.{first_in_keeps, first_in_smaller}
 use Rattle.aql_rewrite.proofs.Steps.{if_ok, if_found}
-use Rattle.aql_rewrite.proofs.first_in_expr.first_in_expr.Goals as goal
+use Rattle.aql_rewrite.proofs.expr_search.first_in_expr.Goals as goal
 
 pub returns-clause-keeps : goal.returns-clause-keeps
 returns-clause-keeps g c =

@@ -3,7 +3,7 @@ use Rattle.aql_tree.specs.View.{tree}
 use Rattle.aql_rewrite.specs.FirstInExpr.{NoneInAll}
 use Rattle.aql_rewrite.specs.Size.{size, size_all}
 use Rattle.aql_rewrite.specs.ExprView.{lent}
-use Rattle.aql_rewrite.proofs.first_in_expr.+first.Given as goal
+use Rattle.aql_rewrite.proofs.expr_search.+first.Given as goal
 
 abbrev pub decreases-first_in : goal.decreases-first_in
 decreases-first_in g l = 2 * size (tree l.expr.now)

@@ -9,7 +9,7 @@ use Rattle.aql_rewrite.specs.Size.{size_all}
 use Rattle.aql_rewrite.specs.ExprView.{lent}
 use Rattle.aql_rewrite.specs.laws.FirstKept.{first_of_keeps, first_of_smaller}
 use Rattle.aql_rewrite.proofs.Steps.{if_ok, if_found}
-use Rattle.aql_rewrite.proofs.first_in_expr.first_of.Goals as goal
+use Rattle.aql_rewrite.proofs.expr_search.first_of.Goals as goal
 
 pub returns-clause-keeps : goal.returns-clause-keeps
 returns-clause-keeps g c =

@@ -7,7 +7,7 @@ use Rattle.aql_rewrite.specs.ExprView.{lent}
 use Rattle.aql_rewrite.specs.laws.PartSizes.{parts_smaller}
 use Rattle.aql_rewrite.proofs.Steps.{is_smaller, none_next, found_next, found_in, found_whole}
 use Rattle.aql_rewrite.proofs.Steps.{none_whole}
-use Rattle.aql_rewrite.proofs.first_in_expr.+first.Goals as goal
+use Rattle.aql_rewrite.proofs.expr_search.+first.Goals as goal
 
 pub first_among-loop-at-init : goal.first_among-loop-at-init
 first_among-loop-at-init g t c = none_left

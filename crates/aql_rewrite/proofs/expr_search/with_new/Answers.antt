@@ -4,7 +4,7 @@ use Rattle.std.proofs.lemmas.Grind.{common_steps}
 use Rattle.aql_tree.specs.View.{tree}
 use Rattle.aql_rewrite.specs.ExprView.{lent}
 use Rattle.aql_rewrite.proofs.Steps.{put_between}
-use Rattle.aql_rewrite.proofs.first_in_expr.with_new.Goals as goal
+use Rattle.aql_rewrite.proofs.expr_search.with_new.Goals as goal
 
 pub returns : goal.returns
 returns c =
