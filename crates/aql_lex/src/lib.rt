@@ -12,4 +12,5 @@ mod vocabulary;
 pub use faults::{LexFault, LexKind};
 pub use kinds::{Token, TokenKind, Tokens};
 pub use reading::{lex, text_has_one_reading};
+pub use scans::keyword;
 pub use vocabulary::{Keyword, Symbol};

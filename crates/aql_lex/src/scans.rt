@@ -37,7 +37,8 @@ fn keyword_in(lines: &[(&str, Keyword)], word: &str) -> Option<Keyword>
     None
 }
 
-fn keyword(word: &str) -> Option<Keyword>
+/// The keyword that a word is, in any letter case.
+pub fn keyword(word: &str) -> Option<Keyword>
     ensures { MatchOption result ((keyword : Keyword) → IsReserved word.now keyword → ⊥)
         (IsReserved word.now) }
 {

@@ -1,0 +1,7 @@
+pub mod Words
+pub mod Names
+pub mod Lists
+pub mod Exprs
+pub mod Nodes
+pub mod PlanText
+pub mod Worked
