@@ -56,14 +56,14 @@ fn collection_index(collections: &[CollFact], name: &str) -> u32
     requires { length collections.now < 2 ^ 32 }
     ensures { result ≡ number_among collections.now name.now }
 {
-    let mut place = 0;
+    let mut index = 0;
     for collection in collections {
         if collection.name.as_str() == name {
-            return place;
+            return index;
         }
-        place += 1;
+        index += 1;
     }
-    place
+    index
 }
 
 pub(crate) fn collection_number(name: &Text, facts: &Facts) -> CollNo

@@ -11,11 +11,11 @@ use Rattle.aql_script.specs.declared.faults.LoadFault.{LoadFault}
 use Rattle.aql_script.specs.declared.faults.LoadFault.TheVariants.{Read, Limit, Line, Memory}
 use Rattle.aql_script.specs.declared.faults.LimitKind.TheVariants.{ScriptBytes}
 
-script_within : (bytes : List ℕ) → length bytes ≤ 67108864 → script bytes ≡ lines bytes
+pub script_within : (bytes : List ℕ) → length bytes ≤ 67108864 → script bytes ≡ lines bytes
 unfolding script
 script_within bytes h = let few : nat_le (length bytes) 67108864 ≡ true = grind (arith, h) in rw few refl
 
-script_beyond : (bytes : List ℕ) → 67108864 < length bytes → script bytes ≡ Err (Limit ScriptBytes)
+pub script_beyond : (bytes : List ℕ) → 67108864 < length bytes → script bytes ≡ Err (Limit ScriptBytes)
 unfolding script
 script_beyond bytes h = let many : nat_le (length bytes) 67108864 ≡ false = grind (arith, h) in rw many refl
 

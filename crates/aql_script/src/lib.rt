@@ -15,5 +15,5 @@ mod pieces;
 mod texts;
 
 pub use faults::{LimitKind, LineKind, LoadFault};
-pub use loading::{Loaded, bytes_have_no_other_fault, load};
+pub use loading::{Loaded, bytes_have_no_other_fault, load, load_bytes};
 pub use texts::{fault_text, limit_text};

@@ -2,7 +2,7 @@ ghost use Rattle.std.specs.Prelude.{◌≡◌, ◌≢◌, ◌≤◌, ◌<◌, �
 ghost use Rattle.std.specs.Str.Lines.{strip_carriage_return};
 ghost use Rattle.aql_script.specs.Lines.{last, with_query};
 ghost use Rattle.aql_script.specs.inner.Meets.{Meets};
-ghost use Rattle.aql_script.specs.Script.{lines, Loads, Hinders, HasFault, IsOfBytes};
+ghost use Rattle.aql_script.specs.Script.{lines, script, Loads, Hinders, HasFault, IsOfBytes};
 ghost use Rattle.aql_io.specs.Bytes.{HandsOut};
 ghost use Rattle.aql_script.specs.LineEffects.{line_effect};
 ghost use Rattle.aql_script.specs.declared.faults.LoadFault.{LoadFault};
@@ -46,6 +46,17 @@ pub fn load<S: Source>(alloc: Global, source: &mut S) -> Result<Loaded, LoadFaul
         Err(ReadAllFault::TooLong) => Err(LoadFault::Limit(LimitKind::ScriptBytes)),
         Err(ReadAllFault::Memory) => Err(LoadFault::Memory),
     }
+}
+
+/// Loads the script that these bytes are. The first fault decides: more than 67,108,864 bytes, or
+/// else that of the first line that has one.
+pub fn load_bytes(alloc: Global, bytes: &[u8]) -> Result<Loaded, LoadFault>
+    ensures { Meets result (script bytes.now) }
+{
+    if bytes.len() as u64 > SCRIPT_BYTES {
+        return Err(LoadFault::Limit(LimitKind::ScriptBytes));
+    }
+    load_lines(alloc, bytes)
 }
 
 /// The fault of a script's bytes is that of a line or a limit: want of memory and a failed read

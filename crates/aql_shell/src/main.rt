@@ -1,9 +1,9 @@
-//! Reads a script on standard input and prints one answer of its query.
+//! Reads a script on standard input and prints one answer of its query; the words of the command
+//! line may ask for something else.
 #![tactic(auto)]
 
 use aql_io::{StdSink, StdSource, write_all};
 use aql_local::Local;
-use aql_opt::Rules;
 use aql_top::run_shell;
 use aql_value::{Names, OutOfMemory, Text};
 use std::env;
@@ -59,14 +59,5 @@ fn main(rt: HostRuntime) -> ExitCode {
     let mut out = StdSink::new(rt.stdout());
     let alloc = rt.alloc();
     let mut engine = Local::new(alloc);
-    let rules = Rules::all();
-    ExitCode::from(run_shell(
-        alloc,
-        &names,
-        &rules,
-        &mut source,
-        &mut out,
-        &mut err,
-        &mut engine,
-    ))
+    ExitCode::from(run_shell(alloc, &names, &mut source, &mut out, &mut err, &mut engine))
 }

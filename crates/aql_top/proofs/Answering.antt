@@ -1,6 +1,6 @@
 -- The query of a loaded script: its first plan, and what the values of the plan are.
-use Rattle.std.proofs.Common.{arith, ◌≡◌, ◌⊎◌, ◌<◌, ◌≤◌, ◌^◌, inl, inr, ℕ, List, [], ◌∷◌, ◌++◌, Option, Some, length, refl, sym, ap, ◌∙◌, subst}
-use Rattle.std.specs.Prelude.{slice_get}
+use Rattle.std.proofs.Common.{arith, ◌≡◌, ◌⊎◌, ◌<◌, ◌≤◌, ◌^◌, inl, inr, ℕ, List, [], ◌∷◌, ◌++◌, Option, Some, length, refl, sym, ap, ap₂, ◌∙◌, subst, true, false}
+use Rattle.std.specs.Prelude.{slice_get, MatchBool, Result, Ok, Err, IfOk}
 use Rattle.aql_value.specs.Datum as value
 use Rattle.aql_value.specs.Database.{Database}
 use Rattle.aql_tree.specs.Tree.{QueryTree}
@@ -31,14 +31,19 @@ use Rattle.aql_build.specs.Theorem.{ScopingGivesIt}
 use Rattle.aql_build.specs.TextLimits.{TextLimitsEnd}
 use Rattle.aql_opt.specs.declared.rule_sets.Rules.{Rules}
 use Rattle.aql_opt.specs.Theorem.{FactsFit}
-use Rattle.aql_opt.specs.Chosen.{Chosen}
+use Rattle.aql_opt.specs.Chosen.{Chosen, cost_of}
 use Rattle.aql_engine.specs.declared.engine.Ran.{Ran}
 use Rattle.aql_engine.specs.Engine.{CanRun, Adds}
 use Rattle.aql_top.specs.declared.query_faults.QueryFault.{QueryFault}
 use Rattle.aql_top.specs.declared.query_faults.QueryFault.TheVariants.{TooLong, Lexical, TooDeep, TooManyClauses, NotInGrammar, TraversalTooDeep, Scope, Memory}
 use Rattle.aql_top.specs.Reading.{IsWritten, IsScoped, Refuses}
-use Rattle.aql_top.specs.Forms.{HasQuery, Answers, answer_text}
-use Rattle.aql_top.specs.Entries.{IsChosenPlan, AddsChosen}
+use Rattle.aql_show.specs.PlanText.{plan_text}
+use Rattle.aql_scope.specs.Lifting.{scope_query}
+use Rattle.aql_options.specs.declared.settings.Settings.{Settings}
+use Rattle.aql_top.specs.Forms.{HasQuery}
+use Rattle.aql_top.specs.Entries.{known, stored, IsChosenFor, IsPlanned, IsReady, IsRunOf}
+use Rattle.aql_top.specs.declared.planning.Planned.{Planned}
+use Rattle.aql_top.specs.Output.{run_text, IsOutput, IsPlanText, IsRunText}
 use Rattle.aql_top.specs.Faults.{of_query, HasNoLines}
 use Rattle.aql_top.proofs.Executors.{first_has}
 
@@ -50,7 +55,7 @@ is_lifted held text tree names s = subst IsLifted (sym s.lifted) (scoped_is_lift
 module _ (loaded : Loaded) (tree : QueryTree) (names : List (List ℕ))
     (s : IsScoped loaded.catalog loaded.query tree names) (facts : Facts) (plan : spec.Plan)
     (first : plan ≡ first_plan facts tree) where
-  pub has_query : HasQuery loaded
+  abbrev pub has_query : HasQuery loaded
   has_query = record {
     query = s.spelled;
     is_written = s.is_written;
@@ -60,54 +65,42 @@ module _ (loaded : Loaded) (tree : QueryTree) (names : List (List ℕ))
   pub executors : HasExecutors plan
   executors = subst HasExecutors (sym first) (first_has facts tree)
 
-  pub plan_answers : Meets facts (database loaded.catalog) → facts ≡ facts_of 0 loaded.catalog
-      → ((q : QueryTree) → IsWritten loaded.query q → (db : Database) (out : List value.Datum)
-      → IsAnswer db tree empty_row out → IsAnswer db q empty_row out)
-      → (values : List value.Datum)
-      → PlanAnswers plan (dataset (facts_of 0 loaded.catalog) (database loaded.catalog)) empty_row values
-      → Answers loaded (answer_text values)
-  plan_answers meets are keeps values a = record {
-    query = s.spelled;
-    is_written = s.is_written;
-    no_fault = s.no_fault;
-    values = values;
-    answer = keeps s.spelled s.is_written (database loaded.catalog) values
-        (first_answers facts (database loaded.catalog) meets tree (is_lifted _ _ tree names s) empty_row
-        values
-        (subst (λ p. PlanAnswers p (dataset facts (database loaded.catalog)) empty_row values) first
-        (subst (λ f. PlanAnswers plan (dataset f (database loaded.catalog)) empty_row values) (sym are) a)));
-    lines = refl;
-  }
+  abbrev KeepsAnswers : Type 0
+  KeepsAnswers = (q : QueryTree) → IsWritten loaded.query q → (db : Database) (out : List value.Datum)
+      → IsAnswer db tree empty_row out → IsAnswer db q empty_row out
+
+  -- what the values of a plan are
+  abbrev GivesAnswers : spec.Plan → Type 0
+  GivesAnswers p = (values : List value.Datum)
+      → PlanAnswers p (dataset (known loaded) (database loaded.catalog)) empty_row values
+      → (q : QueryTree) → IsWritten loaded.query q → IsAnswer (database loaded.catalog) q empty_row values
+
+  plan_answers : Meets facts (database loaded.catalog) → facts ≡ known loaded → KeepsAnswers
+      → GivesAnswers plan
+  plan_answers meets are keeps values a q written =
+      keeps q written (database loaded.catalog) values
+      (first_answers facts (database loaded.catalog) meets tree (is_lifted _ _ tree names s) empty_row values
+      (subst (λ p. PlanAnswers p (dataset facts (database loaded.catalog)) empty_row values) first
+      (subst (λ f. PlanAnswers plan (dataset f (database loaded.catalog)) empty_row values) (sym are) a)))
 
   -- the values of a plan that refines it
-  pub chosen_answers : Meets facts (database loaded.catalog) → facts ≡ facts_of 0 loaded.catalog
-      → ((q : QueryTree) → IsWritten loaded.query q → (db : Database) (out : List value.Datum)
-      → IsAnswer db tree empty_row out → IsAnswer db q empty_row out)
-      → (chosen : spec.Plan) → Refines facts chosen plan → (values : List value.Datum)
-      → PlanAnswers chosen (dataset (facts_of 0 loaded.catalog) (database loaded.catalog)) empty_row values
-      → Answers loaded (answer_text values)
-  chosen_answers meets are keeps chosen refines values a =
+  pub chosen_answers : Meets facts (database loaded.catalog) → facts ≡ known loaded → KeepsAnswers
+      → (chosen : spec.Plan) → Refines facts chosen plan → GivesAnswers chosen
+  chosen_answers meets are keeps chosen refines values a q written =
       let db = database loaded.catalog in
       plan_answers meets are keeps values
       (subst (λ f. PlanAnswers plan (dataset f db) empty_row values) are
       (refines db meets empty_row values
-      (subst (λ f. PlanAnswers chosen (dataset f db) empty_row values) (sym are) a)))
+      (subst (λ f. PlanAnswers chosen (dataset f db) empty_row values) (sym are) a))) q written
 
-pub is_chosen_plan : (loaded : Loaded) (tree : QueryTree) (names : List (List ℕ))
-    → IsScoped loaded.catalog loaded.query tree names → (facts : Facts)
-    → Meets facts (database loaded.catalog) → (first : spec.Plan) → first ≡ first_plan facts tree
-    → (rules : Rules) (plan : Plan) (applied : List RuleName)
-    → Chosen facts rules first (plan_tree plan) applied → IsChosenPlan rules loaded plan
-is_chosen_plan loaded tree names s facts meets first is rules plan applied chosen = record {
-  query = s.spelled;
-  is_written = s.is_written;
-  no_fault = s.no_fault;
-  facts = facts;
-  true_facts = meets;
-  applied = applied;
-  chosen = subst (λ p. Chosen facts rules p (plan_tree plan) applied) (is ∙ ap (first_plan facts) s.lifted)
-      chosen;
-}
+  pub is_planned : facts ≡ known loaded → (rules : Rules) (chosen : spec.Plan) (applied : List RuleName)
+      → Chosen facts rules plan chosen applied → IsPlanned rules loaded names chosen applied
+  is_planned are rules chosen applied h = record {
+    has_query = has_query;
+    names_are = s.variable_names;
+    chosen = subst (λ f. Chosen f rules (first_plan f (scope_query [] 1 s.spelled).tree) chosen applied) are
+        (subst (λ p. Chosen facts rules p chosen applied) (first ∙ ap (first_plan facts) s.lifted) h);
+  }
 
 -- the scoped query may be planned
 pub resolved : ScopingGivesIt → TextLimitsEnd → FactsFit
@@ -151,26 +144,92 @@ module _ (w : Dataset) (plan : Plan) (batch : ℕ) (before after : List Ran)
         ∙ ap (λ n. slice_get (before ++ a.ran ∷ []) n) (here ∙ ap length is)
         ∙ at_end before a.ran
 
-    pub adds_chosen : (rules : Rules) (loaded : Loaded) → IsChosenPlan rules loaded plan
-        → AddsChosen rules loaded before after a.ran
-    adds_chosen rules loaded chosen =
-        record { added = a.added; chosen = subst (IsChosenPlan rules loaded) (sym a.same_plan) chosen }
-
-pub answer_of_entry : (loaded : Loaded) (servers : Holding)
+-- the entry is over the documents of the script, and its text is what is printed
+pub entry_prints : (loaded : Loaded) (servers : Holding)
     → servers ≡ record { held = loaded.catalog; servers = 0; counts = nothing_counted }
-    → (plan : Plan) (batch : ℕ) (before after : List Ran) (a : Adds (stock servers) plan batch before after)
-    → ((values : List value.Datum)
-    → PlanAnswers (plan_tree plan)
-    (dataset (facts_of 0 loaded.catalog) (database loaded.catalog)) empty_row values
-    → Answers loaded (answer_text values))
-    → (ran : Ran) → ran ≡ a.ran → (text : List ℕ) → text ≡ answer_text ran.values → Answers loaded text
-answer_of_entry loaded servers holds plan batch before after a answers ran same text lines =
-    subst (Answers loaded) (sym (lines ∙ ap (λ (r : Ran). answer_text r.values) same))
-    (answers a.ran.values
-    (subst (λ (p : Plan). PlanAnswers (plan_tree p)
-    (dataset (facts_of 0 loaded.catalog) (database loaded.catalog)) empty_row a.ran.values) a.same_plan
-    (subst (λ (h : Holding). PlanAnswers (plan_tree a.ran.plan) (stock h) empty_row a.ran.values) holds
-    a.over.answer)))
+    → (settings : Settings) (plan : Plan) (batch : ℕ) (before after : List Ran)
+    → (a : Adds (stock servers) plan batch before after) (ran : Ran) → ran ≡ a.ran
+    → {V E : Type 0} (bytes : V → List ℕ) (r : Result V E) → IfOk r (λ text. bytes text ≡ run_text settings ran)
+    → IfOk r (λ text. (added : Adds (stored loaded) plan batch before after)
+    × (bytes text ≡ run_text settings added.ran))
+entry_prints loaded servers holds settings plan batch before after a ran same bytes (Err e) is = tt
+entry_prints loaded servers holds settings plan batch before after a ran same bytes (Ok text) is =
+    subst (λ (h : Holding). (b : Adds (stock h) plan batch before after)
+    × (bytes text ≡ run_text settings b.ran))
+    holds (a, is ∙ ap (run_text settings) same)
+
+pub adds_stored : (loaded : Loaded) (servers : Holding)
+    → servers ≡ record { held = loaded.catalog; servers = 0; counts = nothing_counted }
+    → (plan : Plan) (batch : ℕ) (before after : List Ran)
+    → Adds (stock servers) plan batch before after → Adds (stored loaded) plan batch before after
+adds_stored loaded servers holds plan batch before after a =
+    subst (λ (h : Holding). Adds (stock h) plan batch before after) holds a
+
+-- ---- what is printed
+
+module _ (loaded : Loaded) (settings : Settings) (p : Planned) (ready : IsReady settings.rules loaded p) where
+  run_of : (before after : List Ran) (a : Adds (stored loaded) p.chosen.plan settings.batch before after)
+      → IsRunOf settings loaded a.ran
+  run_of before after a = record {
+    has_query = ready.planned.has_query;
+    applied = p.chosen.applied;
+    chosen = subst
+        (λ (x : Plan). IsChosenFor settings.rules loaded ready.planned.has_query.query (plan_tree x)
+        p.chosen.applied)
+        (sym a.same_plan) ready.planned.chosen;
+    batch = a.same_batch;
+    answer = ready.answers a.ran.values
+        (subst (λ (x : Plan). PlanAnswers (plan_tree x) (stored loaded) empty_row a.ran.values) a.same_plan
+        a.over.answer)
+        ready.planned.has_query.query ready.planned.has_query.is_written;
+  }
+
+  pub run_output : settings.explain ≡ false → (before after : List Ran)
+      (a : Adds (stored loaded) p.chosen.plan settings.batch before after)
+      → (text : List ℕ) → text ≡ run_text settings a.ran → IsOutput settings loaded before after text
+  run_output off before after a text is =
+      subst (λ on. MatchBool on ((after ≡ before) × IsPlanText settings.rules loaded text)
+      (IsRunText settings loaded before after text)) (sym off)
+      (record { ran = a.ran; added = a.added; of = run_of before after a; is = is })
+
+  pub plan_output : settings.explain ≡ true → (entries : List Ran) (text : List ℕ)
+      → text ≡ plan_text p.names p.facts (plan_tree p.chosen.plan) p.chosen.applied p.chosen.cost
+      → IsOutput settings loaded entries entries text
+  plan_output on entries text is =
+      subst (λ b. MatchBool b ((entries ≡ entries) × IsPlanText settings.rules loaded text)
+      (IsRunText settings loaded entries entries text)) (sym on) (
+        refl,
+        record {
+          names = p.names;
+          plan = plan_tree p.chosen.plan;
+          applied = p.chosen.applied;
+          planned = ready.planned;
+          is = is ∙ ap₂ (λ f n. plan_text p.names f (plan_tree p.chosen.plan) p.chosen.applied n)
+              ready.known_facts ready.cost;
+        },
+      )
+
+  -- as the answers of a call
+  pub plan_prints : settings.explain ≡ true → (entries : List Ran) {V E : Type 0} (bytes : V → List ℕ)
+      (r : Result V E) → IfOk r (λ text. bytes text
+      ≡ plan_text p.names p.facts (plan_tree p.chosen.plan) p.chosen.applied p.chosen.cost)
+      → IfOk r (λ text. IsOutput settings loaded entries entries (bytes text))
+  plan_prints on entries bytes (Ok text) is = plan_output on entries (bytes text) is
+  plan_prints on entries bytes (Err e) is = tt
+
+  pub run_prints : settings.explain ≡ false → (before after : List Ran) {V E : Type 0} (bytes : V → List ℕ)
+      (r : Result V E) → IfOk r (λ text. (a : Adds (stored loaded) p.chosen.plan settings.batch before after)
+      × (bytes text ≡ run_text settings a.ran))
+      → IfOk r (λ text. IsOutput settings loaded before after (bytes text))
+  run_prints off before after bytes (Ok text) h = run_output off before after h.0 (bytes text) h.1
+  run_prints off before after bytes (Err e) h = tt
+
+  pub run_at_most : settings.explain ≡ false → (before after : List Ran)
+      → (after ≡ before) ⊎ Adds (stored loaded) p.chosen.plan settings.batch before after
+      → (after ≡ before) ⊎ ((text : List ℕ) × IsOutput settings loaded before after text)
+  run_at_most off before after (inl same) = inl same
+  run_at_most off before after (inr a) =
+      inr (run_text settings a.ran, run_output off before after a (run_text settings a.ran) refl)
 
 -- ---- a query that is refused
 

@@ -4,3 +4,4 @@ pub mod ChosenExecutors
 pub mod Answering
 pub mod Ends
 pub mod Once
+pub mod Settings

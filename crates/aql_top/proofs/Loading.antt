@@ -2,7 +2,9 @@
 use Rattle.std.proofs.Common.{◌≡◌, ◌≢◌, ◌≤◌, ◌⊎◌, inl, inr, ℕ, List, [], ◌++◌, Bool, true, false, Option, Some, None, Err, length, nat_le, refl, sym, ap, ◌∙◌, subst, append-nil, arith, length-append}
 use Rattle.std.specs.Prelude.{IfSome, Result}
 use Rattle.std.proofs.lemmas.Bool.{false≢true}
+use Rattle.aql_io.specs.Bytes.{HandsOut}
 use Rattle.aql_script.specs.Script.{script, IsScript, HasFault, Loads, IsFaulty, Hinders}
+use Rattle.aql_script.proofs.OfBytes.{fault_of_bytes}
 use Rattle.aql_script.specs.declared.loading.Loaded.{Loaded}
 use Rattle.aql_script.specs.declared.faults.LoadFault.{LoadFault}
 use Rattle.aql_script.specs.declared.faults.LoadFault.TheVariants.{Read, Limit, Line, Memory}
@@ -10,12 +12,11 @@ use Rattle.aql_script.specs.declared.faults.LimitKind.TheVariants.{ScriptBytes}
 use Rattle.aql_top.specs.Reading.{Refuses}
 use Rattle.aql_top.specs.declared.query_faults.QueryFault.{QueryFault}
 use Rattle.aql_top.specs.declared.query_faults.QueryFault.TheVariants as query
-use Rattle.aql_top.specs.Forms.{TakesWords, HasQuery, Answers, IsScriptWith, Accepts, Allows}
-use Rattle.aql_top.specs.Forms.{answer_text}
-use Rattle.aql_opt.specs.declared.rule_sets.Rules.{Rules}
-use Rattle.aql_top.specs.Entries.{IsChosenPlan, AddsChosen, PrintsEntry, AddsAtMostOne}
+use Rattle.aql_top.specs.Forms.{HasQuery, IsScriptWith, Accepts, script_bytes}
+use Rattle.aql_options.specs.declared.settings.Settings.{Settings}
+use Rattle.aql_top.specs.Output.{IsOutput, Prints, AddsAtMostOne}
 use Rattle.aql_engine.specs.declared.engine.Ran.{Ran}
-use Rattle.aql_top.specs.Faults.{of_load, Leads, HasNoLines, status_of}
+use Rattle.aql_top.specs.Faults.{of_load, LeadsBy, HasNoLines, status_of}
 use Rattle.aql_top.specs.Reasons.{query_status, RoseWhere}
 use Rattle.aql_top.specs.declared.faults.RunFault.{RunFault}
 use Rattle.aql_top.specs.declared.faults.RunFault.TheVariants as run
@@ -29,7 +30,7 @@ beyond bytes h = grind (arith, h)
 all_taken : (input taken rest : List ℕ) → input ≡ taken ++ rest → rest ≡ [] → taken ≡ input
 all_taken input taken rest e n = sym (e ∙ ap (λ r. taken ++ r) n ∙ append-nil taken)
 
-whole_script : (before after : Option (List ℕ)) (loaded : Loaded) → Loads loaded before after
+pub whole_script : (before after : Option (List ℕ)) (loaded : Loaded) → Loads loaded before after
     → IfSome before (λ bytes. IsScript bytes loaded)
 whole_script None after loaded h = tt
 whole_script (Some input) None loaded h = absurd h.0.consumed
@@ -64,12 +65,19 @@ abbrev pub failed : LoadFault → Result Loaded LoadFault
 failed fault = Err fault
 
 module _ (before after : Option (List ℕ)) (faults faults' : ℕ) where
-  pub load_leads : (fault : LoadFault) (words : List (List ℕ)) → TakesWords words
-      → Hinders fault before after faults faults' → Leads (of_load fault) words before
-  load_leads Read words t h = t
-  load_leads Memory words t h = tt
-  load_leads (Limit kind) words t h = (t, tt, first_fault (Limit kind) before after h)
-  load_leads (Line n kind) words t h = (t, tt, first_fault (Line n kind) before after h)
+  pub load_leads : (fault : LoadFault) → Hinders fault before after faults faults'
+      → LeadsBy (of_load fault) before
+  load_leads Read h = tt
+  load_leads Memory h = tt
+  load_leads (Limit kind) h = (tt, first_fault (Limit kind) before after h)
+  load_leads (Line n kind) h = (tt, first_fault (Line n kind) before after h)
+
+  pub load_within : (fault : LoadFault) → Hinders fault before after faults faults'
+      → status_of (of_load fault) ≡ 6 → HandsOut before after (λ taken. length taken ≤ 67108864)
+  load_within Read h e = h.0
+  load_within Memory h e = absurd (omega (arith, e))
+  load_within (Limit kind) h e = absurd (omega (arith, e))
+  load_within (Line n kind) h e = absurd (omega (arith, e))
 
   stayed : (n : ℕ) → (n ≡ 6 → ⊥) → faults' ≡ faults → RoseWhere (n ≡ 6) faults faults'
   stayed n other same = (λ six. absurd (other six), λ _. same)
@@ -89,47 +97,64 @@ load_status Memory = (λ e. omega (arith, e), λ e. omega (arith, e))
 load_status (Limit kind) = (λ e. omega (arith, e), λ e. omega (arith, e))
 load_status (Line n kind) = (λ e. omega (arith, e), λ e. omega (arith, e))
 
+-- ---- a script that was made
+
+pub made_leads : (bytes : List ℕ) (fault : LoadFault) → (fault ≡ Memory) ⊎ (script bytes ≡ Err fault)
+    → LeadsBy (of_load fault) (Some bytes)
+made_leads bytes Memory h = tt
+made_leads bytes Read h = tt
+made_leads bytes (Limit kind) (inl e) = absurd (cc)
+made_leads bytes (Limit kind) (inr h) = (tt, h)
+made_leads bytes (Line n kind) (inl e) = absurd (cc)
+made_leads bytes (Line n kind) (inr h) = (tt, h)
+
+pub made_status : (bytes : List ℕ) (fault : LoadFault) → (fault ≡ Memory) ⊎ (script bytes ≡ Err fault)
+    → (status_of (of_load fault) ≢ 6) × (status_of (of_load fault) ≢ 7)
+made_status bytes Memory h = (λ e. omega (arith, e), λ e. omega (arith, e))
+made_status bytes (Limit kind) h = (λ e. omega (arith, e), λ e. omega (arith, e))
+made_status bytes (Line n kind) h = (λ e. omega (arith, e), λ e. omega (arith, e))
+made_status bytes Read (inl e) = absurd (cc)
+made_status bytes Read (inr h) = absurd (fault_of_bytes bytes Read h)
+
 -- ---- a script that was loaded
 
 -- what holds of the script that was loaded holds of that of the bytes
-script_with : (Holds : Loaded → Type 0) (before after : Option (List ℕ)) (loaded : Loaded)
-    → Loads loaded before after → Holds loaded → IfSome before (IsScriptWith Holds)
-script_with Holds None after loaded h k = tt
-script_with Holds (Some bytes) after loaded h k = (loaded, (whole_script (Some bytes) after loaded h, k))
+script_with : (Holds : Loaded → Type 0) (input : Option (List ℕ)) (loaded : Loaded)
+    → IfSome input (λ bytes. IsScript bytes loaded) → Holds loaded → IfSome input (IsScriptWith Holds)
+script_with Holds None loaded h k = tt
+script_with Holds (Some bytes) loaded h k = (loaded, (h, k))
 
-module _ (before after : Option (List ℕ)) (loaded : Loaded) where
-  pub allowed : (text : List ℕ) → Loads loaded before after → Answers loaded text
-      → IfSome before (λ bytes. Allows bytes text)
-  allowed text h a = script_with (λ l. Answers l text) before after loaded h a
+module _ (loaded : Loaded) where
+  pub accepted : (input : Option (List ℕ)) → IfSome input (λ bytes. IsScript bytes loaded) → HasQuery loaded
+      → IfSome input Accepts
+  accepted input h r = script_with HasQuery input loaded h r
 
-  pub accepted : Loads loaded before after → HasQuery loaded → IfSome before Accepts
-  accepted h r = script_with HasQuery before after loaded h r
+  pub no_lines_lead : (fault : RunFault) (input : Option (List ℕ))
+      → IfSome input (λ bytes. IsScript bytes loaded) → HasNoLines loaded fault → LeadsBy fault input
+  no_lines_lead run.Words input h n = absurd n
+  no_lines_lead run.Read input h n = absurd n
+  no_lines_lead (run.Script fault) input h n = absurd n
+  no_lines_lead (run.Query fault) input h n =
+      script_with (λ l. Refuses l.catalog l.query fault) input loaded h n
+  no_lines_lead run.Write input h n = absurd n
+  no_lines_lead run.Memory input h n = tt
 
-  pub entered : (rules : Rules) (entries entries' : List Ran) (ran : Ran) (Written : List ℕ → Type 0)
-      → Loads loaded before after → AddsChosen rules loaded entries entries' ran → Written (answer_text ran.values)
-      → PrintsEntry rules before entries entries' Written
-  entered rules entries entries' ran Written h a w = record {
-    ran = ran;
-    added = a.added;
-    chosen = script_with (λ l. IsChosenPlan rules l ran.plan) before after loaded h a.chosen;
-    written = w;
+module _ (settings : Settings) (left : Option (List ℕ)) (loaded : Loaded) (before after : List Ran)
+    (script : IfSome (script_bytes settings left) (λ bytes. IsScript bytes loaded)) where
+  pub printed : (Written : List ℕ → Type 0) (text : List ℕ) → IsOutput settings loaded before after text
+      → Written text → Prints settings left before after Written
+  printed Written text output written = record {
+    loaded = loaded;
+    script = script;
+    text = text;
+    output = output;
+    written = written;
   }
 
-  pub at_most_one : (rules : Rules) (entries entries' : List Ran) → Loads loaded before after
-      → (entries' ≡ entries) ⊎ ((ran : Ran) × AddsChosen rules loaded entries entries' ran)
-      → AddsAtMostOne rules before entries entries'
-  at_most_one rules entries entries' h (inl same) = inl same
-  at_most_one rules entries entries' h (inr a) = inr (entered rules entries entries' a.0 (λ text. Unit {0}) h a.1 tt)
-
-  pub no_lines_lead : (fault : RunFault) (words : List (List ℕ)) → TakesWords words
-      → Loads loaded before after → HasNoLines loaded fault → Leads fault words before
-  no_lines_lead run.Words words t h n = absurd n
-  no_lines_lead run.Read words t h n = absurd n
-  no_lines_lead (run.Script fault) words t h n = absurd n
-  no_lines_lead (run.Query fault) words t h n =
-      (t, script_with (λ l. Refuses l.catalog l.query fault) before after loaded h n)
-  no_lines_lead run.Write words t h n = absurd n
-  no_lines_lead run.Memory words t h n = tt
+  pub at_most_one : (after ≡ before) ⊎ ((text : List ℕ) × IsOutput settings loaded before after text)
+      → AddsAtMostOne settings left before after
+  at_most_one (inl same) = inl same
+  at_most_one (inr o) = inr (printed (λ text. Unit {0}) o.0 o.1 tt)
 
 -- the status is none of those of words, reads and writes
 abbrev pub IsLate : ℕ → Type 0

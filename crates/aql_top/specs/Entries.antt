@@ -1,57 +1,72 @@
 -- What the engine's list has of a run of the program: one entry, of the plan that the optimiser chooses by
 -- the rules for the script's query.
-use Rattle.std.specs.Prelude.{◌≡◌, ◌⊎◌, ℕ, List, [], ◌∷◌, ◌++◌, None, Option, IfSome}
-use Rattle.std.specs.Io.KnownBytes.{Appends}
-use Rattle.aql_io.specs.Bytes.{AppendsPrefix}
+use Rattle.std.specs.Prelude.{◌≡◌, ℕ, List, []}
+use Rattle.aql_meaning.specs.Row.{empty_row}
+use Rattle.aql_meaning.specs.Meaning.{IsAnswer}
 use Rattle.aql_doc.specs.Held.{database}
 use Rattle.aql_tree.specs.Tree.{QueryTree}
 use Rattle.aql_script.specs.declared.loading.Loaded.{Loaded}
 use Rattle.aql_scope.specs.Lifting.{scope_query}
-use Rattle.aql_scope.specs.Faults.{first_fault}
-use Rattle.aql_top.specs.Reading.{IsWritten}
 use Rattle.aql_plan.specs.declared.facts.Facts.{Facts}
-use Rattle.aql_plan.specs.declared.plan.Plan.{Plan}
 use Rattle.aql_plan.specs.declared.rules.RuleName.{RuleName}
-use Rattle.aql_plan.specs.Facts.{Meets}
+use Rattle.aql_plan.specs.Plan.{Plan}
 use Rattle.aql_plan.specs.View.{plan_tree}
 use Rattle.aql_plan.specs.FirstPlan.{first_plan}
+use Rattle.aql_plan.specs.Runs.{Dataset}
+use Rattle.aql_plan.specs.Refines.{dataset, Answers as PlanAnswers}
+use Rattle.aql_plan.specs.WellFormed.{IsWellFormed}
+use Rattle.aql_value.specs.Datum.{Datum}
+use Rattle.aql_engine.specs.Runnable.{HasExecutors}
+use Rattle.aql_top.specs.Reading.{IsWritten}
+use Rattle.aql_top.specs.declared.planning.Planned.{Planned}
+use Rattle.aql_shard.specs.Known.{facts_of}
+use Rattle.aql_shard.specs.Datasets.{stock, nothing_counted}
 use Rattle.aql_opt.specs.declared.rule_sets.Rules.{Rules}
-use Rattle.aql_opt.specs.Chosen.{Chosen}
+use Rattle.aql_opt.specs.Chosen.{Chosen, cost_of}
+use Rattle.aql_options.specs.declared.settings.Settings.{Settings}
 use Rattle.aql_engine.specs.declared.engine.Ran.{Ran}
-use Rattle.aql_top.specs.Forms.{answer_text, IsScriptWith}
+use Rattle.aql_top.specs.Forms.{HasQuery}
 
--- the plan that is chosen, by these rules and by facts that are true of the collections, for the script's
--- query, whose first plan has a node for each clause
-pub record IsChosenPlan (rules : Rules) (loaded : Loaded) (plan : Plan) : Type 0 where
-  pub query : QueryTree
-  pub is_written : IsWritten loaded.query query
-  pub no_fault : first_fault loaded.catalog query ≡ None
-  pub facts : Facts
-  pub true_facts : Meets facts (database loaded.catalog)
+-- what is known of the script's collections, which all are in one place
+abbrev pub known : Loaded → Facts
+known loaded = facts_of 0 loaded.catalog
+
+-- the plan that is chosen, by these rules and by what is known of the collections, for a query, whose first
+-- plan has a node for each clause; and the names of the rules that changed it
+abbrev pub IsChosenFor : Rules → Loaded → QueryTree → Plan → List RuleName → Type 0
+IsChosenFor rules loaded q plan applied =
+    Chosen (known loaded) rules (first_plan (known loaded) (scope_query [] 1 q).tree) plan applied
+
+-- what planning gives for the script's query: the names of the variables, by number, the chosen plan, and the
+-- names of the rules that changed it
+pub record IsPlanned (rules : Rules) (loaded : Loaded) (names : List (List ℕ)) (plan : Plan)
+    (applied : List RuleName) : Type 0 where
+  pub has_query : HasQuery loaded
+  pub names_are : names ≡ (scope_query [] 1 has_query.query).said
+  pub chosen : IsChosenFor rules loaded has_query.query plan applied
+
+-- a plan that is ready to be run or printed
+pub record IsReady (rules : Rules) (loaded : Loaded) (p : Planned) : Type 0 where
+  pub planned : IsPlanned rules loaded p.names (plan_tree p.chosen.plan) p.chosen.applied
+  pub known_facts : p.facts ≡ known loaded
+  pub cost : p.chosen.cost ≡ cost_of (known loaded) (plan_tree p.chosen.plan)
+  pub executors : HasExecutors (plan_tree p.chosen.plan)
+  pub well_formed : IsWellFormed (known loaded) [] (plan_tree p.chosen.plan)
+  pub answers : (values : List Datum)
+      → PlanAnswers (plan_tree p.chosen.plan)
+      (dataset (known loaded) (database loaded.catalog)) empty_row values
+      → (query : QueryTree) → IsWritten loaded.query query
+      → IsAnswer (database loaded.catalog) query empty_row values
+
+-- the documents of the script, in one place
+abbrev pub stored : Loaded → Dataset
+stored loaded = stock (record { held = loaded.catalog; servers = 0; counts = nothing_counted })
+
+-- an entry of the script's query: its plan is the one chosen by the rules of the settings, its batch is that
+-- of the settings, and its values are an answer that the meaning allows for the query as it is written
+pub record IsRunOf (settings : Settings) (loaded : Loaded) (ran : Ran) : Type 0 where
+  pub has_query : HasQuery loaded
   pub applied : List RuleName
-  pub chosen : Chosen facts rules (first_plan facts (scope_query [] 1 query).tree) (plan_tree plan) applied
-
--- exactly one entry is new; its plan is the one chosen for the script's query
-pub record AddsChosen (rules : Rules) (loaded : Loaded) (before after : List Ran) (ran : Ran) : Type 0 where
-  pub added : after ≡ before ++ ran ∷ []
-  pub chosen : IsChosenPlan rules loaded ran.plan
-
--- the same of the script that the input is, and the lines of the entry's values were written in this way
-pub record PrintsEntry (rules : Rules) (input : Option (List ℕ)) (before after : List Ran)
-    (Written : List ℕ → Type 0) : Type 0 where
-  pub ran : Ran
-  pub added : after ≡ before ++ ran ∷ []
-  pub chosen : IfSome input (IsScriptWith (λ loaded. IsChosenPlan rules loaded ran.plan))
-  pub written : Written (answer_text ran.values)
-
--- no entry is new, or one of the chosen plan
-abbrev pub AddsAtMostOne : Rules → Option (List ℕ) → List Ran → List Ran → Type 0
-AddsAtMostOne rules input before after =
-    (after ≡ before) ⊎ PrintsEntry rules input before after (λ text. Unit {0})
-
--- what the engine's list gained where a run came so far as to call the engine, and what was written of it
-pub record IsEntered (status : ℕ) (rules : Rules) (input : Option (List ℕ)) (before after : List Ran)
-    (written written' : Option (List ℕ)) : Type 0 where
-  pub printed : status ≡ 0 → PrintsEntry rules input before after (Appends written written')
-  pub front : status ≡ 7 → PrintsEntry rules input before after (AppendsPrefix written written')
-  pub no_memory : status ≡ 8 → AddsAtMostOne rules input before after
+  pub chosen : IsChosenFor settings.rules loaded has_query.query (plan_tree ran.plan) applied
+  pub batch : ran.batch ≡ settings.batch
+  pub answer : IsAnswer (database loaded.catalog) has_query.query empty_row ran.values

@@ -9,7 +9,7 @@ use Rattle.aql_top.specs.declared.query_faults.QueryFault.{QueryFault}
 use Rattle.aql_top.specs.declared.query_faults.QueryFault.TheVariants as query
 use Rattle.aql_top.specs.Reading.{Refuses}
 use Rattle.aql_top.specs.Texts.{query_fault_text}
-use Rattle.aql_top.specs.Forms.{TakesWords, Accepts, HasQueryFault}
+use Rattle.aql_top.specs.Forms.{Gives, TakesWords, Accepts, HasQueryFault, script_bytes}
 use Rattle.aql_top.specs.Reasons.{fault_status, query_status, as_line}
 use Rattle.aql_top.specs.declared.faults.RunFault.{RunFault}
 use Rattle.aql_top.specs.declared.faults.RunFault.TheVariants.{Words, Read, Script, Query, Write, Memory}
@@ -25,15 +25,20 @@ abbrev pub of_query : QueryFault → RunFault
 of_query query.Memory = Memory
 of_query fault = Query fault
 
--- what in the words and in the bytes of the source leads to a fault
+-- what in the bytes of the script leads to a fault, where the words are taken
+abbrev pub LeadsBy : RunFault → Option (List ℕ) → Type 0
+LeadsBy Words input = ⊥
+LeadsBy Read input = Unit {0}
+LeadsBy (Script fault) input = IsOfBytes fault × IfSome input (λ bytes. HasFault bytes fault)
+LeadsBy (Query fault) input = IfSome input (λ bytes. HasQueryFault bytes fault)
+LeadsBy Write input = IfSome input Accepts
+LeadsBy Memory input = Unit {0}
+
+-- what in the words and in the bytes that the source had left leads to a fault
 abbrev pub Leads : RunFault → List (List ℕ) → Option (List ℕ) → Type 0
-Leads Words words input = TakesWords words → ⊥
-Leads Read words input = TakesWords words
-Leads (Script fault) words input =
-    TakesWords words × IsOfBytes fault × IfSome input (λ bytes. HasFault bytes fault)
-Leads (Query fault) words input = TakesWords words × IfSome input (λ bytes. HasQueryFault bytes fault)
-Leads Write words input = TakesWords words × IfSome input Accepts
-Leads Memory words input = Unit {0}
+Leads Words words left = TakesWords words → ⊥
+Leads Memory words left = Unit {0}
+Leads fault words left = Gives words (λ settings. LeadsBy fault (script_bytes settings left))
 
 -- what of a loaded script leads to a fault
 abbrev pub HasNoLines : Loaded → RunFault → Type 0

@@ -1,5 +1,6 @@
 pub mod Forms
 pub mod Entries
+pub mod Output
 pub mod Faults
 pub mod Reasons
 pub mod Causes

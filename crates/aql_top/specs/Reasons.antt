@@ -10,7 +10,7 @@ use Rattle.aql_script.specs.declared.faults.LoadFault.TheVariants.{Read, Limit, 
 use Rattle.aql_top.specs.declared.query_faults.QueryFault.{QueryFault}
 use Rattle.aql_top.specs.declared.query_faults.QueryFault.TheVariants as query
 use Rattle.aql_top.specs.Texts.{query_fault_text}
-use Rattle.aql_top.specs.Forms.{Allows, HasQueryFault}
+use Rattle.aql_top.specs.Forms.{HasQueryFault}
 
 -- the exit status of a fault of the script, and of its query
 abbrev pub fault_status : LoadFault → ℕ
@@ -29,7 +29,7 @@ query_status query.TraversalTooDeep = 5
 query_status (query.Scope fault) = 4
 query_status query.Memory = 8
 
--- The bytes of the source deserve this status and this text: for their first fault as a script, else for the
+-- The bytes of the script deserve this status and this text: for their first fault as a script, else for the
 -- first fault of their query.
 pub data Deserves (input : Option (List ℕ)) : ℕ → List ℕ → Type 0 where
   bad_script : (fault : LoadFault) → IsOfBytes fault → IfSome input (λ bytes. HasFault bytes fault)
@@ -37,7 +37,7 @@ pub data Deserves (input : Option (List ℕ)) : ℕ → List ℕ → Type 0 wher
   bad_query : (fault : QueryFault) → IfSome input (λ bytes. HasQueryFault bytes fault)
       → Deserves input (query_status fault) (query_fault_text fault)
 
--- the text of each status that the bytes of the source do not decide
+-- the text of each status that the bytes of the script do not decide
 pub data IsTextOf : ℕ → List ℕ → Type 0 where
   bad_words : IsTextOf 2 (codes "words")
   read_fault : IsTextOf 6 (codes "read fault")
@@ -52,12 +52,6 @@ as_line text = codes "aql: " ++ (text ++ 10 ∷ [])
 abbrev pub Tells : List ℕ → Option (List ℕ) → Option (List ℕ) → ℕ → ℕ → Type 0
 Tells line before after faults faults' =
     Appends before after line ⊎ (AppendsPrefix before after line × Rose faults faults')
-
--- a text that the input allows was written in this way
-pub record Prints (input : Option (List ℕ)) (Written : List ℕ → Type 0) : Type 0 where
-  pub text : List ℕ
-  pub allowed : IfSome input (λ bytes. Allows bytes text)
-  pub written : Written text
 
 -- a count of faults rose where this holds, and else it stayed
 abbrev pub RoseWhere : Type 0 → ℕ → ℕ → Type 0

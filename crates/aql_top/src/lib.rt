@@ -2,10 +2,13 @@
 //! first cause of a refusal.
 #![tactic(auto)]
 
-mod answer;
 mod faults;
+mod output;
+mod planning;
+mod printing;
 mod query_faults;
 mod reading;
+mod scripts;
 mod shell;
 mod texts;
 

@@ -4,7 +4,6 @@ use crate::tests::catalogs::names;
 use crate::tests::pages::expect;
 use aql_io::{MemorySink, MemorySource};
 use aql_local::Local;
-use aql_opt::Rules;
 use aql_top::run_shell;
 use aql_value::Names;
 use std::alloc::Global;
@@ -39,15 +38,7 @@ fn run_on(
         Ok(script) => {
             let mut source = MemorySource::new(script, 7, source_fails);
             let mut engine = Local::new(alloc);
-            run_shell(
-                alloc,
-                words,
-                &Rules::all(),
-                &mut source,
-                out,
-                err,
-                &mut engine,
-            )
+            run_shell(alloc, words, &mut source, out, err, &mut engine)
         }
         Err(_) => 255,
     }

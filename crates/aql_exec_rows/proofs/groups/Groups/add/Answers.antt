@@ -16,8 +16,8 @@ use Rattle.aql_exec_rows.proofs.Seen.{as_many, counts_at, grows_by}
 use Rattle.aql_exec_rows.proofs.Adding.{placed_groups, row_added}
 use Rattle.aql_exec_rows.proofs.groups.Groups.add.Goals as goal
 
-pub add_member-requires-clause-group_index : goal.add_member-requires-clause-group_index
-add_member-requires-clause-group_index c =
+pub add_member-requires-clause-place : goal.add_member-requires-clause-place
+add_member-requires-clause-place c =
     let g = c.args.grouping.now in
     let held = c.requires.holds in
     let mid = c.group_index.new.self in
@@ -58,17 +58,17 @@ returns-clause-held c rows h =
     let added = c.in_ok-add_member.ensures.added in
     let slice = c.deref_mut.ensures.value in
     let takes = subst (λ gs. Takes (datums_in arguments)
-    (map datum_of (option_to_list c.in_ok-into_value.taken)) (get_or gs at added.0) added.0) slice
-    (subst (λ vs. Takes (datums_in vs) (map datum_of (option_to_list c.in_ok-into_value.taken))
+    (map datum_of (option_to_list c.in_ok-taken.taken)) (get_or gs at added.0) added.0) slice
+    (subst (λ vs. Takes (datums_in vs) (map datum_of (option_to_list c.in_ok-taken.taken))
     (get_or c.deref_mut.result.now at added.0) added.0) c.deref.ensures.value added.2) in
     let groups = c.add_member.new.groups in
     let new : Groups = record { keys = mid.keys; kept = with_items mid.kept groups } in
     let items : new.kept.items ≡ groups = with_items_is mid.kept groups
     (c.in_ok-add_member.ensures.count ∙ ap length slice ∙ sym mid.kept.ok.0) in
     row_added g c.args.kinds.now row (datum_of c.in_ok-key.key) c.in_ok-key.ensures rows c.args.self.now
-    mid h placed.keys placed.kept new at c.in_ok-into_value.taken added.0
+    mid h placed.keys placed.kept new at c.in_ok-taken.taken added.0
     (datums_in arguments) placed.place refl (items ∙ added.1 ∙ ap (λ gs. set gs at added.0) slice)
-    c.in_ok-arguments.ensures c.in_ok-into_value.ensures takes
+    c.in_ok-arguments.ensures c.in_ok-taken.ensures takes
 
 pub returns-clause-count : goal.returns-clause-count
 returns-clause-count c =

@@ -9,8 +9,8 @@ use Rattle.aql_exec_rows.proofs.groups.Groups.group_index.Goals as goal
 pub returns-in_ok-push-clause-keys : goal.returns-in_ok-push-clause-keys
 returns-in_ok-push-clause-keys c = ap datums_in c.in_ok-at.ensures.keys ∙ keys_noted c.args.self.now.keys.keys c.args.key
 
-pub returns-in_ok-push-clause-group_index : goal.returns-in_ok-push-clause-group_index
-returns-in_ok-push-clause-group_index c =
+pub returns-in_ok-push-clause-place : goal.returns-in_ok-push-clause-place
+returns-in_ok-push-clause-place c =
     let stored = c.in_ok-at.ensures.stored in
     slice_get-map datum_of c.insert_full.new.self.keys c.in_ok-at.at ∙ ap (option_map datum_of) stored.1
     ∙ ap Some (sym (same_is (datum_of c.args.key) (datum_of stored.0) stored.2))
@@ -26,8 +26,8 @@ pub returns-else-is_new-clause-keys : goal.returns-else-is_new-clause-keys
 returns-else-is_new-clause-keys c =
     ap datums_in c.in_ok-at.ensures.keys ∙ keys_noted c.args.self.now.keys.keys c.args.key
 
-pub returns-else-is_new-clause-group_index : goal.returns-else-is_new-clause-group_index
-returns-else-is_new-clause-group_index c =
+pub returns-else-is_new-clause-place : goal.returns-else-is_new-clause-place
+returns-else-is_new-clause-place c =
     let stored = c.in_ok-at.ensures.stored in
     slice_get-map datum_of c.insert_full.new.self.keys c.in_ok-at.at ∙ ap (option_map datum_of) stored.1
     ∙ ap Some (sym (same_is (datum_of c.args.key) (datum_of stored.0) stored.2))

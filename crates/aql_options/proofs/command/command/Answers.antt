@@ -1,0 +1,12 @@
+use Rattle.std.proofs.Common.{◌≡◌, ◌∙◌, ap₂, subst, IfOk}
+use Rattle.clap.specs.Words.{app_of, with_rule}
+use Rattle.aql_options.proofs.command.command.Goals as goal
+
+pub returns : goal.returns
+returns c =
+    let first = c.in_ok-command.ensures ∙ ap₂ with_rule c.program-program.ensures c.valued.ensures.rule in
+    let second = c.in_ok-command-2.ensures ∙ ap₂ with_rule first c.valued-2.ensures.rule in
+    let third = c.in_ok-command-3.ensures ∙ ap₂ with_rule second c.flag.ensures.rule in
+    let fourth = c.in_ok-command-4.ensures ∙ ap₂ with_rule third c.flag-2.ensures.rule in
+    subst (λ app. IfOk c.with-5.result (λ made. app_of made ≡ app))
+    (ap₂ with_rule fourth c.valued-3.ensures.rule) c.with-5.ensures

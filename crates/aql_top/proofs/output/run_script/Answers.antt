@@ -1,0 +1,18 @@
+use Rattle.std.proofs.Common.{◌≡◌}
+use Rattle.aql_top.proofs.Answering.{found_entry, entry_prints}
+use Rattle.aql_top.proofs.output.run_script.Goals as goal
+
+pub unreachable-requires : goal.unreachable-requires
+unreachable-requires g c =
+    let found = found_entry _ _ _ _ _ c.in_ok-run.ensures.ok c.held.result.now c.held-2.result.now
+    c.len-before.result c.held.ensures c.len-before.ensures c.held-2.ensures _ c.in-None.ensures in
+    absurd (cc)
+
+pub returns-clause-added : goal.returns-clause-added
+returns-clause-added g c =
+    let added = c.in_ok-run.ensures.ok in
+    let found = found_entry _ _ _ _ _ added c.held.result.now c.held-2.result.now
+    c.len-before.result c.held.ensures c.len-before.ensures c.held-2.ensures _ c.in-Some.ensures in
+    let same : c.in-Some.ran.now ≡ added.ran = cc in
+    entry_prints c.args.script c.in_ok-servers.servers c.in_ok-servers.ensures c.args.settings.now c.args.plan
+    _ _ _ added c.in-Some.ran.now same (λ text. text.items) c.run_text.result c.run_text.ensures
