@@ -31,7 +31,7 @@ use Rattle.aql_build.specs.Theorem.{ScopingGivesIt}
 use Rattle.aql_build.specs.TextLimits.{TextLimitsEnd}
 use Rattle.aql_opt.specs.declared.rule_sets.Rules.{Rules}
 use Rattle.aql_opt.specs.Theorem.{FactsFit}
-use Rattle.aql_opt.specs.Chosen.{Chosen, cost_of}
+use Rattle.aql_opt.specs.Chosen.{Chosen}
 use Rattle.aql_engine.specs.declared.engine.Ran.{Ran}
 use Rattle.aql_engine.specs.Engine.{CanRun, Adds}
 use Rattle.aql_top.specs.declared.query_faults.QueryFault.{QueryFault}
