@@ -226,9 +226,9 @@ middle R P (x ∷ xs) (b ∷ ys) y zs h k = middle R P xs ys y zs h.1 k.1
 pub chosen_kept : (facts : Facts) (rules : Rules) (p q : Plan) (told : List RuleName)
     → Chosen facts rules p q told → HasExecutors p → HasExecutors q
 chosen_kept facts rules p q told c h =
-    let first = turns_kept facts rules p c.first.plan first_rules c.first.told c.ran_first h in
+    let first = turns_kept facts rules p c.first.plan first_rules c.first.applied c.ran_first h in
     let tried = candidates_kept rules c.first.plan c.candidates c.are first in
     let from = middle (EndsAs facts rules) HasExecutors c.candidates c.before c.chosen c.after
     c.cheapest.ended tried in
     subst HasExecutors (sym c.plan)
-    (turns_kept facts rules from.0 c.chosen.plan later_rules c.chosen.told from.2 from.1)
+    (turns_kept facts rules from.0 c.chosen.plan later_rules c.chosen.applied from.2 from.1)
