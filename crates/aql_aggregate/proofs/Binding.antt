@@ -1,33 +1,12 @@
 -- Variables that are set one after another are read back, as long as no variable is there twice.
-use Rattle.std.proofs.Common.{◌≡◌, ℕ, List, [], ◌∷◌, ◌++◌, map, length, Bool, true, false, not, ◌&&◌, cond, Some, unwrap_or, refl, sym, ap, ◌∙◌, true≢false, subst, arith}
+use Rattle.std.proofs.Common.{◌≡◌, List, [], ◌∷◌, ◌++◌, map, length, Bool, true, false, not, ◌&&◌, cond, Some, unwrap_or, refl, sym, ap, ◌∙◌, true≢false, arith}
 use Rattle.std.specs.List.{list_any}
-use Rattle.std.proofs.lemmas.Bool.{eqb-true, eq-eqb}
-use Rattle.std.proofs.lemmas.Slice.Eq.{bytes_eq-Decides}
 use Rattle.aql_value.specs.Datum.{Datum, null}
 use Rattle.aql_tree.specs.declared.syntax.Ident.{Ident}
-use Rattle.aql_tree.specs.declared.syntax.Ident.TheVariants.{Name, Num}
 use Rattle.aql_meaning.specs.Row.{Row, same_ident, bind, bind_all, value_at}
+use Rattle.aql_meaning.specs.laws.Idents.{same_self, same_swapped}
 use Rattle.aql_aggregate.specs.Theorems.{are_distinct}
 use Rattle.aql_aggregate.specs.laws.Totals.{any_append, first_false, second_false}
-
-same_is : (x y : Ident) → same_ident x y ≡ true → x ≡ y
-same_is (Name a) (Name b) h = ap (λ (n : List ℕ). Name n) ((bytes_eq-Decides a b).0 h)
-same_is (Num a) (Num b) h = ap (λ (n : ℕ). Num n) (eqb-true a b h)
-same_is (Name a) (Num b) h = absurd (true≢false (sym h))
-same_is (Num a) (Name b) h = absurd (true≢false (sym h))
-
-same_self : (x : Ident) → same_ident x x ≡ true
-same_self (Name a) = (bytes_eq-Decides a a).1 refl
-same_self (Num a) = eq-eqb a a refl
-
-same_swapped : (x y : Ident) → same_ident x y ≡ false → same_ident y x ≡ false
-same_swapped x y h = by (same_ident y x) refl
-  where
-    by : (b : Bool) → same_ident y x ≡ b → b ≡ false
-    by false e = refl
-    by true e =
-        absurd (true≢false (sym (subst (λ (z : Ident). same_ident z y
-        ≡ true) (same_is y x e) (same_self y)) ∙ h))
 
 first_true : (a b : Bool) → not a && b ≡ true → a ≡ false
 first_true true b h = absurd (true≢false (sym h))

@@ -6,7 +6,7 @@ use Rattle.aql_tree.specs.declared.syntax.Clause.{Clause}
 use Rattle.aql_tree.specs.View.{tree, links, LinkPart, link_part, clauses, clause_tree}
 use Rattle.aql_meaning.specs.Numbered.{ClauseNumbered, ClausesNumbered}
 use Rattle.aql_scope.specs.laws.Turns.{Unvisited, from_here, same_item}
-use Rattle.aql_scope.specs.laws.Elements.{link_is}
+use Rattle.aql_tree.specs.laws.Parts.{link_is}
 use Rattle.aql_plan.specs.declared.facts.Facts.{Facts}
 use Rattle.aql_plan.specs.Plan.{Plan, Over, Filter}
 use Rattle.aql_plan.specs.FirstPlan.{right_sides, filters, after_clause, after_clauses}

@@ -1,5 +1,5 @@
 -- Rows with their keys: one more in a list, the order of keys, and the last that is held.
-use Rattle.std.proofs.Common.{◌≡◌, ◌∙◌, ℕ, zero, suc, ◌+◌, ◌<◌, ◌++◌, List, [], ◌∷◌, length, get_or, drop, take, map, reverse, Bool, true, false, Some, refl, sym, ap, ap₂, subst, arith, rules, append_assoc}
+use Rattle.std.proofs.Common.{◌≡◌, ◌∙◌, ℕ, zero, suc, ◌+◌, ◌<◌, ◌++◌, List, [], ◌∷◌, length, get_or, drop, take, map, reverse, Bool, true, false, Some, refl, sym, ap, ap₂, subst, arith, append_assoc}
 use Rattle.std.specs.Prelude.{slice_get, slice_set}
 use Rattle.std.specs.Ordering.{is_ne, ordering_then}
 use Rattle.std.specs.declared.cmp.Ordering.{Ordering}
@@ -12,13 +12,14 @@ use Rattle.std.proofs.lemmas.Option.{get_or_from_slice_get, slice_get_within}
 use Rattle.aql_value.specs.Datum.{Datum}
 use Rattle.aql_func.specs.Arguments.{argument}
 use Rattle.aql_tree.specs.Tree.{ExprTrees}
-use Rattle.aql_tree.specs.declared.syntax.Key.{Key, the_lemmas}
-use Rattle.aql_tree.specs.View.{tree, KeyPart, key_part}
+use Rattle.aql_tree.specs.declared.syntax.Key.{Key}
+use Rattle.aql_tree.specs.View.{KeyPart, key_part}
 use Rattle.aql_meaning.specs.Row.{Row}
 use Rattle.aql_meaning.specs.Clauses.{KeyedRow, key_cmp, keys_cmp}
 use Rattle.aql_plan.specs.View.{directions}
 use Rattle.aql_exec_rows.specs.Keys.{with_keys, rows_alone}
 use Rattle.aql_exec_rows.specs.Sorting.{HasExactly, AllHave}
+use Rattle.aql_tree.specs.laws.Parts.{key_is}
 
 -- ---- one row after another
 
@@ -83,9 +84,6 @@ pub last_has : (xs : List ℕ) (held held' : List KeyedRow) (last : KeyedRow) �
     → AllHave xs held → AllHave xs held' × HasExactly xs last.1
 last_has xs held held' last e h =
     All-pop (λ (k : KeyedRow). HasExactly xs k.1) held held' (Some last) e h
-
-key_is : (k : Key) → key_part k ≡ (tree k.expr, k.descending)
-key_is k = search (rules, the_lemmas)
 
 -- the directions from a place on
 pub key_here : (keys : List Key) (at : ℕ) (key : Key) → key ≡ get_or keys at key → at < length keys

@@ -1,17 +1,16 @@
 -- The parts of what a COLLECT is told, one after another.
-use Rattle.std.proofs.Common.{◌≡◌, ℕ, zero, suc, ◌+◌, ◌<◌, List, [], ◌∷◌, ◌++◌, length, map, drop, take, get_or, Bool, true, false, cond, ◌&&◌, Option, Some, None, option_map, refl, sym, ap, ◌∙◌, subst, rules, true≢false, append_assoc, arith}
-use Rattle.std.specs.Prelude.{MatchOption, option_to_list}
+use Rattle.std.proofs.Common.{◌≡◌, ℕ, zero, suc, ◌+◌, ◌<◌, List, [], ◌∷◌, ◌++◌, length, map, drop, get_or, true, Option, Some, None, option_map, refl, sym, ap, ◌∙◌, rules, append_assoc}
+use Rattle.std.specs.Prelude.{MatchOption}
 use Rattle.std.specs.List.{list_all, AllByRecursion}
-use Rattle.std.proofs.lemmas.List.{drop_more, append-nil, map-append, length-map}
-use Rattle.aql_value.specs.Datum.{Datum, null}
+use Rattle.std.proofs.lemmas.List.{drop_more, length-map}
 use Rattle.aql_func.specs.Aggregates.{Aggregate, count, sum, min, max, sorted_unique, count_distinct, aggregate_named}
 use Rattle.aql_tree.specs.declared.syntax.Ident.{Ident}
 use Rattle.aql_tree.specs.declared.syntax.Ident.TheVariants.{Name, Num}
-use Rattle.aql_tree.specs.declared.syntax.Let.{Let, the_lemmas as let_lemmas}
-use Rattle.aql_tree.specs.declared.syntax.AggregateItem.{AggregateItem, the_lemmas as aggregate_lemmas}
+use Rattle.aql_tree.specs.declared.syntax.Let.{Let}
+use Rattle.aql_tree.specs.declared.syntax.AggregateItem.{AggregateItem}
 use Rattle.aql_tree.specs.declared.syntax.Into.{Into, the_lemmas as into_lemmas}
-use Rattle.aql_tree.specs.Tree.{MaybeExpr, no_expr, one_expr, expr_then, aggregate_then, AggregateTrees}
-use Rattle.aql_tree.specs.View.{tree, LetPart, AggregatePart, IntoPart, let_part, aggregate_part, into_part, maybe, aggregates}
+use Rattle.aql_tree.specs.Tree.{MaybeExpr, no_expr, one_expr, expr_then, aggregate_then}
+use Rattle.aql_tree.specs.View.{tree, LetPart, AggregatePart, aggregate_part, into_part, maybe, aggregates}
 use Rattle.aql_meaning.specs.declared.grouping.Stage.{Stage}
 use Rattle.aql_meaning.specs.declared.grouping.Stage.TheVariants as stage
 use Rattle.aql_meaning.specs.Row.{Row, value_at}
@@ -24,17 +23,12 @@ use Rattle.aql_plan.specs.View.{maybe_tree}
 use Rattle.aql_aggregate.specs.declared.staged.StagedKind.{StagedKind}
 use Rattle.aql_aggregate.specs.Staged.{Staged, staged}
 use Rattle.aql_exec_rows.specs.CollectSettings.{is_number, criteria_vars, criteria_trees, aggregate_trees, in_stage, seen_by, AreKinds}
+use Rattle.aql_tree.specs.laws.Parts.{let_is, aggregate_is}
 
 -- the item at a place, with those after it
 pub here : {X : Type 0} (xs : List X) (i : ℕ) (x : X) → x ≡ get_or xs i x → i < length xs
     → drop i xs ≡ x ∷ drop (i + 1) xs
 here xs i x e l = drop_more xs i x l ∙ ap (λ y. y ∷ drop (i + 1) xs) (sym e)
-
-let_is : (x : Let) → let_part x ≡ (x.var, tree x.expr)
-let_is x = search (rules, let_lemmas)
-
-aggregate_is : (x : AggregateItem) → aggregate_part x ≡ (x.var, x.name, option_map tree x.arg)
-aggregate_is x = search (rules, aggregate_lemmas)
 
 pub into_is : (x : Into) → into_part x ≡ (x.var, option_map tree x.what, x.keep)
 into_is x = search (rules, into_lemmas)

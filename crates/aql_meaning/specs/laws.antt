@@ -7,3 +7,4 @@ pub mod Agrees
 pub mod Replaced
 pub mod Rows
 pub mod RowByRow
+pub mod Idents

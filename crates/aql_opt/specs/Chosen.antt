@@ -10,9 +10,9 @@ use Rattle.aql_plan.specs.declared.rules.RuleName.{RuleName}
 use Rattle.aql_plan.specs.declared.rules.RuleName.TheVariants as rule
 use Rattle.aql_plan.specs.Plan.{Plan}
 use Rattle.aql_rules_order.specs.InterchangeAdjacentEnumerations.{Candidates}
-use Rattle.aql_opt.specs.declared.rule_sets.Rules.{Rules}
+use Rattle.aql_plan.specs.declared.rule_sets.Rules.{Rules}
 use Rattle.aql_opt.specs.Estimate.{estimate}
-use Rattle.aql_opt.specs.RuleSets.{Has}
+use Rattle.aql_plan.specs.RuleSets.{Has}
 use Rattle.aql_opt.specs.Passes.{IsPassOf}
 
 -- ---- passes

@@ -1,6 +1,5 @@
 pub mod Theorem
 pub mod Estimate
-pub mod RuleSets
 pub mod Worked
 pub mod Passes
 pub mod Chosen

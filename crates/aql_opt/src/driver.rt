@@ -12,9 +12,9 @@ ghost use Rattle.aql_opt.specs.Chosen.{RunsRule, AfterRules, CandidatesBy, Chose
 ghost use Rattle.aql_opt.specs.Chosen.{later_rules, cost_of};
 ghost use Rattle.aql_opt.specs.laws.Cheapest.{Best, order_names};
 
+use crate::estimate;
 use crate::passes::pass_of;
-use crate::{Rules, estimate};
-use aql_plan::{Facts, Plan, Plans, RuleName, RuleNames};
+use aql_plan::{Facts, Plan, Plans, RuleName, RuleNames, Rules};
 use aql_rules_order::candidates;
 use aql_value::{OutOfMemory, Seq};
 use std::alloc::Global;

@@ -7,10 +7,8 @@ mod estimates;
 mod known;
 pub mod laws;
 mod passes;
-mod rule_sets;
 pub mod worked;
 
 pub use driver::{Optimised, optimise};
 pub use estimates::{Cost, estimate};
 pub use known::facts;
-pub use rule_sets::Rules;

@@ -1,5 +1,5 @@
 -- Lists of names, and lists of lines, that grow.
-use Rattle.std.proofs.Common.{◌≡◌, ◌≢◌, ◌∙◌, ◌↔◌, ◌⊎◌, ◌<◌, ◌+◌, ℕ, zero, suc, List, [], ◌∷◌, ◌++◌, map, take, length, get_or, flat_map, Option, Some, None, Ok, Err, inl, inr, refl, sym, ap, ap₂, subst, arith, codes, nat_eq, append_assoc, append-nil}
+use Rattle.std.proofs.Common.{◌≡◌, ◌≢◌, ◌∙◌, ◌↔◌, ◌⊎◌, ◌<◌, ◌+◌, ℕ, zero, suc, List, [], ◌∷◌, ◌++◌, map, take, length, get_or, flat_map, Option, Some, None, Ok, Err, inl, inr, sym, ap, ap₂, arith, codes, nat_eq, append_assoc, append-nil}
 use Rattle.std.specs.Prelude.{Result, IfOk, MatchOption}
 use Rattle.std.specs.Borrow.{Bor}
 use Rattle.std.specs.List.{slice_split, Contains}
@@ -9,8 +9,8 @@ use Rattle.std.proofs.lemmas.Grind.{flat_map-append}
 use Rattle.aql_value.specs.declared.memory.OutOfMemory.{OutOfMemory}
 use Rattle.aql_plan.specs.declared.rules.RuleName.{RuleName}
 use Rattle.aql_plan.specs.RuleNames.{rule_text}
-use Rattle.aql_opt.specs.declared.rule_sets.Rules.{Rules}
-use Rattle.aql_opt.specs.RuleSets.{Has}
+use Rattle.aql_plan.specs.declared.rule_sets.Rules.{Rules}
+use Rattle.aql_plan.specs.RuleSets.{Has}
 use Rattle.aql_options.specs.Words.{AreRules, HasNamed}
 use Rattle.aql_options.specs.Generated.{up_to}
 

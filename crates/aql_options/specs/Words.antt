@@ -1,7 +1,7 @@
 -- Which words of the command line give which settings: the words are those of one simple command, without
 -- positional arguments, in the definition of the crate clap; and the value of each option is in its set. An
 -- option that is left out has its default. The first word is the program's name.
-use Rattle.std.specs.Prelude.{◌≡◌, ◌≤◌, ◌↔◌, ◌⊎◌, ℕ, List, [], ◌∷◌, map, codes, Bool, true, false, nat_eq, Option, None, Some}
+use Rattle.std.specs.Prelude.{◌≡◌, ◌≤◌, ◌↔◌, ◌⊎◌, ℕ, List, [], map, codes, Bool, true, false, nat_eq, Option, None, Some}
 use Rattle.std.specs.List.{slice_split, Contains}
 use Rattle.std.specs.Str.Parse.{IsNumeral, digits_value}
 use Rattle.clap.specs.Words.{App, Rule, Text, new_app, new_rule, with_rule, first_of, matches_of}
@@ -10,8 +10,8 @@ use Rattle.clap.specs.Faults.{fault_of}
 use Rattle.clap.specs.declared.builder.action.ArgAction.TheVariants.{Set, SetTrue}
 use Rattle.aql_plan.specs.declared.rules.RuleName.{RuleName}
 use Rattle.aql_plan.specs.RuleNames.{rule_text}
-use Rattle.aql_opt.specs.declared.rule_sets.Rules.{Rules}
-use Rattle.aql_opt.specs.RuleSets.{Has}
+use Rattle.aql_plan.specs.declared.rule_sets.Rules.{Rules}
+use Rattle.aql_plan.specs.RuleSets.{Has}
 use Rattle.aql_options.specs.declared.settings.Settings.{Settings}
 
 -- ---- the command

@@ -4,12 +4,11 @@ ghost use Rattle.std.specs.Prelude.{◌≡◌, ◌≢◌, ◌↔◌, IfOk, List,
 ghost use Rattle.std.specs.List.{slice_split, Contains};
 ghost use Rattle.aql_plan.specs.declared.rules.RuleName.{RuleName};
 ghost use Rattle.aql_plan.specs.RuleNames.{rule_text};
-ghost use Rattle.aql_opt.specs.declared.rule_sets.Rules.{Rules};
-ghost use Rattle.aql_opt.specs.RuleSets.{Has};
+ghost use Rattle.aql_plan.specs.declared.rule_sets.Rules.{Rules};
+ghost use Rattle.aql_plan.specs.RuleSets.{Has};
 ghost use Rattle.aql_options.specs.Words.{AreRules, HasNamed};
 
-use aql_opt::Rules;
-use aql_plan::RuleName;
+use aql_plan::{RuleName, Rules};
 use aql_value::OutOfMemory;
 use std::alloc::Global;
 

@@ -1,4 +1,4 @@
-use aql_opt::Rules;
+use aql_plan::Rules;
 
 /// How a run goes.
 #[derive(Clone, Copy, Debug, PartialEq, Eq)]

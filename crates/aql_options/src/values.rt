@@ -1,11 +1,11 @@
 //! The values of the options.
 
 ghost use Rattle.std.specs.Prelude.{◌≡◌, ◌↔◌, IfOk, ℕ, Option, MatchOption, option_map};
-ghost use Rattle.aql_opt.specs.declared.rule_sets.Rules.{Rules};
+ghost use Rattle.aql_plan.specs.declared.rule_sets.Rules.{Rules};
 ghost use Rattle.aql_options.specs.Words.{IsNumber, IsBatch, IsFlag, IsGenerated, AreRules};
 
 use crate::rule_lists::rules_of;
-use aql_opt::Rules;
+use aql_plan::Rules;
 use aql_value::OutOfMemory;
 use std::alloc::Global;
 

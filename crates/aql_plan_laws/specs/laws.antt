@@ -7,7 +7,6 @@ pub mod NodesAlike
 pub mod RunsAlike
 pub mod Agreement
 pub mod Congruence
-pub mod Idents
 pub mod Renamed
 pub mod RenamedAbove
 pub mod ShapesKept

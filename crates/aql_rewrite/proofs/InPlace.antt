@@ -1,12 +1,7 @@
 -- A loop that puts what stands in a queue in the places of a list, one item after another.
-use Rattle.std.proofs.Common.{◌≡◌, ◌∙◌, ℕ, suc, ◌+◌, ◌<◌, ◌≤◌, List, [], ◌∷◌, ◌++◌, length, get_or, set, drop, take, map, refl, arith, sym, ap, subst, append_assoc, append-nil, add-one, drop-set-lt}
-use Rattle.std.proofs.Common.{rules, option_map}
+use Rattle.std.proofs.Common.{◌≡◌, ◌∙◌, ℕ, ◌+◌, ◌<◌, ◌≤◌, List, [], ◌∷◌, ◌++◌, length, get_or, set, drop, take, map, arith, sym, ap, subst, append_assoc, append-nil, add-one, drop-set-lt}
 use Rattle.std.specs.List.{refill}
 use Rattle.std.proofs.Math.Seq.{drop-cons, take-append_seam}
-use Rattle.aql_tree.specs.declared.syntax.Key.{Key, the_lemmas as key_lemmas}
-use Rattle.aql_tree.specs.declared.syntax.Let.{Let, the_lemmas as let_lemmas}
-use Rattle.aql_tree.specs.declared.syntax.AggregateItem.{AggregateItem, the_lemmas as aggregate_lemmas}
-use Rattle.aql_tree.specs.View.{tree, key_part, let_part, aggregate_part}
 use Rattle.std.proofs.lemmas.List.{map-append, drop_all, length-set, take_all, take_more_set}
 
 from_here : {A : Type 0} (all : List A) (i : ℕ) (d : A) → i < length all
@@ -77,12 +72,3 @@ module _ {X A Q : Type 0} (part : X → A) (over : List A → Q → List A) (aft
         ∙ goes.rest
 
 -- ---- the parts of items
-
-pub key_is : (x : Key) → key_part x ≡ (tree x.expr, x.descending)
-key_is x = search (rules, key_lemmas)
-
-pub let_is : (x : Let) → let_part x ≡ (x.var, tree x.expr)
-let_is x = search (rules, let_lemmas)
-
-pub aggregate_is : (x : AggregateItem) → aggregate_part x ≡ (x.var, x.name, option_map tree x.arg)
-aggregate_is x = search (rules, aggregate_lemmas)

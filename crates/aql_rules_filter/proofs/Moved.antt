@@ -1,13 +1,10 @@
 -- The items of a condition, moved out of it one after another.
-use Rattle.std.proofs.Common.{◌≡◌, ◌∙◌, ℕ, ◌+◌, ◌<◌, ◌≤◌, ◌≢◌, List, [], ◌∷◌, ◌++◌, length, get_or, set, take, map, refl, ap, ap₂, sym, append_assoc, arith, rules}
+use Rattle.std.proofs.Common.{◌≡◌, ◌∙◌, ℕ, ◌+◌, ◌<◌, ◌≤◌, ◌≢◌, List, [], ◌∷◌, ◌++◌, length, get_or, set, take, map, refl, ap, ap₂, sym, append_assoc, arith}
 use Rattle.std.proofs.lemmas.List.{map_push, map_more, get_or-set_other, length-set}
-use Rattle.aql_tree.specs.declared.syntax.Link.{Link, the_lemmas as link_lemmas}
-use Rattle.aql_tree.specs.View.{tree, links, link_part, LinkPart}
+use Rattle.aql_tree.specs.declared.syntax.Link.{Link}
+use Rattle.aql_tree.specs.View.{links, link_part, LinkPart}
 use Rattle.aql_plan.specs.FirstPlan.{right_sides}
 use Rattle.aql_rules_filter.specs.Readers.{and_link}
-
-pub link_is : (x : Link) → link_part x ≡ (x.op, tree x.right)
-link_is x = search (rules, link_lemmas)
 
 -- the right side of a link, as a link of an `&&` chain
 abbrev pub anded : Link → LinkPart

@@ -1,13 +1,14 @@
 -- The keys of a Sort, one after another.
-use Rattle.std.proofs.Common.{rules, ◌≡◌, ◌∙◌, ◌<◌, ◌+◌, ℕ, suc, List, ◌∷◌, length, drop, get_or, ap, ap₂, sym, subst, arith}
+use Rattle.std.proofs.Common.{◌≡◌, ◌∙◌, ◌<◌, ◌+◌, ℕ, suc, List, ◌∷◌, length, drop, get_or, ap, ap₂, sym, subst, arith}
 use Rattle.std.specs.Prelude.{◌↔◌, Bool}
 use Rattle.std.proofs.Math.Seq.{drop-cons, drop-length}
-use Rattle.aql_tree.specs.declared.syntax.Key.{Key, the_lemmas}
+use Rattle.aql_tree.specs.declared.syntax.Key.{Key}
 use Rattle.aql_tree.specs.Tree.{ExprTree}
 use Rattle.aql_tree.specs.View.{tree, key_part}
 use Rattle.aql_plan.specs.View.{key_trees}
 use Rattle.aql_rewrite.specs.Constant.{IsConstant, AreConstant, no_more, constant_then}
 use Rattle.aql_rewrite.specs.Children.{list_children}
+use Rattle.aql_tree.specs.laws.Parts.{key_is}
 
 abbrev pub Constant : List Key → Type 0
 Constant keys = AreConstant (list_children (key_trees keys))
@@ -17,9 +18,6 @@ first_of (constant_then h k) = h
 
 rest_of : {e : ExprTree} {es : List ExprTree} → AreConstant (e ∷ es) → AreConstant es
 rest_of (constant_then h k) = k
-
-key_is : (k : Key) → key_part k ≡ (tree k.expr, k.descending)
-key_is k = search (rules, the_lemmas)
 
 same_expr : (k : Key) → (key_part k).0 ≡ tree k.expr
 same_expr k = ap (λ (part : ExprTree × Bool). part.0) (key_is k)

@@ -11,13 +11,13 @@ use Rattle.aql_tree.specs.View.{tree, trees, maybe, LetPart, let_part, Aggregate
 use Rattle.aql_meaning.specs.Visible.{aggregate_vars}
 use Rattle.aql_scope.specs.Numbering.{Numbering, enter, text_of}
 use Rattle.aql_scope.specs.Lifting as spec
-use Rattle.aql_scope.specs.Lifting.{Scoped, ScopedClause, declares}
+use Rattle.aql_scope.specs.Lifting.{Scoped, declares}
 use Rattle.aql_scope.specs.declared.numbers.Numbers.{Numbers}
 use Rattle.aql_scope.specs.Lifts.{Progress, progress}
 use Rattle.aql_scope.specs.laws.Turns.{Given, Goes, Unvisited, turn_there, from_here}
 use Rattle.aql_scope.proofs.Parts.{Criteria, let_then, aggregate_part_then}
 use Rattle.aql_scope.proofs.Declared.{after_declare}
-use Rattle.aql_scope.specs.laws.Elements.{let_is, aggregate_is}
+use Rattle.aql_tree.specs.laws.Parts.{let_is, aggregate_is}
 
 -- what stands beside the items stays
 pub beside : {A B C : Type 0} (h : A → B) (g : B → C) (items : List A) (i : ℕ) (d y : A)

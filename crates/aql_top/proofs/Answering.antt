@@ -29,7 +29,7 @@ use Rattle.aql_shard.specs.Known.{facts_of}
 use Rattle.aql_build.specs.Resolved.{IsResolved}
 use Rattle.aql_build.specs.Theorem.{ScopingGivesIt}
 use Rattle.aql_build.specs.TextLimits.{TextLimitsEnd}
-use Rattle.aql_opt.specs.declared.rule_sets.Rules.{Rules}
+use Rattle.aql_plan.specs.declared.rule_sets.Rules.{Rules}
 use Rattle.aql_opt.specs.Theorem.{FactsFit}
 use Rattle.aql_opt.specs.Chosen.{Chosen}
 use Rattle.aql_engine.specs.declared.engine.Ran.{Ran}

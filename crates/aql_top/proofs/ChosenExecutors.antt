@@ -29,7 +29,7 @@ use Rattle.aql_rules_order.specs.RemoveCollectVariables.{Drops, unused_go}
 use Rattle.aql_rules_order.specs.RemoveRedundantSorts.{WithoutSort, Unsorts, constant_keys, order_lost}
 use Rattle.aql_rules_order.specs.SortLimit.{Limited, Limits, limited}
 use Rattle.aql_rules_filter.specs.MoveFiltersIntoEnumerate.{MovesIn, into_enumerate, into_index}
-use Rattle.aql_opt.specs.declared.rule_sets.Rules.{Rules}
+use Rattle.aql_plan.specs.declared.rule_sets.Rules.{Rules}
 use Rattle.aql_rules_calc.specs.SimplifyConditions.{Simplifies}
 use Rattle.aql_rules_calc.specs.ReplaceOrWithIn.{Replaces}
 use Rattle.aql_opt.specs.Passes.{IsPassOf}

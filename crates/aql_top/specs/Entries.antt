@@ -21,7 +21,7 @@ use Rattle.aql_top.specs.Reading.{IsWritten}
 use Rattle.aql_top.specs.declared.planning.Planned.{Planned}
 use Rattle.aql_shard.specs.Known.{facts_of}
 use Rattle.aql_shard.specs.Datasets.{stock, nothing_counted}
-use Rattle.aql_opt.specs.declared.rule_sets.Rules.{Rules}
+use Rattle.aql_plan.specs.declared.rule_sets.Rules.{Rules}
 use Rattle.aql_opt.specs.Chosen.{Chosen, cost_of}
 use Rattle.aql_options.specs.declared.settings.Settings.{Settings}
 use Rattle.aql_engine.specs.declared.engine.Ran.{Ran}

@@ -9,7 +9,7 @@ use Rattle.aql_plan.specs.declared.rules.RuleName.{RuleName}
 use Rattle.aql_plan.specs.Plan.{Plan}
 use Rattle.aql_show.specs.PlanText.{plan_text}
 use Rattle.aql_block.specs.declared.tally.Tally.{Tally}
-use Rattle.aql_opt.specs.declared.rule_sets.Rules.{Rules}
+use Rattle.aql_plan.specs.declared.rule_sets.Rules.{Rules}
 use Rattle.aql_opt.specs.Chosen.{cost_of}
 use Rattle.aql_options.specs.declared.settings.Settings.{Settings}
 use Rattle.aql_engine.specs.declared.engine.Ran.{Ran}

@@ -1,26 +1,19 @@
 -- Rows cut down to some variables, and which variables the row of some cells has.
 use Rattle.std.proofs.Common.{◌≡◌, ◌∙◌, ℕ, List, [], ◌∷◌, Bool, true, false, cond, refl, ap, sym}
-use Rattle.std.proofs.lemmas.Bool.{eqb-true, eq-eqb}
 use mathlib.Core.Path.{fun_ext}
-use Rattle.std.specs.Prelude.{Option, Some, None, is_some, IsSome, unwrap_or, ◌==◌, ◌||◌}
+use Rattle.std.specs.Prelude.{Option, Some, None, is_some, IsSome, unwrap_or, ◌||◌}
 use Rattle.aql_value.specs.Datum.{Datum, null}
 use Rattle.aql_tree.specs.declared.syntax.Ident.{Ident}
 use Rattle.aql_tree.specs.declared.syntax.Ident.TheVariants.{Name, Num}
-use Rattle.aql_meaning.specs.Row.{Row, empty_row, bind, same_ident, value_at}
+use Rattle.aql_meaning.specs.Row.{Row, bind, same_ident, value_at}
+use Rattle.aql_meaning.specs.laws.Idents.{same_self}
 use Rattle.aql_block.specs.Rows.{Entries, row_of, HasAll, is_among, only}
 use Rattle.aql_block.specs.Tables.{cells}
 use Rattle.aql_block.specs.Columns.{moved_values}
 
-pub same_self : (x : ℕ) → same_ident (Num x) (Num x) ≡ true
-same_self x = eq-eqb x x refl
-
-pub same_num : (x : ℕ) (y : Ident) → same_ident (Num x) y ≡ true → Num x ≡ y
-same_num x (Num k) e = ap (λ n. Num n) (eqb-true x k e)
-same_num x (Name a) none_there = absurd (cc)
-
 -- the variable that was set last has its value
 pub bind_self : (x : ℕ) (row : Row) (v : Datum) → bind (Num x) row v (Num x) ≡ Some v
-bind_self x row v = ap (λ b. cond b (Some v) (row (Num x))) (same_self x)
+bind_self x row v = ap (λ b. cond b (Some v) (row (Num x))) (same_self (Num x))
 
 -- no variable of a row that the program holds goes by a name
 pub row_numbered : (es : Entries) (name : List ℕ) → row_of es (Name name) ≡ None

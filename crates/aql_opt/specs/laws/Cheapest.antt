@@ -5,7 +5,7 @@ use Rattle.aql_plan.specs.declared.facts.Facts.{Facts}
 use Rattle.aql_plan.specs.declared.rules.RuleName.{RuleName}
 use Rattle.aql_plan.specs.declared.rules.RuleName.TheVariants as rule
 use Rattle.aql_plan.specs.Plan.{Plan}
-use Rattle.aql_opt.specs.declared.rule_sets.Rules.{Rules}
+use Rattle.aql_plan.specs.declared.rule_sets.Rules.{Rules}
 use Rattle.aql_opt.specs.Chosen.{AfterRules, first_rules, later_rules, CandidatesBy, Ended, EndsAs, cost_of, IsCheapest, applied_by_order, Chosen}
 
 abbrev pub are_some : List Ended → Bool

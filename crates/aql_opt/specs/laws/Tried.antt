@@ -6,14 +6,12 @@ use Rattle.aql_plan.specs.declared.facts.Facts.{Facts}
 use Rattle.aql_plan.specs.declared.plan.Plan.{Plan as PlanCode}
 use Rattle.aql_plan.specs.declared.rules.RuleName.TheVariants as rule
 use Rattle.aql_plan.specs.Plan.{Plan}
-use Rattle.aql_plan.specs.Refines.{Refines}
 use Rattle.aql_plan.specs.View.{plan_tree}
 use Rattle.aql_rewrite.specs.Placed.{IsWhole}
-use Rattle.aql_rewrite.specs.Swaps.{SetsNoMore}
 use Rattle.aql_rewrite.specs.laws.Steps.{refines_through_answers, sets_self, sets_through}
 use Rattle.aql_rules_order.specs.StandsFor.{StandsFor}
-use Rattle.aql_opt.specs.declared.rule_sets.Rules.{Rules}
-use Rattle.aql_opt.specs.RuleSets.{Has}
+use Rattle.aql_plan.specs.declared.rule_sets.Rules.{Rules}
+use Rattle.aql_plan.specs.RuleSets.{Has}
 use Rattle.aql_opt.specs.Chosen.{CandidatesBy, alone}
 
 -- ---- standing for a plan

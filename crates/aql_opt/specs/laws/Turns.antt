@@ -5,8 +5,8 @@ use Rattle.aql_plan.specs.declared.facts.Facts.{Facts}
 use Rattle.aql_plan.specs.declared.rules.RuleName.{RuleName}
 use Rattle.aql_plan.specs.Plan.{Plan}
 use Rattle.aql_plan.specs.Refines.{Refines}
-use Rattle.aql_opt.specs.declared.rule_sets.Rules.{Rules}
-use Rattle.aql_opt.specs.RuleSets.{Has}
+use Rattle.aql_plan.specs.declared.rule_sets.Rules.{Rules}
+use Rattle.aql_plan.specs.RuleSets.{Has}
 use Rattle.aql_opt.specs.Passes.{IsPassOf}
 use Rattle.aql_opt.specs.Chosen.{RunsRule, unchanged, changed, AfterRules, at_first, and_then}
 

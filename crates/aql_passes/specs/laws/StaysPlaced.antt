@@ -10,7 +10,7 @@ use Rattle.aql_plan.specs.Needs.{under}
 use Rattle.aql_plan.specs.Plan.{Plan, Over, Node}
 use Rattle.aql_plan.specs.Variables.{vars_of, vars_set, are_among}
 use Rattle.aql_plan_laws.specs.laws.Among.{fewer_have}
-use Rattle.aql_plan_laws.specs.laws.Idents.{same_self}
+use Rattle.aql_meaning.specs.laws.Idents.{same_self}
 use Rattle.aql_rewrite.specs.declared.swap.Rename.{Rename}
 use Rattle.aql_rewrite.specs.Placed.{Placed, IsPlaced}
 use Rattle.aql_rewrite.specs.Places.{Rewriting}

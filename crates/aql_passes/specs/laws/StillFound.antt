@@ -15,7 +15,7 @@ use Rattle.aql_plan.specs.Plan.{Plan, Over, Node, EnumerateCollection, Index, En
 use Rattle.aql_plan.specs.Needs.{sets, end_uses, last_uses}
 use Rattle.aql_plan.specs.Shapes.{IsNoFragment}
 use Rattle.aql_plan.specs.Variables.{filter_uses, input_uses, vars_of, are_among, FindsAll, FindsInside, set_once}
-use Rattle.aql_plan_laws.specs.laws.Idents.{same_is, same_self}
+use Rattle.aql_meaning.specs.laws.Idents.{same_is, same_self}
 use Rattle.aql_rewrite.specs.Children.{list_children, maybe_children}
 use Rattle.aql_rewrite.specs.OverChildren.{first_or, after_first, over_list, over_maybe, after_maybe}
 use Rattle.aql_rewrite.specs.laws.Related.{rest_related, after_maybe_related}

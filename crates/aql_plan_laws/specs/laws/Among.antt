@@ -1,6 +1,6 @@
 -- Which elements pass a test in two lists, how often a variable is in a list, and that no variable is twice
 -- in a list in which each is once at most.
-use Rattle.std.proofs.Common.{◌≡◌, ◌∙◌, ℕ, suc, ◌+◌, ◌≤◌, List, [], ◌∷◌, ◌++◌, Bool, true, false, true≢false, cond, refl, ap, sym, subst, arith}
+use Rattle.std.proofs.Common.{◌≡◌, ◌∙◌, suc, ◌+◌, ◌≤◌, List, [], ◌∷◌, ◌++◌, Bool, true, false, true≢false, cond, refl, ap, sym, subst, arith}
 use Rattle.std.specs.Prelude.{not, ◌||◌, ◌⊎◌}
 use Rattle.std.specs.List.{list_any, AllByRecursion}
 use Rattle.std.proofs.lemmas.Bool.{and_parts, and_from, or_cases, or_left, or_right, not-true}
@@ -8,7 +8,7 @@ use Rattle.std.proofs.lemmas.List.Folds.{list_any-append}
 use Rattle.aql_tree.specs.declared.syntax.Ident.{Ident}
 use Rattle.aql_meaning.specs.Row.{same_ident}
 use Rattle.aql_plan.specs.Variables.{are_distinct, count}
-use Rattle.aql_plan_laws.specs.laws.Idents.{same_is, same_self}
+use Rattle.aql_meaning.specs.laws.Idents.{same_is, same_self}
 
 module _ {X : Type 0} (test : X → Bool) where
   pub any_front : (xs ys : List X) → list_any test xs ≡ true → list_any test (xs ++ ys) ≡ true

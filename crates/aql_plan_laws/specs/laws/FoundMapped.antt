@@ -16,7 +16,7 @@ use Rattle.aql_plan.specs.Needs.{sets, last_uses, own_uses, result_uses, under, 
 use Rattle.aql_plan.specs.Variables.{filter_uses, input_uses, vars_of, are_among, FindsAll, FindsInside}
 use Rattle.aql_plan.specs.Renaming.{PlanSets, NodeSets}
 use Rattle.aql_plan.specs.Exprs.{map_plan, map_node}
-use Rattle.aql_plan_laws.specs.laws.Idents.{same_is, same_self}
+use Rattle.aql_meaning.specs.laws.Idents.{same_is, same_self}
 use Rattle.aql_plan_laws.specs.laws.Among.{any_front, any_back, any_either}
 use Rattle.aql_plan_laws.specs.laws.Mapped.{node_same}
 use Rattle.aql_plan_laws.specs.laws.SetsHave.{sets_have, node_has}

@@ -19,7 +19,7 @@ use Rattle.aql_meaning.specs.Uses.{Use, Whole, Attribute, Uses, AgreeAt, Agree}
 use Rattle.aql_meaning.specs.laws.Agrees.{agree_split, map_same, value_same}
 use Rattle.aql_meaning.specs.laws.Rows.{binds_swap}
 use Rattle.aql_plan.specs.Renaming.{IsOther, renamed}
-use Rattle.aql_plan_laws.specs.laws.Idents.{same_is, same_swapped}
+use Rattle.aql_meaning.specs.laws.Idents.{same_is, same_swapped}
 use Rattle.aql_plan_laws.specs.laws.Carried.{Carries}
 use Rattle.aql_plan_laws.specs.laws.Agreement.{agree_join, agree_bind}
 

@@ -13,7 +13,7 @@ use Rattle.aql_plan.specs.Needs.{sets}
 use Rattle.aql_plan.specs.Shapes.{HasNoFragment}
 use Rattle.aql_plan.specs.Variables.{vars_of, vars_set, set_once, count}
 use Rattle.aql_plan_laws.specs.laws.Among.{count_append, counted_has, none_in}
-use Rattle.aql_plan_laws.specs.laws.Idents.{same_self}
+use Rattle.aql_meaning.specs.laws.Idents.{same_self}
 use Rattle.aql_plan_laws.specs.laws.RenamedPlaces.{number_is_no_result}
 use Rattle.aql_rewrite.specs.Placed.{Placed}
 use Rattle.aql_rewrite.specs.laws.Among.{has}

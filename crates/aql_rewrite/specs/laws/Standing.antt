@@ -1,26 +1,25 @@
 -- A part that refines another one does so below a node, wherever both stand, and as a body; a renaming goes
 -- on through the nodes above.
 use Rattle.std.proofs.Common.{◌≡◌, ℕ, suc, ◌+◌, ◌≤◌, List, [], ◌∷◌, ◌++◌, Bool, true, false, true≢false, cond, refl, arith}
-use Rattle.std.specs.Prelude.{Option, Some, None, option_to_list}
-use Rattle.std.specs.List.{list_any, AllByRecursion}
+use Rattle.std.specs.Prelude.{Option, Some, None}
+use Rattle.std.specs.List.{AllByRecursion}
 use Rattle.aql_tree.specs.declared.syntax.Ident.{Ident}
 use Rattle.aql_tree.specs.declared.syntax.Ident.TheVariants.{Num}
 use Rattle.aql_meaning.specs.Row.{same_ident}
 use Rattle.aql_meaning.specs.Numbered.{IsNumber}
 use Rattle.aql_meaning.specs.Uses.{Uses}
-use Rattle.aql_meaning.specs.Visible.{aggregate_vars, into_var}
 use Rattle.aql_meaning.specs.declared.grouping.Stage.TheVariants as stage
 use Rattle.aql_plan.specs.declared.facts.Facts.{Facts}
-use Rattle.aql_plan.specs.Plan.{Plan, Singleton, Over, Node, EnumerateCollection, Index, EnumerateList, Traversal, Calculation, Subquery, Collect, Scatter, Distribute, Gather}
+use Rattle.aql_plan.specs.Plan.{Plan, Over, Node, Subquery, Collect, Scatter, Distribute, Gather}
 use Rattle.aql_plan.specs.Needs.{sets, under, result_uses}
 use Rattle.aql_plan.specs.Above.{input_inside}
 use Rattle.aql_plan.specs.Refines.{Refines}
-use Rattle.aql_plan.specs.Shapes.{HasNoFragment, IsNoFragment}
-use Rattle.aql_plan.specs.Variables.{vars_of, vars_set, set_once, count}
-use Rattle.aql_plan.specs.Renaming.{PlanSets, NodeSets, IsOther, RefinesRenamed, IsGoneAfter}
+use Rattle.aql_plan.specs.Shapes.{IsNoFragment}
+use Rattle.aql_plan.specs.Variables.{vars_set, set_once, count}
+use Rattle.aql_plan.specs.Renaming.{IsOther, RefinesRenamed, IsGoneAfter}
 use Rattle.aql_plan_laws.specs.laws.Among.{count_append, none_in, counted_has}
 use Rattle.aql_plan_laws.specs.laws.Congruence.{refines_answers, refines_body, Stands, stands_below}
-use Rattle.aql_plan_laws.specs.laws.Idents.{same_swapped}
+use Rattle.aql_meaning.specs.laws.Idents.{same_swapped}
 use Rattle.aql_plan_laws.specs.laws.RenamedAbove.{renamed_below, renamed_answers}
 use Rattle.aql_plan_laws.specs.laws.RenamedPlaces.{number_is_no_result}
 use Rattle.aql_plan_laws.specs.laws.SetsHave.{node_sets}

@@ -8,7 +8,7 @@ use Rattle.aql_tree.specs.declared.syntax.Ident.{Ident}
 use Rattle.aql_meaning.specs.Row.{Row, bind, same_ident}
 use Rattle.aql_meaning.specs.Uses.{Use, Whole, Attribute, Uses, used_variable, AgreeAt, Agree, is_used}
 use Rattle.aql_plan.specs.Variables.{are_among}
-use Rattle.aql_plan_laws.specs.laws.Idents.{same_is}
+use Rattle.aql_meaning.specs.laws.Idents.{same_is}
 use Rattle.aql_rewrite.specs.Swaps.{KeepsVariables}
 use Rattle.aql_rewrite.specs.laws.Among.{has, both}
 

@@ -26,7 +26,7 @@ use Rattle.aql_plan.specs.Plan.{Node, EnumerateCollection, EnumerateList, Traver
 use Rattle.aql_plan.specs.Needs.{sets, own_uses}
 use Rattle.aql_plan.specs.Runs.{Dataset, Outside, read, edges_in, Gives}
 use Rattle.aql_plan_laws.specs.laws.Carried.{all_parts}
-use Rattle.aql_plan_laws.specs.laws.Idents.{same_is}
+use Rattle.aql_meaning.specs.laws.Idents.{same_is}
 use Rattle.aql_plan_laws.specs.laws.Lists.{map_equal, filter_related}
 use Rattle.aql_plan_laws.specs.laws.NodesAlike.{first_related}
 use Rattle.aql_plan_laws.specs.laws.SortsAlike.{sorted_alike}

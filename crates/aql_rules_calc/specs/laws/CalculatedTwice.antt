@@ -23,7 +23,7 @@ use Rattle.aql_plan.specs.Shapes.{HasNoFragment}
 use Rattle.aql_plan.specs.Variables.{vars_of, FindsAll, vars_set, set_once, count}
 use Rattle.aql_plan_laws.specs.laws.Agreement.{agree_self}
 use Rattle.aql_plan_laws.specs.laws.Among.{any_back, count_append, none_in}
-use Rattle.aql_plan_laws.specs.laws.Idents.{same_self, same_swapped}
+use Rattle.aql_meaning.specs.laws.Idents.{same_self, same_swapped}
 use Rattle.aql_rewrite.specs.declared.swap.Rename.{Rename}
 use Rattle.aql_rewrite.specs.Nodes.{gives_new_rows}
 use Rattle.aql_rewrite.specs.Places.{First}

@@ -14,7 +14,7 @@ use Rattle.aql_meaning.specs.Row.{same_ident}
 use Rattle.aql_meaning.specs.Uses.{Use, Whole, Attribute, Uses}
 use Rattle.aql_plan.specs.declared.uses.Use as code
 use Rattle.aql_plan.specs.Used.{uses_tree}
-use Rattle.aql_plan_laws.specs.laws.Idents.{same_self}
+use Rattle.aql_meaning.specs.laws.Idents.{same_self}
 use Rattle.aql_rewrite.specs.View.{above_uses}
 use Rattle.aql_rewrite.specs.laws.Levels.{nearest_first}
 use Rattle.aql_rules_calc.specs.Projections.{AreAdded}

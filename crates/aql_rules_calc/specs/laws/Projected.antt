@@ -33,7 +33,7 @@ use Rattle.aql_plan.specs.Plan.{Reading, Plan, Singleton, Over, Node, EnumerateC
 use Rattle.aql_plan.specs.Refines.{dataset}
 use Rattle.aql_plan.specs.Runs.{Dataset, Outside, read, read_in_bounds, Indexed}
 use Rattle.aql_plan.specs.Shapes.{plain_rows, ordered_rows, lowest, lowest_in_order, other_reading, passing, KeepsShape}
-use Rattle.aql_plan_laws.specs.laws.Idents.{same_self}
+use Rattle.aql_meaning.specs.laws.Idents.{same_self}
 use Rattle.aql_plan_laws.specs.laws.Lists.{append_related}
 use Rattle.aql_rewrite.specs.declared.swap.Rename.{Rename}
 use Rattle.aql_rewrite.specs.Places.{renamed_by, Stays, First}

@@ -20,7 +20,7 @@ use Rattle.aql_plan.specs.Shapes.{Shape, Rows, Shaped, is_inside, plain_rows, lo
 use Rattle.aql_plan.specs.Variables.{vars_of, vars_set, are_among, count}
 use Rattle.aql_plan_laws.specs.laws.Agreement.{rows_agree}
 use Rattle.aql_plan_laws.specs.laws.Among.{count_append}
-use Rattle.aql_plan_laws.specs.laws.Idents.{same_is, same_swapped}
+use Rattle.aql_meaning.specs.laws.Idents.{same_is, same_swapped}
 use Rattle.aql_rewrite.specs.declared.swap.Rename.{Rename}
 use Rattle.aql_rewrite.specs.Places.{First}
 use Rattle.aql_rewrite.specs.Placed.{Placed, IsWhole}

@@ -12,7 +12,7 @@ use Rattle.aql_meaning.specs.Row.{Row, bind, bind_maybe, same_ident}
 use Rattle.aql_meaning.specs.Uses.{Uses, used_variable, uses, is_used}
 use Rattle.aql_meaning.specs.laws.Agrees.{value_same}
 use Rattle.aql_plan.specs.Variables.{are_among}
-use Rattle.aql_plan_laws.specs.laws.Idents.{same_swapped}
+use Rattle.aql_meaning.specs.laws.Idents.{same_swapped}
 use Rattle.aql_rewrite.specs.laws.Among.{has, both, and_true}
 use Rattle.aql_rewrite.specs.laws.Unused.{agree_unused}
 use Rattle.aql_rules_filter.specs.MoveFiltersUp.{none_used}

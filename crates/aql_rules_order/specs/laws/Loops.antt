@@ -19,7 +19,7 @@ use Rattle.aql_plan.specs.Plan.{Reading, Plan, Over, EnumerateCollection}
 use Rattle.aql_plan.specs.Refines.{dataset, RefinesFor}
 use Rattle.aql_plan.specs.Runs.{Dataset, Outside, read}
 use Rattle.aql_plan_laws.specs.laws.Agreement.{rows_agree}
-use Rattle.aql_plan_laws.specs.laws.Idents.{same_is}
+use Rattle.aql_meaning.specs.laws.Idents.{same_is}
 use Rattle.aql_rules_order.specs.InterchangeAdjacentEnumerations.{is_missing}
 use Rattle.aql_rules_order.specs.laws.Grid.{flat_flat, flat_each, grid}
 

@@ -25,7 +25,7 @@ use Rattle.aql_plan.specs.Variables.{vars_of, vars_set, set_once, are_among, Fin
 use Rattle.aql_plan_laws.specs.laws.Agreement.{agree_self, agree_bind, agree_through}
 use Rattle.aql_plan_laws.specs.laws.Among.{count_append, none_in, counted_has}
 use Rattle.aql_plan_laws.specs.laws.FoundMapped.{NodeFinds}
-use Rattle.aql_plan_laws.specs.laws.Idents.{same_self, same_is}
+use Rattle.aql_meaning.specs.laws.Idents.{same_self, same_is}
 use Rattle.aql_plan_laws.specs.laws.RenamedPlaces.{number_is_no_result}
 use Rattle.aql_plan_laws.specs.laws.ShapesKept.{one_is_rows}
 use Rattle.aql_plan.specs.laws.SomeRun.{some_run}

@@ -18,7 +18,7 @@ use Rattle.aql_plan.specs.Fits.{AllKnown}
 use Rattle.aql_plan.specs.Variables.{are_among, count}
 use Rattle.aql_plan_laws.specs.laws.Agreement.{agree_self, agree_bind, agree_through}
 use Rattle.aql_plan_laws.specs.laws.Among.{count_append}
-use Rattle.aql_plan_laws.specs.laws.Idents.{same_is}
+use Rattle.aql_meaning.specs.laws.Idents.{same_is}
 use Rattle.aql_plan_laws.specs.laws.Lists.{chosen}
 use Rattle.aql_rewrite.specs.laws.Among.{has, has_front, has_back, has_either, among_join, among_split}
 use Rattle.aql_rewrite.specs.laws.Unused.{agree_unused}

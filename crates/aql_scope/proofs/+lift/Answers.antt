@@ -25,7 +25,8 @@ use Rattle.aql_scope.proofs.Queries.{clause_turn, query_given}
 use Rattle.aql_scope.proofs.Clauses.{QueryGiven, inner_same, pushed, subquery_lifted, let_query_lifted, into_some, into_lifted}
 use Rattle.aql_scope.proofs.Groups.{beside, entered_more, enter_criteria, criterion_turn, enter_aggregates, aggregate_turn}
 use Rattle.aql_scope.proofs.Parts.{before_trees, before_members, before_steps, before_links, before_keys, before_lets, before_aggregates, link_part_then, key_then}
-use Rattle.aql_scope.specs.laws.Elements.{link_is, key_is, let_is as let_part_is, aggregate_is, member_first, step_first}
+use Rattle.aql_tree.specs.laws.Parts.{link_is, key_is, let_is as let_part_is, aggregate_is}
+use Rattle.aql_scope.specs.laws.Elements.{member_first, step_first}
 use Rattle.aql_scope.proofs.+lift.Goals as goal
 
 pub lift_exprs::lift_all-loop-expr-preserved : goal.lift_exprs::lift_all-loop-expr-preserved

@@ -1,30 +1,14 @@
 -- The elements of lists: what each says, and how a member or a step stands before the others.
-use Rattle.std.proofs.Common.{◌≡◌, ◌∙◌, ℕ, List, ◌∷◌, ◌++◌, refl, sym, ap₂, rules, option_map, Option, Some, None}
-use Rattle.aql_tree.specs.declared.syntax.Link.{Link, the_lemmas as link_lemmas}
-use Rattle.aql_tree.specs.declared.syntax.Key.{Key, the_lemmas as key_lemmas}
-use Rattle.aql_tree.specs.declared.syntax.Let.{Let, the_lemmas as let_lemmas}
-use Rattle.aql_tree.specs.declared.syntax.AggregateItem.{AggregateItem, the_lemmas as aggregate_lemmas}
+use Rattle.std.proofs.Common.{◌≡◌, ◌∙◌, ℕ, List, ◌∷◌, ◌++◌, refl, sym, ap₂, Option, Some, None}
 use Rattle.aql_tree.specs.Tree.{ExprTree, MaybeExpr, no_expr, one_expr, computed_then, StepTrees, inline_then}
-use Rattle.aql_tree.specs.View.{tree, maybe, MemberPart, named, computed, members, StepPart, name, at, inline, steps, link_part, key_part, let_part, aggregate_part}
+use Rattle.aql_tree.specs.View.{tree, maybe, MemberPart, named, computed, members, StepPart, name, at, inline, steps}
 use Rattle.aql_scope.specs.Numbering.{Numbering}
 use Rattle.aql_scope.specs.Lifting as spec
-use Rattle.aql_scope.specs.Lifting.{Scoped, as_it_is, both, three}
+use Rattle.aql_scope.specs.Lifting.{Scoped, both}
 use Rattle.aql_scope.specs.Lifts.{member_then, step_then, option_of, one_member, one_step}
 use Rattle.aql_scope.specs.laws.Turns.{three_both}
 
 -- ---- what an element of the code says
-
-pub link_is : (x : Link) → link_part x ≡ (x.op, tree x.right)
-link_is x = search (rules, link_lemmas)
-
-pub key_is : (x : Key) → key_part x ≡ (tree x.expr, x.descending)
-key_is x = search (rules, key_lemmas)
-
-pub let_is : (x : Let) → let_part x ≡ (x.var, tree x.expr)
-let_is x = search (rules, let_lemmas)
-
-pub aggregate_is : (x : AggregateItem) → aggregate_part x ≡ (x.var, x.name, option_map tree x.arg)
-aggregate_is x = search (rules, aggregate_lemmas)
 
 -- ---- members and steps, each by itself
 

@@ -1,7 +1,6 @@
 //! Sets of rules.
 
-use aql_opt::Rules;
-use aql_plan::RuleName;
+use aql_plan::{RuleName, Rules};
 
 // The first rules, one of the middle, and the last.
 static NAMES: [RuleName; 5] = [

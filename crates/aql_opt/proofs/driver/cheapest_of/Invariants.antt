@@ -5,7 +5,7 @@ use Rattle.aql_plan.specs.declared.plan.Plan.{Plan as PlanCode}
 use Rattle.aql_plan.specs.Plan.{Plan}
 use Rattle.aql_plan.specs.View.{plan_tree}
 use Rattle.aql_rules_order.specs.StandsFor.{StandsFor}
-use Rattle.aql_opt.specs.declared.rule_sets.Rules.{Rules}
+use Rattle.aql_plan.specs.declared.rule_sets.Rules.{Rules}
 use Rattle.aql_opt.specs.declared.driver.Candidate.{Candidate}
 use Rattle.aql_opt.specs.Chosen.{cost_of}
 use Rattle.aql_opt.specs.laws.Cheapest.{Best}

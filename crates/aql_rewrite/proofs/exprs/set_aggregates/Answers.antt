@@ -1,7 +1,7 @@
 use Rattle.std.proofs.Common.{◌∙◌, ◌∷◌, refl, ap, ap₂, map, sym, get_or}
 use Rattle.aql_tree.specs.declared.syntax.AggregateItem.{roll-AggregateItem}
 use Rattle.aql_tree.specs.View.{tree, aggregate_part}
-use Rattle.aql_rewrite.proofs.InPlace.{aggregate_is}
+use Rattle.aql_tree.specs.laws.Parts.{aggregate_is}
 use Rattle.aql_rewrite.specs.inner.NodeViews.{aggregates_over, after_each_aggregate}
 use Rattle.aql_rewrite.proofs.InPlace.{begun, one_set, all_set, none_left}
 use Rattle.aql_rewrite.proofs.exprs.set_aggregates.Goals as goal

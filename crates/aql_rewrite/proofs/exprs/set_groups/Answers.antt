@@ -2,7 +2,7 @@ use Rattle.std.proofs.Common.{List, ◌∙◌, ◌∷◌, refl, ap, ap₂, map, 
 use Rattle.aql_tree.specs.declared.syntax.Let.{roll-Let}
 use Rattle.aql_tree.specs.Tree.{ExprTree}
 use Rattle.aql_tree.specs.View.{tree, LetPart, let_part}
-use Rattle.aql_rewrite.proofs.InPlace.{let_is}
+use Rattle.aql_tree.specs.laws.Parts.{let_is}
 use Rattle.aql_rewrite.specs.inner.NodeViews.{lets_over, after_each}
 use Rattle.aql_rewrite.proofs.InPlace.{begun, one_set, all_set, none_left}
 use Rattle.aql_rewrite.proofs.exprs.set_groups.Goals as goal

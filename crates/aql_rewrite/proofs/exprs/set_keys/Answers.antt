@@ -2,9 +2,9 @@ use Rattle.std.proofs.Common.{List, ◌∙◌, ◌∷◌, refl, ap, ap₂, map, 
 use Rattle.aql_tree.specs.declared.syntax.Key.{roll-Key}
 use Rattle.aql_tree.specs.Tree.{ExprTree}
 use Rattle.aql_tree.specs.View.{tree, KeyPart, key_part}
-use Rattle.aql_rewrite.proofs.InPlace.{key_is}
+use Rattle.aql_tree.specs.laws.Parts.{key_is}
 use Rattle.aql_rewrite.specs.inner.NodeViews.{keys_over, after_each}
-use Rattle.aql_rewrite.proofs.InPlace.{begun, one_set, all_set, none_left}
+use Rattle.aql_rewrite.proofs.InPlace.{begun, one_set, all_set}
 use Rattle.aql_rewrite.proofs.exprs.set_keys.Goals as goal
 
 abbrev after : List KeyPart → List ExprTree → List ExprTree

@@ -3,7 +3,8 @@ use Rattle.std.proofs.lemmas.List.{take_all}
 use Rattle.aql_value.specs.declared.operators.BinOp.TheVariants.{And}
 use Rattle.aql_tree.specs.View.{tree, link_part, LinkPart}
 use Rattle.aql_rules_filter.specs.Readers.{and_link}
-use Rattle.aql_rules_filter.proofs.Moved.{anded, link_is, sides_anded, one_further, one_moved}
+use Rattle.aql_tree.specs.laws.Parts.{link_is}
+use Rattle.aql_rules_filter.proofs.Moved.{anded, sides_anded, one_further, one_moved}
 use Rattle.aql_rules_filter.proofs.conditions.move_sides.Goals as goal
 
 pub loop-link-preserved : goal.loop-link-preserved

@@ -1,6 +1,7 @@
 use Rattle.std.proofs.Common.{option_map, ◌∙◌, ap, ap₂, sym}
 use Rattle.aql_tree.specs.View.{tree, clause_tree, step_part, member_part, link_part, key_part, let_part, aggregate_part}
-use Rattle.aql_tree.proofs.Copied.{copied_more, link_is, key_is, let_is, aggregate_is}
+use Rattle.aql_tree.specs.laws.Parts.{link_is, key_is, let_is, aggregate_is}
+use Rattle.aql_tree.proofs.Copied.{copied_more}
 use Rattle.aql_tree.proofs.copying.+copying.Goals as goal
 
 pub copy_exprs-loop-item-preserved : goal.copy_exprs-loop-item-preserved

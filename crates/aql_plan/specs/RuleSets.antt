@@ -3,7 +3,7 @@ use Rattle.std.specs.Prelude.{ℕ, ◌≡◌}
 use Rattle.std.specs.Int.{bit_at}
 use Rattle.aql_plan.specs.declared.rules.RuleName.{RuleName}
 use Rattle.aql_plan.specs.declared.rules.RuleName.TheVariants as rule
-use Rattle.aql_opt.specs.declared.rule_sets.Rules.{Rules}
+use Rattle.aql_plan.specs.declared.rule_sets.Rules.{Rules}
 
 abbrev pub bit_of : RuleName → ℕ
 bit_of rule.SimplifyConditions = 0

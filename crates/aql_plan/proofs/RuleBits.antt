@@ -1,13 +1,13 @@
 -- Sets of rules, bit by bit.
 use Rattle.std.proofs.Common.{◌≡◌, ◌∙◌, ℕ, ◌≤◌, ◌*◌, ◌^◌, ◌/◌, ◌%◌, Bool, true, false, true≢false, nat_eq, inl, inr, refl, ap, sym, subst, arith}
-use Rattle.std.specs.Prelude.{◌⊎◌, ◌↔◌, max, Option, Some, None, List, [], ◌∷◌, slice_get}
+use Rattle.std.specs.Prelude.{◌⊎◌, ◌↔◌, max, Some, List, [], ◌∷◌, slice_get}
 use Rattle.std.specs.Int.{bit_at}
 use Rattle.std.specs.Int.RustNames.{bit_or}
 use Rattle.std.proofs.lemmas.Bool.{eqb-true, eq-eqb}
 use Rattle.std.proofs.lemmas.Nat.Bits.{bit_at-zero, bit_at_or, bit_at-pow_same, bit_at-pow_other}
 use Rattle.aql_plan.specs.declared.rules.RuleName.{RuleName}
 use Rattle.aql_plan.specs.declared.rules.RuleName.TheVariants as rule
-use Rattle.aql_opt.specs.RuleSets.{bit_of}
+use Rattle.aql_plan.specs.RuleSets.{bit_of}
 
 pub all_have : (r : RuleName) → bit_at 67108863 (bit_of r) ≡ 1
 all_have rule.SimplifyConditions = refl

@@ -2,9 +2,9 @@
 
 ghost use Rattle.std.specs.Prelude.{◌≡◌, ◌⊎◌, ◌↔◌, IsTrue};
 ghost use Rattle.aql_plan.specs.declared.rules.RuleName.{RuleName};
-ghost use Rattle.aql_opt.specs.RuleSets.{bit_of, Has};
+ghost use Rattle.aql_plan.specs.RuleSets.{bit_of, Has};
 
-use aql_plan::RuleName;
+use crate::rules::RuleName;
 
 /// A set of rules. Contracts see whether it has a rule.
 #[derive(Clone, Copy, Debug, PartialEq, Eq)]
