@@ -8,11 +8,12 @@ use Rattle.aql_value.specs.Datum.{Datum, null}
 use Rattle.aql_tree.specs.declared.syntax.Ident.{Ident}
 use Rattle.aql_tree.specs.declared.syntax.Ident.TheVariants.{Name, Num}
 use Rattle.aql_meaning.specs.Row.{Row, bind, same_ident}
+use Rattle.aql_meaning.specs.laws.Idents.{same_is}
 use Rattle.aql_meaning.specs.laws.Rows.{binds_swap}
 use Rattle.aql_block.specs.Rows.{Entries, row_of, variables_of, is_among, IsFirst}
 use Rattle.aql_block.specs.Tables.{cells}
 use Rattle.aql_block.specs.Columns.{ColumnView, beside, rows_in, Fits, values_at}
-use Rattle.aql_block.specs.laws.Registers.{bind_self, same_num}
+use Rattle.aql_block.specs.laws.Registers.{bind_self}
 use Rattle.aql_block.proofs.Beside.{length-rows_in}
 
 -- another variable keeps its value
@@ -31,7 +32,7 @@ bind_twice x row u v = fun_ext (λ z. by (same_ident (Num x) z) (row z))
 
 apart : (y x : ℕ) → y ≢ x → (z : Ident) → same_ident (Num y) z ≡ true → same_ident (Num x) z ≡ false
 apart y x ne z e =
-    ap (λ w. same_ident (Num x) w) (sym (same_num y z e)) ∙ ne_eqb x y (λ same. ne (sym same))
+    ap (λ w. same_ident (Num x) w) (sym (same_is (Num y) z e)) ∙ ne_eqb x y (λ same. ne (sym same))
 
 swapped : (y x : ℕ) (row : Row) (u v : Datum) → y ≢ x
     → bind (Num y) (bind (Num x) row v) u ≡ bind (Num x) (bind (Num y) row u) v

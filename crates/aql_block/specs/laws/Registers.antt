@@ -6,7 +6,7 @@ use Rattle.aql_value.specs.Datum.{Datum, null}
 use Rattle.aql_tree.specs.declared.syntax.Ident.{Ident}
 use Rattle.aql_tree.specs.declared.syntax.Ident.TheVariants.{Name, Num}
 use Rattle.aql_meaning.specs.Row.{Row, bind, same_ident, value_at}
-use Rattle.aql_meaning.specs.laws.Idents.{same_self}
+use Rattle.aql_meaning.specs.laws.Idents.{same_is, same_self}
 use Rattle.aql_block.specs.Rows.{Entries, row_of, HasAll, is_among, only}
 use Rattle.aql_block.specs.Tables.{cells}
 use Rattle.aql_block.specs.Columns.{moved_values}
@@ -78,7 +78,7 @@ only_taken (x ∷ xs) row h =
         → bind (Num x) (only xs (bind (Num x) row null)) (value_at row (Num x)) y ≡ only (x ∷ xs) row y
     by y true e =
         ap (λ b. cond b (Some (value_at row (Num x))) (only xs (bind (Num x) row null) y)) e
-        ∙ value_is (row (Num x)) (row y) h.0 (ap row (same_num x y e))
+        ∙ value_is (row (Num x)) (row y) h.0 (ap row (same_is (Num x) y e))
         ∙ sym (ap (λ b. cond (b || is_among xs y) (row y) None) e)
     by y false e =
         ap (λ b. cond b (Some (value_at row (Num x)))
