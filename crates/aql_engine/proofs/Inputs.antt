@@ -6,12 +6,12 @@ use Rattle.aql_block.specs.declared.calls.Step.{Step}
 use Rattle.aql_block.specs.declared.tally.Tally.{Tally}
 use Rattle.aql_block.specs.declared.calls.Progress.TheVariants.{Waiting, Done}
 use Rattle.aql_exec.specs.declared.feed.Executor.{Ghosts}
-use Rattle.aql_exec.specs.declared.feed.Place
-use Rattle.aql_exec.specs.Rests.{Rest, Over}
+use Rattle.aql_exec.specs.declared.surroundings.Surroundings
+use Rattle.aql_exec.specs.Rests.{Exact, Rest, Over}
 use Rattle.aql_exec.specs.Steps.{IsCall, Follows, given}
-use Rattle.aql_exec.specs.Operators.{Operator, arity, OfSome, OfInputs}
+use Rattle.aql_exec.specs.Operators.{Operator, arity, OfSome, OfInputs, exact_tree}
 use Rattle.aql_engine.specs.declared.tree.Tree.{Tree}
-use Rattle.aql_engine.specs.Tree.{Input, Flies, WaitsAt, TreeRests, TreeOwn, TreeMay, TreeValid, NodeValid}
+use Rattle.aql_engine.specs.Tree.{Input, Flies, WaitsAt, tree_plan, TreeRests, TreeOwn, TreeMay, TreeValid, NodeValid}
 use Rattle.aql_engine.specs.laws.TreesKept.{KeptGives, KeptValid, OwnLinks, tree_kept_rests, tree_kept_valid, tree_own_links, flies_kept}
 use Rattle.aql_engine.proofs.Loops.{Turning, Linked}
 
@@ -34,29 +34,29 @@ pub of_inputs : {o o' : Operator} {said : Type 0} → o ≡ o' → 1 ≤ arity o
 of_inputs {o = o} e some h = some_said (arity o) (rw e some) h
 
 -- what is known of an input that was just pulled
-pub pulled_input : {valid : Type 0} {may asks' : Call → Type 0} {rests : Rest → Type 0}
+pub pulled_input : {valid : Type 0} {may asks' : Call → Type 0} {v : Exact} {rests : Rest → Type 0}
     {own flies : ℕ → Type 0}
     {started' ended' : Bool} {waits' : Type 0} (step : Step) (ask : Call)
     → valid → started' ≡ true
     → ((c : Call) → asks' c → IsCall c × Follows ask step.skipped (length (given step)) step.progress c)
     → ((c : Call) → IsCall c → Follows ask step.skipped (length (given step)) step.progress c → may c)
     → (ended' ≡ true → (step.progress ≡ Done) × (length (given step) ≡ ask.hard → ⊥))
-    → (step.progress ≡ Done → (length (given step) ≡ ask.hard) ⊎ Over rests)
+    → (step.progress ≡ Done → (length (given step) ≡ ask.hard) ⊎ Over v rests)
     → (waits' → step.progress ≡ Waiting)
     → (step.progress ≡ Waiting → (l : ℕ) × own l × flies l)
-    → Input valid started' ended' waits' asks' may rests own flies
-pulled_input step ask v b asks may ended over waits flies = record {
-  input_valid = λ s. v;
+    → Input valid started' ended' waits' asks' may v rests own flies
+pulled_input step ask h b asks may ended over waits flies = record {
+  input_valid = λ s. h;
   may_ask = λ s c a. (let f = asks c a in may c f.0 f.1);
   none_left = λ s e. (let f = ended e in elim (over f.0) [ inl h ↦ absurd (f.1 h) | inr h ↦ h ]);
   in_flight = λ w. (let f = flies (waits w) in (b, f.0, f.1, f.2));
 }
 
-pub input_weaker : {valid : Type 0} {may asks asks' : Call → Type 0} {rests : Rest → Type 0}
+pub input_weaker : {valid : Type 0} {may asks asks' : Call → Type 0} {v : Exact} {rests : Rest → Type 0}
     {own flies : ℕ → Type 0} {started ended started' ended' : Bool} {waits waits' : Type 0}
-    → Input valid started ended waits asks may rests own flies → started' ≡ started
+    → Input valid started ended waits asks may v rests own flies → started' ≡ started
     → (ended' ≡ true → ended ≡ true) → (waits' → waits) → ((c : Call) → asks' c → asks c)
-    → Input valid started' ended' waits' asks' may rests own flies
+    → Input valid started' ended' waits' asks' may v rests own flies
 input_weaker i s e w a = record {
   input_valid = λ b. i.input_valid (sym s ∙ b);
   may_ask = λ b c h. i.may_ask (sym s ∙ b) c (a c h);
@@ -64,15 +64,15 @@ input_weaker i s e w a = record {
   in_flight = λ h. (let f = i.in_flight (w h) in (s ∙ f.0, f.1, f.2, f.3));
 }
 
-module _ {X W : Type 0} (g : Ghosts X W) (p : Place.Ghosts W) where
+module _ {X W : Type 0} (g : Ghosts X W) (p : Surroundings.Ghosts W) where
   -- what happens elsewhere keeps what is known of an input
   pub input_kept : KeptGives g p → KeptValid g p
       → (t : Tree X) (w w' : W) {started ended : Bool} {waits : Type 0}
-      {asks : Call → Type 0} → p.stock w' ≡ p.stock w → p.links w ≤ p.links w'
+      {asks : Call → Type 0} {e : Exact} → p.stock w' ≡ p.stock w → p.links w ≤ p.links w'
       → (started ≡ true → (l : ℕ) → TreeOwn g p t l → p.flight w' l ≡ p.flight w l)
-      → Input (TreeValid g p t w) started ended waits asks (TreeMay g p t) (TreeRests g p t w) (TreeOwn g p t)
+      → Input (TreeValid g p t w) started ended waits asks (TreeMay g p t) e (TreeRests g p t w) (TreeOwn g p t)
       (Flies g p w)
-      → Input (TreeValid g p t w') started ended waits asks (TreeMay g p t) (TreeRests g p t w')
+      → Input (TreeValid g p t w') started ended waits asks (TreeMay g p t) e (TreeRests g p t w')
       (TreeOwn g p t)
       (Flies g p w')
   input_kept k v t w w' e n f i = record {
@@ -92,7 +92,7 @@ module _ {X W : Type 0} (g : Ghosts X W) (p : Place.Ghosts W) where
     below_is = input_weaker v.below_is refl (λ e. e) (f 0) (λ c a. a);
     body_is = input_weaker v.body_is refl (λ e. e) (f 1) (λ c a. a);
     begun_is = v.begun_is;
-    none_owed = v.none_owed;
+    none_unreported = v.none_unreported;
     none_waits = v.none_waits;
     idle = v.idle;
     from_below = v.from_below;
@@ -107,16 +107,18 @@ module _ {X W : Type 0} (g : Ghosts X W) (p : Place.Ghosts W) where
     pub body_links : g.started x 1 ≡ true → (l : ℕ) → TreeOwn g p body l → l < p.links w
     pub body_kept : g.started x 1 ≡ true → (l : ℕ) → TreeOwn g p body l → p.flight w1 l ≡ p.flight w l
     pub below_is : Input (TreeValid g p below w1) (g.started x 0) (g.ended x 0) (WaitsAt g p port x 0)
-        (g.asks x 0) (TreeMay g p below) (TreeRests g p below w1) (TreeOwn g p below) (Flies g p w1)
+        (g.asks x 0) (TreeMay g p below) (exact_tree (tree_plan g p below)) (TreeRests g p below w1)
+        (TreeOwn g p below) (Flies g p w1)
     pub body_is : Input (TreeValid g p body w1) (g.started x 1) (g.ended x 1) (WaitsAt g p port x 1)
-        (g.asks x 1) (TreeMay g p body) (TreeRests g p body w1) (TreeOwn g p body) (Flies g p w1)
+        (g.asks x 1) (TreeMay g p body) (exact_tree (tree_plan g p body)) (TreeRests g p body w1)
+        (TreeOwn g p body) (Flies g p w1)
     pub apart_below : (l : ℕ) → g.ours x1 l → TreeOwn g p below l → ⊥
     pub apart_body : g.started x 1 ≡ true → (l : ℕ) → g.ours x1 l → TreeOwn g p body l → ⊥
 
   pub turned_inputs : KeptGives g p → KeptValid g p → OwnLinks g p
-      → {port : ℕ} {x0 : X} {below0 body0 : Tree X} {w0 : W} {t0 t : Tally} {x : X}
+      → {port : ℕ} {call : Call} {x0 : X} {below0 body0 : Tree X} {w0 : W} {t0 t : Tally} {x : X}
       {below body : Tree X} {w : W}
-      → Turning g p port x0 below0 body0 w0 t0 x below body w t → Linked g p x0 below0 body0 w0 x below body w
+      → Turning g p port call x0 below0 body0 w0 t0 x below body w t → Linked g p x0 below0 body0 w0 x below body w
       → (x1 : X) (w1 : W) → p.stock w1 ≡ p.stock w → p.links w ≤ p.links w1
       → ((l : ℕ) → l < p.links w → (g.ours x l → ⊥) → p.flight w1 l ≡ p.flight w l)
       → ((l : ℕ) → g.ours x1 l → g.ours x l ⊎ (p.links w ≤ l))

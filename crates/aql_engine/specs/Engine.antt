@@ -1,13 +1,16 @@
 -- What an engine keeps of a run, and what the run of a plan adds to its list.
-use Rattle.std.specs.Prelude.{ℕ, ◌≡◌, ◌≤◌, List, [], ◌∷◌, ◌++◌, map}
+use Rattle.std.specs.Prelude.{ℕ, ◌≡◌, ◌≤◌, true, List, [], ◌∷◌, ◌++◌, length, map}
 use Rattle.aql_meaning.specs.Row.{empty_row}
 use Rattle.aql_plan.specs.declared.plan.Plan.{Plan}
 use Rattle.aql_plan.specs.View.{plan_tree}
 use Rattle.aql_plan.specs.Runs.{Dataset, result_of}
 use Rattle.aql_plan.specs.Refines.{Answers}
 use Rattle.aql_plan.specs.WellFormed.{IsWellFormed}
-use Rattle.aql_exec.specs.Rests.{Counter, Rest, counts_of}
-use Rattle.aql_exec.specs.Operators.{Produces}
+use Rattle.aql_block.specs.declared.tally.Tally.{Tally}
+use Rattle.aql_exec.specs.Rests.{Counter, scanned_full, scanned_index, filtered, Counts, Exact, Rest}
+use Rattle.aql_exec.specs.Rising.{Rose, TallyRose}
+use Rattle.aql_exec.specs.Reads.{reads_little}
+use Rattle.aql_exec.specs.Operators.{Produces, exact_tree}
 use Rattle.aql_engine.specs.OperatorsOf.{operators_of}
 use Rattle.aql_engine.specs.Runnable.{HasExecutors}
 use Rattle.aql_engine.specs.declared.engine.Ran.{Ran}
@@ -17,14 +20,34 @@ pub record CanRun (w : Dataset) (plan : Plan) : Type 0 where
   pub well_formed : IsWellFormed w.facts [] (plan_tree plan)
   pub executors : HasExecutors (plan_tree plan)
 
--- the values of an entry are an answer of its plan over these documents, and it counts no more than the
--- executors of the plan count on the way to these values
+abbrev pub no_tally : Tally
+no_tally = record { scanned_full = 0; scanned_index = 0; filtered = 0 }
+
+-- a tally counts at most so much, and all of what is exact; each number stays at the largest of 64 bits
+pub record Tallied (e : Exact) (t : Tally) (d : Counts) : Type 0 where
+  pub added : Counts
+  pub most : (c : Counter) → added c ≤ d c
+  pub exact : (c : Counter) → e c ≡ true → d c ≤ added c
+  pub tally : TallyRose no_tally t (added scanned_full) (added scanned_index) (added filtered)
+
+-- the counts of the servers rose by the documents that a tally counts
+pub record OwnCounted (own own' t : Tally) : Type 0 where
+  pub read : ℕ
+  pub found : ℕ
+  pub read_is : Rose 0 t.scanned_full read × Rose own.scanned_full own'.scanned_full read
+  pub found_is : Rose 0 t.scanned_index found × Rose own.scanned_index own'.scanned_index found
+
+-- the values of an entry are an answer of its plan over these documents, and it counts what the executors of
+-- the plan count on the way to these values: no more, and exactly that where the plan has no LIMIT, but for
+-- documents that a traversal finds. A plan that reads little reads no more documents than it gives values
 pub record IsRunOver (w : Dataset) (ran : Ran) : Type 0 where
   pub answer : Answers (plan_tree ran.plan) w empty_row ran.values
   pub rest : Rest
   pub produced : Produces (operators_of w.facts (plan_tree ran.plan)) w empty_row rest
   pub values : ran.values ≡ map result_of rest.rows
-  pub counted : (c : Counter) → counts_of ran.tally c ≤ rest.counts c
+  pub counted : Tallied (exact_tree (operators_of w.facts (plan_tree ran.plan))) ran.tally rest.counts
+  pub little : reads_little (operators_of w.facts (plan_tree ran.plan)) ≡ true
+      → ran.tally.scanned_full ≤ length ran.values
 
 -- exactly one entry is new, and it is a run of this plan over these documents, in steps of so many rows
 pub record Adds (w : Dataset) (plan : Plan) (batch : ℕ) (before after : List Ran) : Type 0 where

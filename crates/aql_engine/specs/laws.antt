@@ -3,6 +3,8 @@ pub mod Given
 pub mod Fragmented
 pub mod Sound
 pub mod Trees
+pub mod Exactness
 pub mod TreesKept
+pub mod Unlinked
 pub mod Choices
 pub mod Fragments

@@ -6,7 +6,7 @@ ghost use Rattle.aql_exec.specs.Rests.{Rest};
 ghost use Rattle.aql_exec.specs.Operators.{OperatorTree};
 
 use aql_block::{Call, Row, Step, Tally};
-use aql_exec::{Executor, Message, Place, Turn, Unlinked, Wired};
+use aql_exec::{Executor, Message, Surroundings, Turn, Unlinked, Wired};
 use aql_value::OutOfMemory;
 use std::alloc::Global;
 
@@ -25,17 +25,18 @@ impl<A: Drop, B: Drop> Drop for Choice<A, B> {
     }
 }
 
-impl<W: Place, A: Executor<W>, B: Executor<W>> Executor<W> for Choice<A, B> {
+impl<W: Surroundings, A: Executor<W>, B: Executor<W>> Executor<W> for Choice<A, B> {
     ghost use Rattle.aql_engine.specs.Choices.{on, On};
     ghost use Rattle.aql_engine.specs.laws.Choices.{choice_some, choice_more, choice_gives};
-    ghost use Rattle.aql_engine.specs.laws.Choices.{choice_valid, choice_room, choice_links};
+    ghost use Rattle.aql_engine.specs.laws.Choices.{choice_valid, choice_budget, choice_links};
+    ghost use Rattle.aql_engine.specs.laws.Choices.{choice_no_link};
 
     ghost gives = { λ s w p body ins r.
         On (λ a. A.gives a w p body ins r) (λ b. B.gives b w p body ins r) s };
 
     ghost node = { on A.node B.node };
 
-    ghost owed = { λ s k. on (λ a. A.owed a k) (λ b. B.owed b k) s };
+    ghost unreported = { λ s k. on (λ a. A.unreported a k) (λ b. B.unreported b k) s };
 
     ghost asking = { λ s k c. On (λ a. A.asking a k c) (λ b. B.asking b k c) s };
 
@@ -51,19 +52,21 @@ impl<W: Place, A: Executor<W>, B: Executor<W>> Executor<W> for Choice<A, B> {
 
     ghost stuck = { λ s k. On (λ a. A.stuck a k) (λ b. B.stuck b k) s };
 
-    ghost room = { λ s w f. on (λ a. A.room a w f) (λ b. B.room b w f) s };
+    ghost budget = { λ s w f. on (λ a. A.budget a w f) (λ b. B.budget b w f) s };
 
     ghost full = { λ s f. on (λ a. A.full a f) (λ b. B.full b f) s };
 
-    ghost charge = { λ s k f. on (λ a. A.charge a k f) (λ b. B.charge b k f) s };
+    ghost row_cost = { λ s k f. on (λ a. A.row_cost a k f) (λ b. B.row_cost b k f) s };
 
     ghost may = { λ s p c. On (λ a. A.may a p c) (λ b. B.may b p c) s };
 
     ghost asks = { λ s k c. On (λ a. A.asks a k c) (λ b. B.asks b k c) s };
 
-    ghost patience = { on A.patience B.patience };
+    ghost waits_left = { on A.waits_left B.waits_left };
 
     ghost busy = { On A.busy B.busy };
+
+    ghost held = { on A.held B.held };
 
     fn begin(&mut self, alloc: Global, start: &Row) -> Result<(), OutOfMemory> {
         match self {
@@ -103,19 +106,22 @@ impl<W: Place, A: Executor<W>, B: Executor<W>> Executor<W> for Choice<A, B> {
 
     ghost more_counts = { choice_more A.Executor.own B.Executor.own A.more_counts B.more_counts };
 
-    ghost kept_gives = { choice_gives A.Executor.own B.Executor.own W.Place
+    ghost kept_gives = { choice_gives A.Executor.own B.Executor.own W.Surroundings
         A.kept_gives B.kept_gives };
 
-    ghost kept_valid = { choice_valid A.Executor.own B.Executor.own W.Place
+    ghost kept_valid = { choice_valid A.Executor.own B.Executor.own W.Surroundings
         A.kept_valid B.kept_valid };
 
-    ghost kept_room = { choice_room A.Executor.own B.Executor.own W.Place A.kept_room B.kept_room };
+    ghost kept_budget = { choice_budget A.Executor.own B.Executor.own W.Surroundings A.kept_budget B.kept_budget };
 
-    ghost own_links = { choice_links A.Executor.own B.Executor.own W.Place
+    ghost own_links = { choice_links A.Executor.own B.Executor.own W.Surroundings
         A.own_links B.own_links };
+
+    ghost no_link = { choice_no_link A.Executor.own B.Executor.own W.Surroundings
+        A.no_link B.no_link };
 }
 
-impl<W: Place, A: Unlinked<W>, B: Unlinked<W>> Unlinked<W> for Choice<A, B> {
+impl<W: Surroundings, A: Unlinked<W>, B: Unlinked<W>> Unlinked<W> for Choice<A, B> {
     ghost use Rattle.aql_engine.specs.laws.Choices.{choice_none};
 
     fn begun(&self, input: u32) -> bool {
@@ -130,7 +136,7 @@ impl<W: Place, A: Unlinked<W>, B: Unlinked<W>> Unlinked<W> for Choice<A, B> {
     ghost not_stuck = { choice_none A.stuck B.stuck A.not_stuck B.not_stuck };
 }
 
-impl<W: Place, A: Wired<W>, B: Wired<W>> Wired<W> for Choice<A, B> {
+impl<W: Surroundings, A: Wired<W>, B: Wired<W>> Wired<W> for Choice<A, B> {
     ghost use Rattle.aql_engine.specs.Choices.{on, On};
     ghost use Rattle.aql_engine.specs.laws.Choices.{choice_stuck, choice_may, choice_ports};
 

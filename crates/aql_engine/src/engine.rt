@@ -2,7 +2,7 @@
 
 ghost use Rattle.std.specs.Prelude.{◌≡◌, ◌≤◌, OnOk, OnErr};
 ghost use Rattle.aql_shard.specs.Datasets.{stock};
-ghost use Rattle.aql_engine.specs.Engine.{CanRun, Adds};
+ghost use Rattle.aql_engine.specs.Engine.{CanRun, Adds, OwnCounted};
 
 use aql_block::Tally;
 use aql_plan::Plan;
@@ -28,7 +28,7 @@ pub type Rans = Seq<Ran>;
 
 /// What runs plans over documents on servers, and keeps a list of its runs.
 pub trait Engine {
-    ghost use Rattle.std.specs.Prelude.{List};
+    ghost use Rattle.std.specs.Prelude.{List, [], ◌∷◌, ◌++◌};
     ghost use Rattle.aql_engine.specs.declared.engine.Ran.{Ran};
 
     /// the runs so far, the first one first
@@ -47,6 +47,9 @@ pub trait Engine {
         requires batch { (1 ≤ batch) × (batch ≤ 10000) }
         ensures ok { OnOk result
             (Adds (stock servers.old) plan batch (entries self.old) (entries self.new)) }
+        ensures counted { OnOk result
+            ((ran : Ran) × (entries self.new ≡ entries self.old ++ ran ∷ [])
+            × OwnCounted servers.old.counts servers.new.counts ran.tally) }
         ensures err { OnErr result (entries self.new ≡ entries self.old) }
         ensures stock { stock servers.new ≡ stock servers.old };
 

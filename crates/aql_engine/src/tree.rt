@@ -3,14 +3,17 @@
 ghost use Rattle.std.specs.Prelude.{◌≡◌, ℕ, ◌+◌, ◌<◌, ◌≤◌, ◌⊎◌, [], length, IfOk, OnOk};
 ghost use Rattle.aql_block.specs.declared.calls.Call.{Call};
 ghost use Rattle.aql_block.specs.declared.calls.Progress.{Progress};
-ghost use Rattle.aql_exec.specs.Rests.{Counts, Rest, Ahead, Rises, Over};
-ghost use Rattle.aql_exec.specs.Steps.{IsCall, InCall, Led, Follows, given, told};
+ghost use Rattle.aql_exec.specs.Rests.{Counts, Rest, Prefixed, Over};
+ghost use Rattle.aql_exec.specs.Rising.{ExactFor, Rises};
+ghost use Rattle.aql_exec.specs.Promises.{SameNode, Beside};
+ghost use Rattle.aql_exec.specs.Reads.{ReadInStep};
+ghost use Rattle.aql_exec.specs.Steps.{IsCall, InCall, Continues, Follows, given, reported};
 ghost use Rattle.aql_exec.specs.Operators.{within, ports, IsTree};
-ghost use Rattle.aql_engine.specs.Tree.{Flies, Waits, WaitsAt, tree_plan, tree_full};
-ghost use Rattle.aql_engine.specs.Tree.{NodeRests, NodeOwn, NodeValid, NodeRoom};
+ghost use Rattle.aql_engine.specs.Tree.{Flies, Waits, WaitsAt, tree_plan, tree_full, node_exact};
+ghost use Rattle.aql_engine.specs.Tree.{NodeRests, NodeOwn, NodeValid, NodeDrained, NodeBudget};
 
 use aql_block::{Call, Row, Step, Tally};
-use aql_exec::{Executor, Feed, Place, Turn};
+use aql_exec::{Executor, Feed, Surroundings, Turn};
 use aql_value::OutOfMemory;
 use std::alloc::Global;
 
@@ -30,25 +33,28 @@ impl<X: Drop> Drop for Tree<X> {
     }
 }
 
-impl<W: Place, X: Executor<W>> Feed<W> for Tree<X> {
+impl<W: Surroundings, X: Executor<W>> Feed<W> for Tree<X> {
     ghost use Rattle.aql_engine.specs.Tree.{TreeRests, tree_plan, TreeOwn, TreeMay, TreeValid};
-    ghost use Rattle.aql_engine.specs.Tree.{tree_room, tree_full};
+    ghost use Rattle.aql_engine.specs.Tree.{tree_budget, tree_full, TreeDrained};
     ghost use Rattle.aql_engine.specs.laws.TreesKept.{tree_some, tree_kept_rests, tree_kept_valid};
-    ghost use Rattle.aql_engine.specs.laws.TreesKept.{tree_kept_room, tree_own_links};
+    ghost use Rattle.aql_engine.specs.laws.TreesKept.{tree_kept_budget, tree_own_links};
+    ghost use Rattle.aql_engine.specs.laws.Unlinked.{tree_no_link};
 
-    ghost rests = { TreeRests X.Executor W.Place };
+    ghost rests = { TreeRests X.Executor W.Surroundings };
 
-    ghost plan = { tree_plan X.Executor W.Place };
+    ghost plan = { tree_plan X.Executor W.Surroundings };
 
-    ghost valid = { TreeValid X.Executor W.Place };
+    ghost valid = { TreeValid X.Executor W.Surroundings };
 
-    ghost room = { tree_room X.Executor W.Place };
+    ghost budget = { tree_budget X.Executor W.Surroundings };
 
-    ghost full = { tree_full X.Executor W.Place };
+    ghost full = { tree_full X.Executor W.Surroundings };
 
-    ghost may = { TreeMay X.Executor W.Place };
+    ghost drained = { TreeDrained X.Executor W.Surroundings };
 
-    ghost ours = { TreeOwn X.Executor W.Place };
+    ghost may = { TreeMay X.Executor W.Surroundings };
+
+    ghost ours = { TreeOwn X.Executor W.Surroundings };
 
     fn restart(&mut self, alloc: Global, start: &Row) -> Result<(), OutOfMemory> {
         match self {
@@ -83,21 +89,23 @@ impl<W: Place, X: Executor<W>> Feed<W> for Tree<X> {
         }
     }
 
-    ghost some_rest = { tree_some X.Executor.own W.Place X.some };
+    ghost some_rest = { tree_some X.Executor.own W.Surroundings X.some };
 
-    ghost kept_rests = { tree_kept_rests X.Executor.own W.Place X.kept_gives };
+    ghost kept_rests = { tree_kept_rests X.Executor.own W.Surroundings X.kept_gives };
 
-    ghost kept_valid = { tree_kept_valid X.Executor.own W.Place X.kept_gives X.kept_valid };
+    ghost kept_valid = { tree_kept_valid X.Executor.own W.Surroundings X.kept_gives X.kept_valid };
 
-    ghost kept_room = { tree_kept_room X.Executor.own W.Place X.kept_room };
+    ghost kept_budget = { tree_kept_budget X.Executor.own W.Surroundings X.kept_budget };
 
-    ghost own_links = { tree_own_links X.Executor.own W.Place X.own_links };
+    ghost own_links = { tree_own_links X.Executor.own W.Surroundings X.own_links };
+
+    ghost no_link = { tree_no_link X.Executor.own W.Surroundings X.no_link };
 }
 
 /// Turns the executor of a node at a port until it answers the call; pulls its inputs where it
 /// asks, and begins its body where it says so.
 #[cycle(pull)]
-pub fn run_node<W: Place, X: Executor<W>>(
+pub fn run_node<W: Surroundings, X: Executor<W>>(
     alloc: Global,
     x: &mut X,
     below: &mut Tree<X>,
@@ -107,56 +115,69 @@ pub fn run_node<W: Place, X: Executor<W>>(
     call: Call,
     tally: &mut Tally,
 ) -> Result<Step, OutOfMemory>
-    requires valid { NodeValid X.Executor W.Place (WaitsAt X.Executor W.Place port)
+    requires valid { NodeValid X.Executor W.Surroundings (WaitsAt X.Executor W.Surroundings port)
         x.old below.old body.old world.old }
     requires plan { IsTree (W.stock world.old).facts (within (X.node x.old)
-        (tree_plan X.Executor W.Place below.old) (tree_plan X.Executor W.Place body.old)) }
+        (tree_plan X.Executor W.Surroundings below.old)
+        (tree_plan X.Executor W.Surroundings body.old)) }
     requires call { IsCall call }
     requires may { X.may x.old port call }
     requires port { (port ≡ 0) ⊎ (port < ports (X.node x.old)) }
-    ensures node { X.node x.new ≡ X.node x.old }
-    ensures below_plan { tree_plan X.Executor W.Place below.new
-        ≡ tree_plan X.Executor W.Place below.old }
-    ensures body_plan { tree_plan X.Executor W.Place body.new
-        ≡ tree_plan X.Executor W.Place body.old }
-    ensures full { (f : ℕ) → X.full x.new f ≡ X.full x.old f }
-    ensures charge { (k f : ℕ) → X.charge x.new k f ≡ X.charge x.old k f }
-    ensures below_full { tree_full X.Executor W.Place below.new
-        ≡ tree_full X.Executor W.Place below.old }
-    ensures body_full { tree_full X.Executor W.Place body.new
-        ≡ tree_full X.Executor W.Place body.old }
-    ensures stock { W.stock world.new ≡ W.stock world.old }
-    ensures grows { W.links world.old ≤ W.links world.new }
-    ensures left { W.left world.new ≤ W.left world.old }
-    ensures others { (l : ℕ) → l < W.links world.old
-        → (NodeOwn X.Executor W.Place x.old below.old body.old l → ⊥)
-        → W.flight world.new l ≡ W.flight world.old l }
-    ensures ours { OnOk result ((l : ℕ) → NodeOwn X.Executor W.Place x.new below.new body.new l
-        → NodeOwn X.Executor W.Place x.old below.old body.old l ⊎ (W.links world.old ≤ l)) }
-    ensures valid { OnOk result (NodeValid X.Executor W.Place (Waits X.Executor W.Place)
+    ensures node { SameNode (X.node x.old) (X.node x.new) (X.full x.old) (X.full x.new)
+        (X.row_cost x.old) (X.row_cost x.new) }
+    ensures below_plan { tree_plan X.Executor W.Surroundings below.new
+        ≡ tree_plan X.Executor W.Surroundings below.old }
+    ensures body_plan { tree_plan X.Executor W.Surroundings body.new
+        ≡ tree_plan X.Executor W.Surroundings body.old }
+    ensures below_full { tree_full X.Executor W.Surroundings below.new
+        ≡ tree_full X.Executor W.Surroundings below.old }
+    ensures body_full { tree_full X.Executor W.Surroundings body.new
+        ≡ tree_full X.Executor W.Surroundings body.old }
+    ensures world { Beside W.Surroundings
+        (NodeOwn X.Executor W.Surroundings x.old below.old body.old) world.old world.new }
+    ensures ours { OnOk result
+        ((l : ℕ) → NodeOwn X.Executor W.Surroundings x.new below.new body.new l
+        → NodeOwn X.Executor W.Surroundings x.old below.old body.old l ⊎ (W.links world.old ≤ l)) }
+    ensures valid { OnOk result
+        (NodeValid X.Executor W.Surroundings (Waits X.Executor W.Surroundings)
         x.new below.new body.new world.new) }
-    ensures leads { IfOk result (λ step. port ≡ 0 → (d : Counts) × Rises tally.old tally.new d
-        × Led (NodeRests X.Executor W.Place x.old below.old body.old world.old) d step
-        (NodeRests X.Executor W.Place x.new below.new body.new world.new)) }
-    ensures beside { OnOk result ((port ≡ 0 → ⊥) → (d : Counts) × Rises tally.old tally.new d
-        × ((r : Rest) → NodeRests X.Executor W.Place x.new below.new body.new world.new r
-        → (b : Rest) × Ahead [] d r b
-        × NodeRests X.Executor W.Place x.old below.old body.old world.old b)) }
+    ensures leads { IfOk result (λ step. port ≡ 0 → (d : Counts) × Rises W.Surroundings
+        (ExactFor (node_exact X.Executor W.Surroundings x.old below.old body.old) call)
+        tally.old world.old tally.new world.new d
+        × Continues (node_exact X.Executor W.Surroundings x.old below.old body.old)
+        (NodeRests X.Executor W.Surroundings x.old below.old body.old world.old) d step
+        (NodeRests X.Executor W.Surroundings x.new below.new body.new world.new)) }
+    ensures beside { OnOk result ((port ≡ 0 → ⊥) → (d : Counts) × Rises W.Surroundings
+        (ExactFor (node_exact X.Executor W.Surroundings x.old below.old body.old) call)
+        tally.old world.old tally.new world.new d
+        × ((r : Rest) → NodeRests X.Executor W.Surroundings x.new below.new body.new world.new r
+        → (b : Rest)
+        × Prefixed (node_exact X.Executor W.Surroundings x.old below.old body.old) [] d r b
+        × NodeRests X.Executor W.Surroundings x.old below.old body.old world.old b)) }
     ensures bounds { IfOk result (λ step. InCall call step) }
     ensures done { IfOk result (λ step. port ≡ 0 → step.progress ≡ Progress.Done
         → ((length (given step) ≡ call.hard)
-        ⊎ Over (NodeRests X.Executor W.Place x.new below.new body.new world.new))) }
+        ⊎ Over (node_exact X.Executor W.Surroundings x.old below.old body.old)
+        (NodeRests X.Executor W.Surroundings x.new below.new body.new world.new))) }
+    ensures drained { IfOk result (λ step. port ≡ 0 → step.progress ≡ Progress.Done
+        → length (given step) < call.hard
+        → NodeDrained X.Executor W.Surroundings x.new) }
     ensures may { IfOk result (λ step. (c : Call) → IsCall c
         → Follows call step.skipped (length (given step)) step.progress c → X.may x.new port c) }
     ensures other_ports { OnOk result
         ((q : ℕ) (c : Call) → (q ≡ port → ⊥) → X.may x.old q c → X.may x.new q c) }
-    ensures more { IfOk result (λ step. step.progress ≡ Progress.HasMore → 0 < told step) }
+    ensures more { IfOk result (λ step. step.progress ≡ Progress.HasMore → 0 < reported step) }
     ensures waiting { IfOk result (λ step. port ≡ 0 → step.progress ≡ Progress.Waiting → (l : ℕ)
-        × NodeOwn X.Executor W.Place x.new below.new body.new l
-        × Flies X.Executor W.Place world.new l) }
-    ensures room { IfOk result (λ step.
-        NodeRoom X.Executor W.Place x.old body.old x.new below.new body.new world.new + told step
-        ≤ NodeRoom X.Executor W.Place x.old body.old x.old below.old body.old world.old) }
+        × NodeOwn X.Executor W.Surroundings x.new below.new body.new l
+        × Flies X.Executor W.Surroundings world.new l) }
+    ensures reads { IfOk result (λ step. ReadInStep (within (X.node x.old)
+        (tree_plan X.Executor W.Surroundings below.old)
+        (tree_plan X.Executor W.Surroundings body.old)) call.offset
+        tally.old.scanned_full tally.new.scanned_full step) }
+    ensures budget { IfOk result (λ step.
+        NodeBudget X.Executor W.Surroundings x.old body.old x.new below.new body.new world.new +
+        reported step
+        ≤ NodeBudget X.Executor W.Surroundings x.old body.old x.old below.old body.old world.old) }
 {
     loop {
         match x.turn(alloc, port, world, call, tally)? {

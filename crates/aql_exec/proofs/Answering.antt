@@ -6,7 +6,7 @@ use Rattle.aql_meaning.specs.Clauses.{limit_rows}
 use Rattle.aql_block.specs.declared.calls.Step.{Step}
 use Rattle.aql_block.specs.declared.calls.Call.{Call}
 use Rattle.aql_exec.specs.Rests.{Rest, with_rows}
-use Rattle.aql_exec.specs.Steps.{given, told, InCall}
+use Rattle.aql_exec.specs.Steps.{given, reported, InCall}
 use Rattle.aql_exec.specs.Mapping.{held_in}
 use Rattle.aql_exec.specs.Limiting.{Limits, HeldIs, skips_of, most_of}
 use Rattle.aql_exec.specs.declared.limit.Limit.{Limit}
@@ -57,12 +57,12 @@ either offset past rows step a = decide (grind arith)
     decide (inl h) = inl (a.whole h)
     decide (inr h) = inr (a.over h)
 
-pub told_is : (offset past : ℕ) (rows : List Row) (step : Step) → Answers offset past rows step
-    → told step ≡ past + length rows
-told_is offset past rows step a = by_case (either offset past rows step a)
+pub reported_is : (offset past : ℕ) (rows : List Row) (step : Step) → Answers offset past rows step
+    → reported step ≡ past + length rows
+reported_is offset past rows step a = by_case (either offset past rows step a)
   where
     by_case : ((given step ≡ rows) × (step.skipped ≡ past))
-        ⊎ ((given step ≡ []) × (step.skipped ≡ past + length rows)) → told step ≡ past + length rows
+        ⊎ ((given step ≡ []) × (step.skipped ≡ past + length rows)) → reported step ≡ past + length rows
     by_case (inl x) = (let n = ap length x.0 in let m = x.1 in omega (arith, n, m))
     by_case (inr x) = (let n = ap length x.0 in let m = x.1 in omega (arith, n, m))
 
@@ -102,9 +102,9 @@ module _ (soft hard skip left k asked_soft asked_hard left' : ℕ) (call : Call)
       (length rows) asked_soft asked_hard left' c w h e in
       ap length (a.whole x.1).0 ∙ x.0
 
-  -- what the next call is told, where more may be given
-  pub told_more : 1 ≤ left' → (step.skipped ≡ k - skip) × (length (given step) ≡ length rows)
-  told_more h = decide (grind arith)
+  -- what the next call is reported, where more may be given
+  pub reported_more : 1 ≤ left' → (step.skipped ≡ k - skip) × (length (given step) ≡ length rows)
+  reported_more h = decide (grind arith)
     where
       none_came : length rows ≡ 0 → k - skip < call.offset
           → (step.skipped ≡ k - skip) × (length (given step) ≡ length rows)

@@ -31,7 +31,7 @@ ask_is_call call skip left h i =
     let a = i.some in let b = i.soft in let d = i.batch in
     record { some = omega (arith, h, s, a, b); soft = omega arith; batch = omega (arith, d) }
 
--- what came and what is told of, for a call and what was asked for it; `past` rows were skipped beyond those
+-- what came and what is reported of, for a call and what was asked for it; `past` rows were skipped beyond those
 -- that are left out
 pub record Came (offset soft hard skip left k n asked_soft asked_hard left' : ℕ) : Type 0 where
   pub skips : ℕ
@@ -141,16 +141,16 @@ module _ (offset soft hard skip left k n asked_soft asked_hard left' : ℕ)
       let s = (next_skips o h e).1 in let i = c.hard_is in let y = x.0 in omega (arith, s, i, y, m)
 
   -- each call that follows the answer is asked for by one that follows what was asked
-  pub next_follows : (d call ask : Call) (came told_skips told_rows : ℕ) (progress told : Progress)
+  pub next_follows : (d call ask : Call) (came reported_skips reported_rows : ℕ) (progress reported : Progress)
       → call.offset ≡ offset → call.hard ≡ hard → ask.hard ≡ asked_hard → left ≤ 18446744073709551615
       → ask.offset + k ≡ (skip + c.skips) + came
-      → (1 ≤ left' → (told_skips ≡ k - skip) × (told_rows ≡ n) × (told ≡ progress))
-      → (left' ≡ 0 → told ≡ Done)
-      → Follows call told_skips told_rows told d → Follows ask came n progress (ask_of d (skip - k) left')
-  next_follows d call ask came told_skips told_rows progress told eo eh ea m reach more over f =
+      → (1 ≤ left' → (reported_skips ≡ k - skip) × (reported_rows ≡ n) × (reported ≡ progress))
+      → (left' ≡ 0 → reported ≡ Done)
+      → Follows call reported_skips reported_rows reported d → Follows ask came n progress (ask_of d (skip - k) left')
+  next_follows d call ask came reported_skips reported_rows progress reported eo eh ea m reach more over f =
       let t = more still in
       let t0 = t.0 in
-      let o : d.offset ≡ offset - (k - skip) = f.offset ∙ ap (λ z. z - told_skips) eo
+      let o : d.offset ≡ offset - (k - skip) = f.offset ∙ ap (λ z. z - reported_skips) eo
       ∙ ap (λ z. offset - z) t0 in
       let s = (next_skips d.offset still o).0 in
       let a = c.reach in
@@ -167,7 +167,7 @@ module _ (offset soft hard skip left k n asked_soft asked_hard left' : ℕ)
       still : 1 ≤ left'
       still = decide (grind arith)
 
-      wanted : told_rows ≡ n → (d.hard + told_rows ≤ call.hard)
+      wanted : reported_rows ≡ n → (d.hard + reported_rows ≤ call.hard)
           ⊎ ((call.hard ≡ 18446744073709551615) × (d.hard ≡ 18446744073709551615))
           → (d.hard + n ≤ hard) ⊎ ((hard ≡ 18446744073709551615) × (d.hard ≡ 18446744073709551615))
       wanted e (inl x) = inl (omega (arith, e, x, eh))

@@ -14,8 +14,10 @@ use Rattle.aql_plan.specs.Plan as plan
 use Rattle.aql_plan.specs.Runs.{Dataset}
 use Rattle.aql_block.specs.Tables.{marked}
 use Rattle.aql_block.specs.declared.tally.Tally.{Tally}
-use Rattle.aql_exec.specs.Rests.{Counter, scanned_full, scanned_index, filtered, Rest, Ahead, Rises}
-use Rattle.aql_exec.specs.Counting.{counts, GivesCounting}
+use Rattle.aql_exec.specs.Rests.{Counter, scanned_full, scanned_index, filtered, sent_on, Rest, Prefixed, all_exact}
+use Rattle.aql_exec.specs.Rising.{TallyRose}
+use Rattle.aql_exec.specs.Counting.{counts, NoneSent, GivesCounting}
+use Rattle.aql_exec.specs.laws.Counted.{rose_none, rose_same, rose_saturated}
 use Rattle.aql_exec.specs.Filters.{passing, failing, kept_of, lost_of, left_keep}
 
 -- ---- the node
@@ -30,12 +32,15 @@ both e rows = length-filter_both (λ row. truth (value_of e row)) (λ row. not (
 
 -- a FILTER that holds no rows gives what its node gives
 pub filters : (e : ExprTree) (w : Dataset) (start : Row) (rows : List Row) (r : Rest)
-    → left_keep e true [] rows r → GivesCounting (plan.Filter e) w start rows r.rows r.counts
+    → left_keep e true [] rows r
+    → NoneSent r.counts × GivesCounting (plan.Filter e) w start rows r.rows r.counts
 filters e w start rows r h =
     let n = both e rows in
     let m = ap length h.0 in
-    let k = h.3 in
-    (h.0 ∙ passing_is e rows, h.1, h.2, omega (arith, n, m, k))
+    let k = h.1 filtered in (
+      λ l. h.1 (sent_on l),
+      (h.0 ∙ passing_is e rows, h.1 scanned_full, h.1 scanned_index, omega (arith, n, m, k)),
+    )
 
 -- ---- marks
 
@@ -64,45 +69,46 @@ retained e held after given marks values datum a g m v =
 
 -- ---- counts
 
-pub rises_same : (t : Tally) → Rises t t (counts 0 0 0)
-rises_same t c = (omega arith, omega arith)
+pub rises_same : (t : Tally) → TallyRose t t 0 0 0
+rises_same t = (rose_none _, rose_none _, rose_none _)
 
-pub rises_more : (t t' : Tally) (n m : ℕ) → n ≡ m → Rises t t' (counts 0 0 n) → Rises t t' (counts 0 0 m)
+pub rises_more : (t t' : Tally) (n m : ℕ) → n ≡ m → TallyRose t t' 0 0 n → TallyRose t t' 0 0 m
 rises_more t t' n m e h = rw (← e) h
 
 pub rises_dropped : (t t' : Tally) (n : ℕ) → t.filtered < 2 ^ 64
-    → t' ≡ record t { filtered = min (t.filtered + n) (2 ^ 64 - 1) } → Rises t t' (counts 0 0 n)
-rises_dropped t t' n l e scanned_full =
-    let i = ap (λ (z : Tally). z.scanned_full) e in (omega (arith, i), omega (arith, i))
-rises_dropped t t' n l e scanned_index =
-    let i = ap (λ (z : Tally). z.scanned_index) e in (omega (arith, i), omega (arith, i))
-rises_dropped t t' n l e filtered =
-    let i : t'.filtered ≡ min (t.filtered + n) (2 ^ 64 - 1) = ap (λ (z : Tally). z.filtered) e in
-    (omega (arith, i, l), omega (arith, i, l))
+    → t' ≡ record t { filtered = min (t.filtered + n) (2 ^ 64 - 1) } → TallyRose t t' 0 0 n
+rises_dropped t t' n l e = (
+  rose_same _ _ (ap (λ (z : Tally). z.scanned_full) e),
+  rose_same _ _ (ap (λ (z : Tally). z.scanned_index) e),
+  rose_saturated _ _ n (omega (arith, l)) (ap (λ (z : Tally). z.filtered) e),
+)
 
 -- ---- blocks
 
 -- a block that is put in stands before the rows to come
+lost_more : (e : ExprTree) (block rows : List Row)
+    → length (failing e block) + length (failing e rows) ≡ 0 + length (failing e (block ++ rows))
+lost_more e block rows =
+    let a = ap length (filter-append (λ row. not (truth (value_of e row))) block rows) in
+    let b = length-append (failing e block) (failing e rows) in
+    omega (arith, a, b)
+
 pub put_in : (e : ExprTree) (judged : Bool) (held block rows : List Row) (r : Rest) → held ≡ []
     → left_keep e false block rows r → left_keep e judged held (block ++ rows) r
-put_in e true held block rows r none h = rw none
-    (h.0 ∙ sym (filter-append _ block rows), h.1, h.2, lost)
-  where
-    lost : r.counts filtered ≡ 0 + length (failing e (block ++ rows))
-    lost = (let a = ap length (filter-append (λ row. not (truth (value_of e row))) block rows) in
-        let b = length-append (failing e block) (failing e rows) in let k = h.3 in omega (arith, a, b, k))
-put_in e false held block rows r none h = rw none
-    (h.0 ∙ sym (filter-append _ block rows), h.1, h.2, lost)
-  where
-    lost : r.counts filtered ≡ 0 + length (failing e (block ++ rows))
-    lost = (let a = ap length (filter-append (λ row. not (truth (value_of e row))) block rows) in
-        let b = length-append (failing e block) (failing e rows) in let k = h.3 in omega (arith, a, b, k))
+put_in e true held block rows r none h = rw none (
+  h.0 ∙ sym (filter-append _ block rows),
+  λ c. h.1 c ∙ ap (λ n. counts 0 0 n c) (lost_more e block rows),
+)
+put_in e false held block rows r none h = rw none (
+  h.0 ∙ sym (filter-append _ block rows),
+  λ c. h.1 c ∙ ap (λ n. counts 0 0 n c) (lost_more e block rows),
+)
 
 -- the first of the rows that pass are given
 pub front_given : (e : ExprTree) (judged : Bool) (most : ℕ) (held rows front rest : List Row) (r : Rest)
     → front ≡ take most (kept_of e judged held) → rest ≡ drop most (kept_of e judged held)
     → left_keep e true rest rows r
-    → (b : Rest) × Ahead front (counts 0 0 (length (lost_of e judged held))) r b
+    → (b : Rest) × Prefixed all_exact front (counts 0 0 (length (lost_of e judged held))) r b
     × left_keep e judged held rows b
 front_given e judged most held rows front rest r f g h =
     let kept = kept_of e judged held in
@@ -114,15 +120,20 @@ front_given e judged most held rows front rest r f g h =
         rows = kept ++ passing e rows;
         counts = counts 0 0 (length (lost_of e judged held) + length (failing e rows));
       },
-      record { rows = all; counts = each },
-      (refl, refl, refl, refl),
+      record {
+        rows = all;
+        counts = λ c. (let k = each c in omega (arith, k));
+        exact = λ c i. (let k = each c in omega (arith, k));
+      },
+      (refl, λ c. refl),
     )
   where
     each : (c : Counter) → r.counts c + counts 0 0 (length (lost_of e judged held)) c
-        ≤ counts 0 0 (length (lost_of e judged held) + length (failing e rows)) c
-    each scanned_full = (let k = h.1 in omega (arith, k))
-    each scanned_index = (let k = h.2 in omega (arith, k))
-    each filtered = (let k = h.3 in omega (arith, k))
+        ≡ counts 0 0 (length (lost_of e judged held) + length (failing e rows)) c
+    each scanned_full = (let k = h.1 scanned_full in omega (arith, k))
+    each scanned_index = (let k = h.1 scanned_index in omega (arith, k))
+    each filtered = (let k = h.1 filtered in omega (arith, k))
+    each (sent_on l) = (let k = h.1 (sent_on l) in omega (arith, k))
 
 -- no more rows pass than are held
 pub kept_fewer : (e : ExprTree) (judged : Bool) (held : List Row)

@@ -5,7 +5,7 @@ use Rattle.std.proofs.lemmas.List.{take-append-drop, drop-append-le, drop_all, a
 use Rattle.aql_meaning.specs.Row.{Row}
 use Rattle.aql_meaning.specs.Clauses.{limit_rows}
 use Rattle.aql_block.specs.declared.calls.Step.{Step}
-use Rattle.aql_exec.specs.Rests.{Counts, Rest, Ahead, with_rows}
+use Rattle.aql_exec.specs.Rests.{Counts, Exact, Rest, Prefixed, with_rows}
 use Rattle.aql_exec.specs.Counting.{nothing}
 use Rattle.aql_exec.specs.Steps.{given}
 use Rattle.aql_exec.specs.Mapping.{held_in}
@@ -18,11 +18,11 @@ held_none k rows input e =
     rw e (ap (λ z. z ++ drop k input) (append-nil (take k input)) ∙ take-append-drop k input)
 
 -- a step that was taken
-pub limit_taken : (skip left k j : ℕ) (block held s0 s : List Row) (d : Counts) (i' i t b r : Rest) → block
+pub limit_taken : {v : Exact} (skip left k j : ℕ) (block held s0 s : List Row) (d : Counts) (i' i t b r : Rest) → block
     ≡ []
-    → length s0 ≡ k → length s ≡ j → Ahead (s ++ held) d t b → i' ≡ with_rows (s0 ++ s) t → i ≡ with_rows s0 b
+    → length s0 ≡ k → length s ≡ j → Prefixed v (s ++ held) d t b → i' ≡ with_rows (s0 ++ s) t → i ≡ with_rows s0 b
     → Limits skip left (held_in true (k + j) held i'.rows) i' r
-    → (q : Rest) × Ahead [] d r q × Limits skip left (held_in true k block i.rows) i q
+    → (q : Rest) × Prefixed v [] d r q × Limits skip left (held_in true k block i.rows) i q
 limit_taken skip left k j block held s0 s d i' i t b r e l0 l a f' f h =
     let n = length-append s0 s in
     let both : length (s0 ++ s) ≡ k + j = omega (arith, n, l0, l) in
@@ -36,11 +36,13 @@ limit_taken skip left k j block held s0 s d i' i t b r e l0 l a f' f h =
         rows = refl;
         counts = λ c. (let m = a.counts c in let p = h.1 c in let q = same_counts (s0 ++ s) i' t f' c in
             omega (arith, m, p, q));
+        exact = λ c y. (let m = a.exact c y in let p = h.1 c in let q = same_counts (s0 ++ s) i' t f' c in
+            omega (arith, m, p, q));
       },
       (h.0 ∙ ap (limit_rows skip left) (new_rows ∙ same ∙ sym old_rows), λ c. sym (same_counts s0 i b f c)),
     )
 
--- what is told of, and what is left after that
+-- what is reported of, and what is left after that
 parts : (skip left left' : ℕ) (s rows input : List Row) → skip ≤ length s
     → left' + ((length s - skip) + length rows) ≡ left
     → limit_rows skip left ((s ++ rows) ++ input)
@@ -67,12 +69,12 @@ still_out skip left left' s rows input h none e =
     let skip_is : skip ≡ length s + (skip - length s) = omega (arith, h) in
     let whole : (s ++ rows) ++ input ≡ s ++ input = ap (λ z. (s ++ z) ++ input) none
     ∙ ap (λ z. z ++ input) (append-nil s) in
-    let told : drop skip s ++ rows ≡ [] = ap (λ z. drop skip s ++ z) none ∙ append-nil (drop skip s)
+    let reported : drop skip s ++ rows ≡ [] = ap (λ z. drop skip s ++ z) none ∙ append-nil (drop skip s)
     ∙ drop_all skip s h in
     ap (limit_rows skip left) whole ∙ ap (λ z. limit_rows z left (s ++ input)) skip_is
     ∙ ap (take left) (drop-append-add s input (skip - length s))
     ∙ ap (λ z. take z (drop (skip - length s) input)) left_is
-    ∙ ap (λ z. z ++ limit_rows (skip - length s) left' input) (sym told)
+    ∙ ap (λ z. z ++ limit_rows (skip - length s) left' input) (sym reported)
 
 split : (skip left left' : ℕ) (s rows input : List Row) → (1 ≤ length rows → skip ≤ length s)
     → left' + ((length s - skip) + length rows) ≡ left → (skip ≤ length s) ⊎ (length s ≤ skip)
@@ -83,8 +85,8 @@ split skip left left' s [] input f e (inr h) = still_out skip left left' s [] in
 split skip left left' s (row ∷ rows) input f e (inr h) =
     parts skip left left' s (row ∷ rows) input (f (omega arith)) e
 
--- an answer: the rows that are told of stand in front
-pub limit_told : (skip left left' k : ℕ) (rows block s : List Row) (step : Step) (i' i r : Rest) → length s
+-- an answer: the rows that are reported of stand in front
+pub limit_reported : {v : Exact} (skip left left' k : ℕ) (rows block s : List Row) (step : Step) (i' i r : Rest) → length s
     ≡ k
     → i' ≡ with_rows s i → (1 ≤ length rows → skip ≤ k) → left' + ((k - skip) + length rows) ≡ left → block
     ≡ []
@@ -92,9 +94,9 @@ pub limit_told : (skip left left' k : ℕ) (rows block s : List Row) (step : Ste
     ⊎ ((given step ≡ []) × (step.skipped ≡ (k - skip) + length rows))
     → Limits (skip - k) left' (held_in true 0 block i.rows) i r
     → (skipped : List Row) × (b : Rest) × (length skipped ≡ step.skipped)
-    × Ahead (skipped ++ given step) nothing r b
+    × Prefixed v (skipped ++ given step) nothing r b
     × Limits skip left (held_in true k rows i'.rows) i' b
-limit_told skip left left' k rows block s step i' i r l f g e none t h = answer t
+limit_reported {v = v} skip left left' k rows block s step i' i r l f g e none t h = answer t
   where
     b : Rest
     b = record { rows = (drop skip s ++ rows) ++ r.rows; counts = r.counts }
@@ -117,13 +119,17 @@ limit_told skip left left' k rows block s step i' i r l f g e none t h = answer 
     answer : ((given step ≡ rows) × (step.skipped ≡ k - skip))
         ⊎ ((given step ≡ []) × (step.skipped ≡ (k - skip) + length rows))
         → (skipped : List Row) × (b : Rest) × (length skipped ≡ step.skipped)
-        × Ahead (skipped ++ given step) nothing r b × Limits skip left (held_in true k rows i'.rows) i' b
+        × Prefixed v (skipped ++ given step) nothing r b × Limits skip left (held_in true k rows i'.rows) i' b
     answer (inl x) =
         let m = length-drop skip s in (
           drop skip s,
           b,
           (let y = x.1 in omega (arith, m, l, y)),
-          record { rows = ap (λ z. (drop skip s ++ z) ++ r.rows) (sym x.0); counts = λ c. omega arith },
+          record {
+            rows = ap (λ z. (drop skip s ++ z) ++ r.rows) (sym x.0);
+            counts = λ c. omega arith;
+            exact = λ c y. omega arith;
+          },
           before,
         )
     answer (inr x) =
@@ -136,6 +142,7 @@ limit_told skip left left' k rows block s step i' i r l f g e none t h = answer 
             rows = ap (λ z. z ++ r.rows) (sym (ap (λ z. (drop skip s ++ rows) ++ z) x.0
                 ∙ append-nil (drop skip s ++ rows)));
             counts = λ c. omega arith;
+            exact = λ c y. omega arith;
           },
           before,
         )

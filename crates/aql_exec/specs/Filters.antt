@@ -4,7 +4,7 @@ use Rattle.aql_tree.specs.Tree.{ExprTree}
 use Rattle.aql_value.specs.Truth.{truth}
 use Rattle.aql_meaning.specs.Row.{Row}
 use Rattle.aql_meaning.specs.AtRows.{value_of}
-use Rattle.aql_exec.specs.Rests.{Rest, scanned_full, scanned_index, filtered}
+use Rattle.aql_exec.specs.Rests.{Counter, Rest}
 use Rattle.aql_exec.specs.Counting.{counts}
 
 -- the rows at which the condition is true-like, and those at which it is not
@@ -25,8 +25,7 @@ lost_of e false held = failing e held
 
 abbrev pub left_keep : ExprTree → Bool → List Row → List Row → Rest → Type 0
 left_keep e judged held rows r = (r.rows ≡ kept_of e judged held ++ passing e rows)
-    × (r.counts scanned_full ≡ 0) × (r.counts scanned_index ≡ 0)
-    × (r.counts filtered ≡ length (lost_of e judged held) + length (failing e rows))
+    × ((c : Counter) → r.counts c ≡ counts 0 0 (length (lost_of e judged held) + length (failing e rows)) c)
 
 pub some_keep : (e : ExprTree) (judged : Bool) (held rows : List Row) → (r : Rest)
     × left_keep e judged held rows r
@@ -35,5 +34,5 @@ some_keep e judged held rows = (
     rows = kept_of e judged held ++ passing e rows;
     counts = counts 0 0 (length (lost_of e judged held) + length (failing e rows));
   },
-  (refl, refl, refl, refl),
+  (refl, λ c. refl),
 )

@@ -1,5 +1,5 @@
 -- An executor without inputs: the rows that it holds, and no counts.
-use Rattle.std.specs.Prelude.{ℕ, ◌≡◌, List, [], ◌∷◌, Option, Some, None, true, false, refl}
+use Rattle.std.specs.Prelude.{◌≡◌, List, [], ◌∷◌, Option, Some, None, true, false, refl}
 use mathlib.Core.Bool.{false≢true}
 use Rattle.aql_meaning.specs.Row.{Row}
 use Rattle.aql_block.specs.Rows.{Entries, row_of}

@@ -1,8 +1,12 @@
 pub mod Rests
+pub mod Lines
+pub mod Rising
 pub mod Counting
-pub mod Charges
+pub mod RowCosts
 pub mod Operators
 pub mod Steps
+pub mod Reads
+pub mod Promises
 pub mod Links
 pub mod Streaming
 pub mod Mapping

@@ -9,7 +9,7 @@ use Rattle.aql_meaning.specs.Clauses.{limit_rows}
 use Rattle.aql_block.specs.Tables.{rows_of}
 use Rattle.aql_block.specs.declared.calls.Call.{Call}
 use Rattle.aql_block.specs.declared.calls.Progress.TheVariants.{Waiting, HasMore, Done}
-use Rattle.aql_exec.specs.Rests.{Counter, Counts, Rest, Ahead}
+use Rattle.aql_exec.specs.Rests.{Counter, Counts, Exact, Rest, Prefixed}
 use Rattle.aql_exec.specs.Steps.{IsCall, Follows, unless_waiting}
 use Rattle.aql_exec.specs.Operators.{is_first}
 use Rattle.aql_exec.specs.Mapping.{held_in}
@@ -40,19 +40,19 @@ abbrev pub gives_limit : Limit → (ℕ → Rest) → Rest → Type 0
 gives_limit s ins r =
     Limits s.skip s.left (held_in true s.skipped (rows_of s.block) (ins 0).rows) (ins 0) r
 
-abbrev pub owed_limit : Limit → ℕ → ℕ
-owed_limit s zero = s.skipped
-owed_limit s (suc k) = 0
+abbrev pub unreported_limit : Limit → ℕ → ℕ
+unreported_limit s zero = s.skipped
+unreported_limit s (suc k) = 0
 
 abbrev pub waited_limit : Limit → ℕ → Type 0
 waited_limit s zero = (s.has ≡ true) × (s.progress ≡ Waiting)
 waited_limit s (suc k) = ⊥
 
-abbrev pub room_limit : Limit → ℕ
-room_limit s = (s.skipped + length (rows_of s.block)) + cond s.done 0 1
+abbrev pub budget_limit : Limit → ℕ
+budget_limit s = (s.skipped + length (rows_of s.block)) + cond s.done 0 1
 
-abbrev pub patience_limit : Limit → ℕ
-patience_limit s = cond s.has (unless_waiting s.progress) 1
+abbrev pub waits_left_limit : Limit → ℕ
+waits_left_limit s = cond s.has (unless_waiting s.progress) 1
 
 abbrev pub AsksLimit : Limit → ℕ → Call → Type 0
 AsksLimit s zero ask = (ask ≡ s.ask) × (s.pending ≡ true)
@@ -67,10 +67,10 @@ asks_limit s (suc k) c = ⊥
 -- what may be asked of it: until it answers the same call, and after that one that follows
 abbrev pub may_limit : Limit → ℕ → Call → Type 0
 may_limit s zero c = (s.asked ≡ true → c ≡ s.call)
-    × (s.asked ≡ false → s.fresh ≡ false → Follows s.call s.told_skips s.told_rows s.told c)
+    × (s.asked ≡ false → s.fresh ≡ false → Follows s.call s.reported_skips s.reported_rows s.reported c)
 may_limit s (suc p) c = ⊥
 
--- a step of which something is to be told, and what was asked
+-- a step of which something is to be reported, and what was asked
 pub record HeldIs (s : Limit) : Type 0 where
   pub asked : s.asked ≡ true
   pub pending : s.pending ≡ false
@@ -106,13 +106,16 @@ some_limit s ins = (
   (refl, λ c. refl),
 )
 
-pub more_limit : (s : Limit) (k : ℕ) (d : Counts) (ins ins' : ℕ → Rest) (r : Rest)
-    → is_first k ≡ true → Ahead [] d (ins k) (ins' k) → ((j : ℕ) → (j ≡ k → ⊥) → ins' j ≡ ins j)
-    → gives_limit s ins r → (b : Rest) × Ahead [] d r b × gives_limit s ins' b
-more_limit s zero d ins ins' r e a o h = (
+pub more_limit : (x : Exact) (s : Limit) (k : ℕ) (d : Counts) (ins ins' : ℕ → Rest) (r : Rest)
+    → is_first k ≡ true → Prefixed x [] d (ins k) (ins' k) → ((j : ℕ) → (j ≡ k → ⊥) → ins' j ≡ ins j)
+    → gives_limit s ins r → (b : Rest) × Prefixed x [] d r b × gives_limit s ins' b
+more_limit x s zero d ins ins' r e a o h = (
   record { rows = r.rows; counts = (ins' 0).counts },
-  record
-      { rows = refl; counts = λ c. (let m = a.counts c in let n = h.1 c in omega (arith, m, n)) },
+  record {
+    rows = refl;
+    counts = λ c. (let m = a.counts c in let n = h.1 c in omega (arith, m, n));
+    exact = λ c i. (let m = a.exact c i in let n = h.1 c in omega (arith, m, n));
+  },
   (rw a.rows h.0, λ c. refl),
 )
-more_limit s (suc k) d ins ins' r e a o h = absurd (false≢true e)
+more_limit x s (suc k) d ins ins' r e a o h = absurd (false≢true e)

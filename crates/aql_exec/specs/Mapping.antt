@@ -7,7 +7,7 @@ use Rattle.aql_meaning.specs.Row.{Row}
 use Rattle.aql_block.specs.Tables.{rows_of}
 use Rattle.aql_block.specs.declared.calls.Call.{Call}
 use Rattle.aql_block.specs.declared.calls.Progress.TheVariants.{Waiting, HasMore, Done}
-use Rattle.aql_exec.specs.Rests.{Counter, Counts, Rest, Ahead}
+use Rattle.aql_exec.specs.Rests.{Counter, Counts, Exact, Rest, Prefixed}
 use Rattle.aql_exec.specs.Steps.{IsCall, Follows}
 use Rattle.aql_exec.specs.Operators.{is_first}
 use Rattle.aql_exec.specs.declared.mapped.RowMap
@@ -18,16 +18,16 @@ abbrev pub held_in : Bool → ℕ → List Row → List Row → List Row
 held_in true skipped held rows = (take skipped rows ++ held) ++ drop skipped rows
 held_in false skipped held rows = rows
 
-abbrev pub owed_mapped : {M : Type 0} → Mapped M → ℕ → ℕ
-owed_mapped s zero = cond s.has s.skipped 0
-owed_mapped s (suc k) = 0
+abbrev pub unreported_mapped : {M : Type 0} → Mapped M → ℕ → ℕ
+unreported_mapped s zero = cond s.has s.skipped 0
+unreported_mapped s (suc k) = 0
 
 abbrev pub waited_mapped : {M : Type 0} → Mapped M → ℕ → Type 0
 waited_mapped s zero = (s.has ≡ true) × (s.progress ≡ Waiting)
 waited_mapped s (suc k) = ⊥
 
-abbrev pub room_mapped : {M : Type 0} → Mapped M → ℕ
-room_mapped s = cond s.has (s.skipped + length (rows_of s.block)) 0 + cond s.done 0 1
+abbrev pub budget_mapped : {M : Type 0} → Mapped M → ℕ
+budget_mapped s = cond s.has (s.skipped + length (rows_of s.block)) 0 + cond s.done 0 1
 
 -- a rest of one row for each of these, that counts what the input counts
 abbrev pub Images : (Row → Row) → List Row → Rest → Rest → Type 0
@@ -73,13 +73,16 @@ module _ {M W : Type 0} (g : RowMap.Ghosts M W) where
     (refl, λ c. refl),
   )
 
-  pub more_mapped : (s : Mapped M) (k : ℕ) (d : Counts) (ins ins' : ℕ → Rest) (r : Rest)
-      → is_first k ≡ true → Ahead [] d (ins k) (ins' k) → ((j : ℕ) → (j ≡ k → ⊥) → ins' j ≡ ins j)
-      → gives_mapped s ins r → (b : Rest) × Ahead [] d r b × gives_mapped s ins' b
-  more_mapped s zero d ins ins' r e a o h = (
+  pub more_mapped : (x : Exact) (s : Mapped M) (k : ℕ) (d : Counts) (ins ins' : ℕ → Rest) (r : Rest)
+      → is_first k ≡ true → Prefixed x [] d (ins k) (ins' k) → ((j : ℕ) → (j ≡ k → ⊥) → ins' j ≡ ins j)
+      → gives_mapped s ins r → (b : Rest) × Prefixed x [] d r b × gives_mapped s ins' b
+  more_mapped x s zero d ins ins' r e a o h = (
     record { rows = r.rows; counts = (ins' 0).counts },
-    record
-        { rows = refl; counts = λ c. (let m = a.counts c in let n = h.1 c in omega (arith, m, n)) },
+    record {
+      rows = refl;
+      counts = λ c. (let m = a.counts c in let n = h.1 c in omega (arith, m, n));
+      exact = λ c i. (let m = a.exact c i in let n = h.1 c in omega (arith, m, n));
+    },
     (rw a.rows h.0, λ c. refl),
   )
-  more_mapped s (suc k) d ins ins' r e a o h = absurd (false≢true e)
+  more_mapped x s (suc k) d ins ins' r e a o h = absurd (false≢true e)

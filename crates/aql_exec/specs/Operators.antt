@@ -1,7 +1,7 @@
 -- What executors work on: the nodes of a plan where each is an operator with inputs of its own. A fragment is
 -- a tree for each shard that it reaches, and stands in the operator that gathers it; a subquery's body is the
 -- second input of its operator. What each tree produces is said in the words of plans.
-use Rattle.std.specs.Prelude.{ℕ, zero, suc, ◌≡◌, ◌+◌, ◌<◌, ◌≤◌, ◌^◌, List, [], ◌∷◌, map, filter, length, slice_index_or, Bool, true, false, ◌==◌}
+use Rattle.std.specs.Prelude.{ℕ, zero, suc, ◌≡◌, ◌+◌, ◌<◌, ◌≤◌, ◌^◌, List, [], ◌∷◌, map, filter, length, slice_index_or, Bool, true, false, cond, ◌==◌, ◌&&◌}
 use Rattle.aql_value.specs.Contents.{list}
 use Rattle.aql_value.specs.Shards.{shard_of}
 use Rattle.aql_tree.specs.declared.syntax.Ident.{Ident}
@@ -15,8 +15,8 @@ use Rattle.aql_plan.specs.Plan.{Node}
 use Rattle.aql_plan.specs.Plan as plan
 use Rattle.aql_plan.specs.Fits.{Fits}
 use Rattle.aql_plan.specs.Runs.{Dataset, result_of}
-use Rattle.aql_exec.specs.Rests.{Counter, Counts, Rest}
-use Rattle.aql_exec.specs.Counting.{GivesCounting}
+use Rattle.aql_exec.specs.Rests.{Counter, scanned_index, sent_on, Counts, Exact, Rest}
+use Rattle.aql_exec.specs.Counting.{GivesCounting, NoneSent}
 
 mutual
   pub data Operator : Type 0 where
@@ -77,10 +77,17 @@ AtPort n w shards p ins r =
     (p < length shards → r.rows ≡ rows_for n w (slice_index_or shards p 0) ins.rows)
     × (p ≡ length shards → r.rows ≡ []) × ((c : Counter) → r.counts c ≡ ins.counts c)
 
--- the asking end of a link gives the rows, the serving end none
+-- so many rows on this link
+abbrev pub carried : ℕ → ℕ → Counts
+carried link rows (sent_on l) = cond (l == link) rows 0
+carried link rows c = 0
+
+-- the asking end of a link gives the rows, the serving end none; each row is sent once, on one link
 abbrev pub AtEnd : ℕ → Rest → Rest → Type 0
-AtEnd zero ins r = (r.rows ≡ ins.rows) × ((c : Counter) → r.counts c ≡ ins.counts c)
-AtEnd (suc p) ins r = (r.rows ≡ []) × ((c : Counter) → r.counts c ≡ ins.counts c)
+AtEnd zero ins r = (r.rows ≡ ins.rows)
+    × (link : ℕ) × ((c : Counter) → r.counts c ≡ ins.counts c + carried link (length ins.rows) c)
+AtEnd (suc p) ins r = (r.rows ≡ [])
+    × (link : ℕ) × ((c : Counter) → r.counts c ≡ ins.counts c + carried link (length ins.rows) c)
 
 -- the rows of so many lists in some order that keeps each list's own, where no next row of a list comes
 -- before the row that is taken
@@ -110,7 +117,7 @@ abbrev mutual
   Makes NoRows w came row p body ins r = (r.rows ≡ []) × ((c : Counter) → r.counts c ≡ 0)
   Makes ShardRows w came row p body ins r = (r.rows ≡ came) × ((c : Counter) → r.counts c ≡ 0)
   Makes (OnRows n) w came row p body ins r = (d : Counts) × GivesCounting n w row (ins 0).rows r.rows d
-      × ((c : Counter) → r.counts c ≡ (ins 0).counts c + d c)
+      × NoneSent d × ((c : Counter) → r.counts c ≡ (ins 0).counts c + d c)
   Makes (WithBody x) w came row p body ins r = (d : Counts) × EachRow body x (ins 0).rows r.rows d
       × ((c : Counter) → r.counts c ≡ (ins 0).counts c + d c)
   Makes Remote w came row p body ins r = AtEnd p (ins 0) r
@@ -191,12 +198,37 @@ ports Remote = 2
 ports (Scatter n shards) = suc (length shards)
 ports _ = 1
 
+-- ---- what is counted exactly
+
+-- a LIMIT leaves its input before all of it is counted; and what a traversal finds may be less than what it
+-- counts, since an edge may lead to no document
+abbrev mutual
+  pub exact_at : Operator → Exact
+  exact_at (OnRows (plan.Limit offset count)) c = false
+  exact_at (OnRows (plan.Traversal shape e colls prune keep)) scanned_index = false
+  exact_at (Shards gather scatter ts) c = exact_at gather c && exact_at scatter c && exact_in ts c
+  exact_at o c = true
+
+  pub exact_tree : OperatorTree → Exact
+  exact_tree (leaf o) c = exact_at o c
+  exact_tree (over o below) c = exact_at o c && exact_tree below c
+  exact_tree (within o below body) c = exact_at o c && exact_tree below c && exact_tree body c
+
+  pub exact_in : OperatorTrees → Exact
+  exact_in no_trees c = true
+  exact_in (tree_then t ts) c = exact_tree t c && exact_in ts c
+
 -- when it is done early at a port, so are its inputs
 abbrev pub drains : Operator → ℕ → Bool
 drains Remote p = is_first p
 drains (OnRows (plan.Limit offset count)) p = false
 drains NoRows p = false
 drains _ p = true
+
+-- a Distribute reaches all shards of its collection
+abbrev pub ReachesAll : Facts → Node → List ℕ → Type 0
+ReachesAll facts (plan.Distribute coll es) shards = length shards ≡ shards_in facts coll
+ReachesAll facts n shards = Unit {0}
 
 abbrev mutual
   -- each operator has as many inputs as it wants
@@ -209,7 +241,7 @@ abbrev mutual
   -- its node fits the facts; an operator over shards has a port and an input for each
   pub IsOperator : Facts → Operator → Type 0
   IsOperator facts (OnRows n) = Fits facts n
-  IsOperator facts (Scatter n shards) = Fits facts n
+  IsOperator facts (Scatter n shards) = Fits facts n × ReachesAll facts n shards
   IsOperator facts (Gather n directions es) = (n < 2 ^ 32) × AllPlain es
   IsOperator facts (Shards gather scatter ts) = (arity gather ≡ count_of ts) × (arity scatter ≡ 1)
       × (ports scatter ≡ suc (count_of ts)) × ((k : ℕ) → k < count_of ts → begins gather k ≡ true)

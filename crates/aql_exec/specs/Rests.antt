@@ -2,15 +2,26 @@
 -- reads documents in no order of theirs has several possible rests.
 use Rattle.std.specs.Prelude.{ℕ, ◌≡◌, ◌+◌, ◌-◌, ◌^◌, min, ◌≤◌, ◌++◌, List, [], length, Bool, true}
 use Rattle.aql_meaning.specs.Row.{Row}
-use Rattle.aql_block.specs.declared.tally.Tally.{Tally}
 
--- what is counted: the documents that were read one after the other, those that an index found, and the rows
--- that a filter dropped
+-- what is counted: the documents that were read one after the other, those that an index found, the rows that
+-- a filter dropped, and the rows that were skipped and sent on a link
 pub data Counter : Type 0 where
   scanned_full scanned_index filtered : Counter
+  sent_on : ℕ → Counter
 
 abbrev pub Counts : Type 0
 Counts = Counter → ℕ
+
+-- which of them are counted exactly; of the others a count says at most how many
+abbrev pub Exact : Type 0
+Exact = Counter → Bool
+
+-- where the first is exact, so is the second
+abbrev pub Within : Exact → Exact → Type 0
+Within e f = (c : Counter) → e c ≡ true → f c ≡ true
+
+abbrev pub all_exact : Exact
+all_exact c = true
 
 pub record Rest : Type 0 where
   pub rows : List Row
@@ -21,32 +32,28 @@ abbrev pub with_rows : List Row → Rest → Rest
 with_rows s r = record { rows = s ++ r.rows; counts = r.counts }
 
 -- a rest before, of one after, where these rows came and so much was counted
-pub record Ahead (s : List Row) (d : Counts) (after before : Rest) : Type 0 where
+pub record Prefixed (e : Exact) (s : List Row) (d : Counts) (after before : Rest) : Type 0 where
   pub rows : before.rows ≡ s ++ after.rows
   pub counts : (c : Counter) → after.counts c + d c ≤ before.counts c
-
--- the counts of a tally
-abbrev pub counts_of : Tally → Counts
-counts_of t scanned_full = t.scanned_full
-counts_of t scanned_index = t.scanned_index
-counts_of t filtered = t.filtered
+  pub exact : (c : Counter) → e c ≡ true → before.counts c ≤ after.counts c + d c
 
 -- a sum of 64 bits that stays at the largest number
 abbrev pub saturated : ℕ → ℕ → ℕ
 saturated a b = min (a + b) (2 ^ 64 - 1)
 
--- a tally rose by at most so much: each of its numbers stays at its largest
-abbrev pub Rises : Tally → Tally → Counts → Type 0
-Rises t t' d = (c : Counter) → (counts_of t' c ≤ counts_of t c + d c) × (counts_of t c ≤ counts_of t' c)
+-- no row is left, and nothing to count
+abbrev pub IsOver : Exact → Rest → Type 0
+IsOver e r = (r.rows ≡ []) × ((c : Counter) → e c ≡ true → r.counts c ≡ 0)
 
--- no rest with a row is possible
-abbrev pub Over : (Rest → Type 0) → Type 0
-Over rests = (r : Rest) → rests r → r.rows ≡ []
+-- no rest is possible that has a row or counts
+abbrev pub Over : Exact → (Rest → Type 0) → Type 0
+Over e rests = (r : Rest) → rests r → IsOver e r
 
--- an input that ended has no row left
-abbrev pub Ends : (ℕ → Bool) → (ℕ → Rest) → Type 0
-Ends ended ins = (k : ℕ) → ended k ≡ true → (ins k).rows ≡ []
+-- an input that ended has no row left, and nothing to count
+abbrev pub Ends : Exact → (ℕ → Bool) → (ℕ → Rest) → Type 0
+Ends e ended ins = (k : ℕ) → ended k ≡ true → IsOver e (ins k)
 
--- and no more than what is owed of it
-abbrev pub EndsOwed : (ℕ → Bool) → (ℕ → ℕ) → (ℕ → Rest) → Type 0
-EndsOwed ended owed ins = (k : ℕ) → ended k ≡ true → length (ins k).rows ≡ owed k
+-- and no more rows than those skips of it that are not reported
+abbrev pub EndsUnreported : Exact → (ℕ → Bool) → (ℕ → ℕ) → (ℕ → Rest) → Type 0
+EndsUnreported e ended unreported ins = (k : ℕ) → ended k ≡ true
+    → (length (ins k).rows ≡ unreported k) × ((c : Counter) → e c ≡ true → (ins k).counts c ≡ 0)

@@ -9,7 +9,7 @@ use Rattle.aql_block.specs.declared.calls.Progress.TheVariants.{Waiting, HasMore
 use Rattle.aql_block.specs.Tables.{rows_of}
 use Rattle.aql_exec.specs.declared.turns.Turn.{Turn}
 use Rattle.aql_exec.specs.declared.turns.Turn.TheVariants.{Ask, Start, Give}
-use Rattle.aql_exec.specs.Rests.{Counts, Rest, Ahead}
+use Rattle.aql_exec.specs.Rests.{Counts, Exact, Rest, Prefixed}
 
 -- what a call may be: at least one row a step, no more than are wanted in all, and no more than 10,000
 pub record IsCall (c : Call) : Type 0 where
@@ -23,13 +23,17 @@ MatchTurn (Ask input call) p q r = p input call
 MatchTurn (Start input row) p q r = q input row
 MatchTurn (Give step) p q r = r step
 
+-- where it answers
+abbrev pub OnGive : Turn → (Step → Type 0) → Type 0
+OnGive t r = MatchTurn t (λ _ _. Unit {0}) (λ _ _. Unit {0}) r
+
 -- the rows that came with a step
 abbrev pub given : Step → List meaning.Row
 given step = rows_of step.block
 
 -- how many rows a step tells of
-abbrev pub told : Step → ℕ
-told step = step.skipped + length (given step)
+abbrev pub reported : Step → ℕ
+reported step = step.skipped + length (given step)
 
 -- what a step may be, for a call: at most the offset is skipped, at most `soft` rows come, and a row comes
 -- only where the whole offset was skipped
@@ -49,9 +53,9 @@ abbrev pub weight : ℕ
 weight = 2 ^ 65
 
 -- each rest after the step was a rest before it, with the rows that were skipped and given in front
-abbrev pub Led : (Rest → Type 0) → Counts → Step → (Rest → Type 0) → Type 0
-Led before d step after = (r : Rest) → after r → (skipped : List meaning.Row) × (b : Rest)
-    × (length skipped ≡ step.skipped) × Ahead (skipped ++ given step) d r b × before b
+abbrev pub Continues : Exact → (Rest → Type 0) → Counts → Step → (Rest → Type 0) → Type 0
+Continues e before d step after = (r : Rest) → after r → (skipped : List meaning.Row) × (b : Rest)
+    × (length skipped ≡ step.skipped) × Prefixed e (skipped ++ given step) d r b × before b
 
 -- a call that may come after one that was answered by so many skips and rows: the rest of its offset and of
 -- the rows that it wanted

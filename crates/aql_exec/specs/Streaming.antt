@@ -5,11 +5,11 @@ use mathlib.Core.Bool.{false≢true}
 use Rattle.aql_meaning.specs.Row.{Row}
 use Rattle.aql_plan.specs.Runs.{Dataset}
 use Rattle.aql_block.specs.declared.calls.Call.{Call}
-use Rattle.aql_exec.specs.Rests.{Counter, Counts, Rest, Ahead}
+use Rattle.aql_exec.specs.Rests.{Counter, Counts, Exact, Rest, Prefixed}
 use Rattle.aql_exec.specs.Steps.{IsCall}
 use Rattle.aql_exec.specs.Operators.{is_first}
 use Rattle.aql_exec.specs.declared.transform.Transform
-use Rattle.aql_exec.specs.declared.feed.Place
+use Rattle.aql_exec.specs.declared.surroundings.Surroundings
 use Rattle.aql_exec.specs.declared.stream.Stream.{Stream}
 
 -- the one input of an executor
@@ -30,7 +30,7 @@ asks_all done (suc k) c = ⊥
 abbrev pub Counting : Rest → Rest → Rest → Type 0
 Counting input own r = (r.rows ≡ own.rows) × ((c : Counter) → r.counts c ≡ input.counts c + own.counts c)
 
-module _ {T W : Type 0} (g : Transform.Ghosts T W) (p : Place.Ghosts W) where
+module _ {T W : Type 0} (g : Transform.Ghosts T W) (p : Surroundings.Ghosts W) where
   abbrev pub gives_stream : Stream T → W → (ℕ → Rest) → Rest → Type 0
   gives_stream s w ins r =
       (own : Rest) × g.left s.transform (p.stock w) (ins 0).rows own × Counting (ins 0) own r
@@ -38,8 +38,8 @@ module _ {T W : Type 0} (g : Transform.Ghosts T W) (p : Place.Ghosts W) where
   abbrev pub stream_valid : Stream T → W → Type 0
   stream_valid s w = g.valid s.transform (p.stock w) × (g.closed s.transform ≡ s.done)
 
-  abbrev pub stream_room : Stream T → W → ℕ
-  stream_room s w = g.held s.transform (p.stock w) + cond s.done 0 1
+  abbrev pub stream_budget : Stream T → W → ℕ
+  stream_budget s w = g.held s.transform (p.stock w) + cond s.done 0 1
 
   -- the call by which it asked, with nothing left to give
   abbrev pub AsksAll : Stream T → ℕ → Call → Type 0
@@ -55,13 +55,16 @@ module _ {T W : Type 0} (g : Transform.Ghosts T W) (p : Place.Ghosts W) where
         (own.0, own.1, (refl, λ c. refl)),
       )
 
-  pub more_stream : (s : Stream T) (w : W) (k : ℕ) (d : Counts) (ins ins' : ℕ → Rest) (r : Rest)
-      → is_first k ≡ true → Ahead [] d (ins k) (ins' k) → ((j : ℕ) → (j ≡ k → ⊥) → ins' j ≡ ins j)
-      → gives_stream s w ins r → (b : Rest) × Ahead [] d r b × gives_stream s w ins' b
-  more_stream s w zero d ins ins' r e a o h = (
+  pub more_stream : (x : Exact) (s : Stream T) (w : W) (k : ℕ) (d : Counts) (ins ins' : ℕ → Rest) (r : Rest)
+      → is_first k ≡ true → Prefixed x [] d (ins k) (ins' k) → ((j : ℕ) → (j ≡ k → ⊥) → ins' j ≡ ins j)
+      → gives_stream s w ins r → (b : Rest) × Prefixed x [] d r b × gives_stream s w ins' b
+  more_stream x s w zero d ins ins' r e a o h = (
     record { rows = r.rows; counts = λ c. (ins' 0).counts c + h.0.counts c },
-    record
-        { rows = refl; counts = λ c. (let m = a.counts c in let n = h.2.1 c in omega (arith, m, n)) },
+    record {
+      rows = refl;
+      counts = λ c. (let m = a.counts c in let n = h.2.1 c in omega (arith, m, n));
+      exact = λ c i. (let m = a.exact c i in let n = h.2.1 c in omega (arith, m, n));
+    },
     (h.0, rw a.rows h.1, (h.2.0, λ c. refl)),
   )
-  more_stream s w (suc k) d ins ins' r e a o h = absurd (false≢true e)
+  more_stream x s w (suc k) d ins ins' r e a o h = absurd (false≢true e)

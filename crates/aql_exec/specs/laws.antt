@@ -3,4 +3,5 @@ pub mod SomeMerge
 pub mod SomeRest
 pub mod Firsts
 pub mod Handing
+pub mod Counted
 pub mod Telling

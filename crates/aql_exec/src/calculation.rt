@@ -7,8 +7,8 @@ ghost use Rattle.aql_meaning.specs.Row.{bind};
 ghost use Rattle.aql_meaning.specs.AtRows.{value_of};
 ghost use Rattle.aql_plan.specs.Plan as plan;
 
-use crate::feed::Place;
 use crate::mapped::{Mapped, RowMap};
+use crate::surroundings::Surroundings;
 use crate::values::values_in;
 use aql_block::Block;
 use aql_tree::Expr;
@@ -26,7 +26,7 @@ pub struct Let {
     pub expr: Expr,
 }
 
-impl<W: Place> RowMap<W> for Let {
+impl<W: Surroundings> RowMap<W> for Let {
     ghost use Rattle.aql_exec.specs.RowMaps.{let_maps};
 
     ghost node = { λ s. plan.Calculation (Num s.var) (tree s.expr) };

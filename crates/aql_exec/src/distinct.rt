@@ -1,6 +1,6 @@
 //! RETURN DISTINCT: each value of an expression at the first row that has it, under the variable 0.
 
-ghost use Rattle.std.specs.Prelude.{◌≡◌, ℕ, ◌≤◌, List, [], length, true, false, IfOk, OnOk};
+ghost use Rattle.std.specs.Prelude.{◌≡◌, refl, ℕ, ◌≤◌, List, [], length, true, false, IfOk, OnOk};
 ghost use Rattle.aql_value.specs.View.{datums_in};
 ghost use Rattle.aql_tree.specs.View.{tree};
 ghost use Rattle.aql_func.specs.Lists.{add_all};
@@ -9,8 +9,8 @@ ghost use Rattle.aql_plan.specs.Plan as plan;
 ghost use Rattle.aql_block.specs.Tables.{rows_of};
 ghost use Rattle.aql_exec.specs.FirstResults.{unseen, shown, seen_after};
 
-use crate::feed::Place;
 use crate::stream::Stream;
+use crate::surroundings::Surroundings;
 use crate::transform::Transform;
 use crate::values::{take_front, values_in};
 use aql_block::{Block, Row, Tally};
@@ -95,7 +95,7 @@ fn take_new(
     Ok(out)
 }
 
-impl<W: Place> Transform<W> for FirstResults {
+impl<W: Surroundings> Transform<W> for FirstResults {
     ghost use Rattle.aql_exec.specs.FirstResults.{left_results, some_results};
 
     ghost node = { λ s. plan.Return true (tree s.expr) };
@@ -151,6 +151,8 @@ impl<W: Place> Transform<W> for FirstResults {
         let block = take_front(alloc, &mut self.block, most)?;
         Ok(u64::from(block.len()))
     }
+
+    ghost not_handed_on = { λ _. refl };
 
     ghost some = { λ s _ rows _.
         some_results (tree s.expr) s.made (datums_in s.seen.keys) (rows_of s.block) rows };

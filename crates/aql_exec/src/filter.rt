@@ -1,16 +1,16 @@
 //! FILTER: the rows at which a condition is true-like.
 
-ghost use Rattle.std.specs.Prelude.{◌≡◌, ℕ, ◌+◌, List, [], length, true, false, OnOk};
+ghost use Rattle.std.specs.Prelude.{◌≡◌, refl, ℕ, ◌+◌, List, [], length, true, false, OnOk};
 ghost use Rattle.aql_tree.specs.View.{tree};
 ghost use Rattle.aql_plan.specs.Plan as plan;
 ghost use Rattle.aql_meaning.specs.Plain.{IsPlain};
 ghost use Rattle.aql_block.specs.Tables.{rows_of};
-ghost use Rattle.aql_exec.specs.Rests.{saturated, Rises};
-ghost use Rattle.aql_exec.specs.Counting.{counts};
+ghost use Rattle.aql_exec.specs.Rests.{saturated};
+ghost use Rattle.aql_exec.specs.Rising.{TallyRose};
 ghost use Rattle.aql_exec.specs.Filters.{kept_of, lost_of, failing};
 
-use crate::feed::Place;
 use crate::stream::Stream;
+use crate::surroundings::Surroundings;
 use crate::transform::Transform;
 use crate::values::{take_front, values_in};
 use aql_block::{Block, Row, Tally};
@@ -56,8 +56,8 @@ impl Keep {
         ensures counted { OnOk result (self.old.judged ≡ false
             → tally.new.filtered ≡ saturated tally.old.filtered
             (length (failing (tree self.old.condition) (rows_of self.old.block)))) }
-        ensures tally { OnOk result (Rises tally.old tally.new (counts 0 0 (length
-            (lost_of (tree self.old.condition) self.old.judged (rows_of self.old.block))))) }
+        ensures tally { OnOk result (TallyRose tally.old tally.new 0 0 (length
+            (lost_of (tree self.old.condition) self.old.judged (rows_of self.old.block)))) }
     {
         if self.judged {
             return Ok(());
@@ -74,14 +74,14 @@ impl Keep {
 
 // Counts rows that were dropped.
 fn count_dropped(tally: &mut Tally, rows: u32)
-    ensures rises { Rises tally.old tally.new (counts 0 0 rows) }
+    ensures rises { TallyRose tally.old tally.new 0 0 rows }
     ensures counted { tally.new.filtered ≡ saturated tally.old.filtered rows }
 {
     let _before = tally.filtered;
     tally.add_filtered(u64::from(rows));
 }
 
-impl<W: Place> Transform<W> for Keep {
+impl<W: Surroundings> Transform<W> for Keep {
     ghost use Rattle.aql_exec.specs.Filters.{left_keep, some_keep};
 
     ghost node = { λ s. plan.Filter (tree s.condition) };
@@ -135,6 +135,8 @@ impl<W: Place> Transform<W> for Keep {
         let block = take_front(alloc, &mut self.block, most)?;
         Ok(u64::from(block.len()))
     }
+
+    ghost not_handed_on = { λ _. refl };
 
     ghost some = { λ s _ rows _. some_keep (tree s.condition) s.judged (rows_of s.block) rows };
 }

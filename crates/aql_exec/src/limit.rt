@@ -7,8 +7,9 @@ ghost use Rattle.aql_exec.specs.Steps.{given};
 ghost use Rattle.aql_exec.specs.Limiting.{ask_of};
 ghost use Rattle.aql_exec.specs.Operators.{OnRows, is_first};
 
-use crate::feed::{Executor, Place};
+use crate::feed::Executor;
 use crate::mapped::ended_early;
+use crate::surroundings::Surroundings;
 use crate::turns::Turn;
 use crate::unlinked::Unlinked;
 use aql_block::{Block, Call, Progress, Row, Step, Tally};
@@ -33,7 +34,7 @@ pub struct Limit {
     asked: bool,
     /// the answer of the input did not come yet
     pending: bool,
-    /// a step came of which something is to be told
+    /// a step came of which something is to be reported
     has: bool,
     /// how many rows the input skipped for this call
     skipped: u64,
@@ -43,9 +44,9 @@ pub struct Limit {
     rows: u32,
     progress: Progress,
     /// what was answered last
-    told_skips: u64,
-    told_rows: u32,
-    told: Progress,
+    reported_skips: u64,
+    reported_rows: u32,
+    reported: Progress,
     /// the input is done
     done: bool,
 }
@@ -77,9 +78,9 @@ impl Limit {
             block: Block::empty(alloc),
             rows: 0,
             progress: Progress::HasMore,
-            told_skips: 0,
-            told_rows: 0,
-            told: Progress::HasMore,
+            reported_skips: 0,
+            reported_rows: 0,
+            reported: Progress::HasMore,
             done: false,
         }
     }
@@ -141,10 +142,10 @@ fn tells(progress: Progress, skipped: u64, skip: u64, rows: u32) -> bool
     !matches!(progress, Progress::HasMore) || skipped > skip || rows > 0
 }
 
-impl<W: Place> Executor<W> for Limit {
-    ghost use Rattle.aql_exec.specs.Limiting.{gives_limit, some_limit, more_limit, owed_limit};
+impl<W: Surroundings> Executor<W> for Limit {
+    ghost use Rattle.aql_exec.specs.Limiting.{gives_limit, some_limit, more_limit, unreported_limit};
     ghost use Rattle.aql_exec.specs.Limiting.{AsksLimit, asks_limit, may_limit};
-    ghost use Rattle.aql_exec.specs.Limiting.{LimitIs, room_limit, waited_limit, patience_limit};
+    ghost use Rattle.aql_exec.specs.Limiting.{LimitIs, budget_limit, waited_limit, waits_left_limit};
     ghost use Rattle.aql_exec.specs.Streaming.{ended_first};
     ghost use Rattle.std.proofs.Math.Nat.{le_refl};
 
@@ -152,7 +153,7 @@ impl<W: Place> Executor<W> for Limit {
 
     ghost node = { λ s. OnRows (plan.Limit s.offset s.count) };
 
-    ghost owed = { λ s k. owed_limit s k };
+    ghost unreported = { λ s k. unreported_limit s k };
 
     ghost asking = { λ s k ask. AsksLimit s k ask };
 
@@ -168,19 +169,21 @@ impl<W: Place> Executor<W> for Limit {
 
     ghost stuck = { λ _ _. ⊥ };
 
-    ghost room = { λ s _ _. room_limit s };
+    ghost budget = { λ s _ _. budget_limit s };
 
     ghost full = { λ _ _. 1 };
 
-    ghost charge = { λ _ _ _. 2 };
+    ghost row_cost = { λ _ _ _. 2 };
 
     ghost may = { λ s p c. may_limit s p c };
 
     ghost asks = { λ s k c. asks_limit s k c };
 
-    ghost patience = { λ s. patience_limit s };
+    ghost waits_left = { λ s. waits_left_limit s };
 
     ghost busy = { λ _. ⊥ };
+
+    ghost held = { λ s. cond s.has (length (rows_of s.block)) 0 };
 
     fn begin(&mut self, alloc: Global, _start: &Row) -> Result<(), OutOfMemory> {
         self.skip = self.offset;
@@ -214,9 +217,9 @@ impl<W: Place> Executor<W> for Limit {
             self.skipped = 0;
             self.has = false;
             self.asked = false;
-            self.told_skips = step.skipped;
-            self.told_rows = step.block.len();
-            self.told = progress;
+            self.reported_skips = step.skipped;
+            self.reported_rows = step.block.len();
+            self.reported = progress;
             return Ok(Turn::Give(step));
         }
         if self.done || self.left == 0 {
@@ -263,18 +266,20 @@ impl<W: Place> Executor<W> for Limit {
 
     ghost some = { λ s _ _ _ ins _. some_limit s ins };
 
-    ghost more_counts = { λ s _ _ _ k d ins ins' r e a o h. more_limit s k d ins ins' r e a o h };
+    ghost more_counts = { λ x s _ _ _ k d ins ins' r e a o h. more_limit x s k d ins ins' r e a o h };
 
     ghost kept_gives = { λ _ _ _ _ _ _ _ _ _ h. h };
 
     ghost kept_valid = { λ _ _ _ _ _ _ h. h };
 
-    ghost kept_room = { λ s _ _ _ _ _. le_refl (room_limit s) };
+    ghost kept_budget = { λ s _ _ _ _ _. le_refl (budget_limit s) };
 
     ghost own_links = { λ _ _ _ _ h. absurd h };
+
+    ghost no_link = { λ _ _ h. absurd h };
 }
 
-impl<W: Place> Unlinked<W> for Limit {
+impl<W: Surroundings> Unlinked<W> for Limit {
     fn begun(&self, input: u32) -> bool {
         input == 0
     }

@@ -9,7 +9,8 @@ ghost use Rattle.aql_block.specs.Tables.{rows_of};
 ghost use Rattle.aql_exec.specs.Counting.{GivesCounting, nothing};
 ghost use Rattle.aql_exec.specs.Operators.{OnRows, is_first};
 
-use crate::feed::{Executor, Place};
+use crate::feed::Executor;
+use crate::surroundings::Surroundings;
 use crate::turns::Turn;
 use crate::unlinked::Unlinked;
 use aql_block::{Block, Call, Progress, Row, Step, Tally};
@@ -18,7 +19,7 @@ use std::alloc::Global;
 use std::mem;
 
 /// Makes one row of each row.
-pub trait RowMap<W: Place> {
+pub trait RowMap<W: Surroundings> {
     /// the node that it works for
     ghost node: { Self → Node };
 
@@ -88,10 +89,10 @@ pub(crate) fn ended_early(progress: Progress, rows: u32, hard: u64) -> bool
     matches!(progress, Progress::Done) && u64::from(rows) != hard
 }
 
-impl<W: Place, M: RowMap<W>> Executor<W> for Mapped<M> {
-    ghost use Rattle.aql_exec.specs.Mapping.{gives_mapped, some_mapped, more_mapped, owed_mapped};
+impl<W: Surroundings, M: RowMap<W>> Executor<W> for Mapped<M> {
+    ghost use Rattle.aql_exec.specs.Mapping.{gives_mapped, some_mapped, more_mapped, unreported_mapped};
     ghost use Rattle.aql_exec.specs.Mapping.{AsksOn, asks_on, may_at};
-    ghost use Rattle.aql_exec.specs.Mapping.{MappedIs, room_mapped, waited_mapped};
+    ghost use Rattle.aql_exec.specs.Mapping.{MappedIs, budget_mapped, waited_mapped};
     ghost use Rattle.aql_exec.specs.Streaming.{ended_first};
     ghost use Rattle.std.proofs.Math.Nat.{le_refl};
 
@@ -99,7 +100,7 @@ impl<W: Place, M: RowMap<W>> Executor<W> for Mapped<M> {
 
     ghost node = { λ s. OnRows (M.node s.by) };
 
-    ghost owed = { λ s k. owed_mapped s k };
+    ghost unreported = { λ s k. unreported_mapped s k };
 
     ghost asking = { λ s k ask. AsksOn s k ask };
 
@@ -115,19 +116,21 @@ impl<W: Place, M: RowMap<W>> Executor<W> for Mapped<M> {
 
     ghost stuck = { λ _ _. ⊥ };
 
-    ghost room = { λ s _ _. room_mapped s };
+    ghost budget = { λ s _ _. budget_mapped s };
 
     ghost full = { λ _ _. 1 };
 
-    ghost charge = { λ _ _ _. 2 };
+    ghost row_cost = { λ _ _ _. 2 };
 
     ghost may = { λ s p c. may_at s p c };
 
     ghost asks = { λ s k c. asks_on s k c };
 
-    ghost patience = { λ s. cond s.has 0 1 };
+    ghost waits_left = { λ s. cond s.has 0 1 };
 
     ghost busy = { λ _. ⊥ };
+
+    ghost held = { λ s. cond s.has (length (rows_of s.block)) 0 };
 
     fn begin(&mut self, alloc: Global, _start: &Row) -> Result<(), OutOfMemory> {
         self.block = Block::empty(alloc);
@@ -195,19 +198,21 @@ impl<W: Place, M: RowMap<W>> Executor<W> for Mapped<M> {
 
     ghost some = { λ s _ _ _ ins _. some_mapped M.RowMap.own s ins };
 
-    ghost more_counts = { λ s _ _ _ k d ins ins' r e a o h.
-        more_mapped M.RowMap.own s k d ins ins' r e a o h };
+    ghost more_counts = { λ x s _ _ _ k d ins ins' r e a o h.
+        more_mapped M.RowMap.own x s k d ins ins' r e a o h };
 
     ghost kept_gives = { λ _ _ _ _ _ _ _ _ _ h. h };
 
     ghost kept_valid = { λ _ _ _ _ _ _ h. h };
 
-    ghost kept_room = { λ s _ _ _ _ _. le_refl (room_mapped s) };
+    ghost kept_budget = { λ s _ _ _ _ _. le_refl (budget_mapped s) };
 
     ghost own_links = { λ _ _ _ _ h. absurd h };
+
+    ghost no_link = { λ _ _ h. absurd h };
 }
 
-impl<W: Place, M: RowMap<W>> Unlinked<W> for Mapped<M> {
+impl<W: Surroundings, M: RowMap<W>> Unlinked<W> for Mapped<M> {
     fn begun(&self, input: u32) -> bool {
         input == 0
     }

@@ -4,7 +4,8 @@ ghost use Rattle.std.specs.Prelude.{◌≡◌, ℕ, [], false};
 ghost use Rattle.std.proofs.Math.Nat.{le_refl};
 ghost use Rattle.aql_exec.specs.Operators.{NoRows};
 
-use crate::feed::{Executor, Place};
+use crate::feed::Executor;
+use crate::surroundings::Surroundings;
 use crate::turns::Turn;
 use crate::unlinked::Unlinked;
 use aql_block::{Block, Call, Progress, Row, Step, Tally};
@@ -15,14 +16,14 @@ use std::alloc::Global;
 #[derive(Drop)]
 pub struct NoResults;
 
-impl<W: Place> Executor<W> for NoResults {
+impl<W: Surroundings> Executor<W> for NoResults {
     ghost use Rattle.aql_exec.specs.Leaves.{gives_alone, some_alone, more_alone};
 
     ghost gives = { λ _ _ _ _ _ r. gives_alone [] r };
 
     ghost node = { λ _. NoRows };
 
-    ghost owed = { λ _ _. 0 };
+    ghost unreported = { λ _ _. 0 };
 
     ghost asking = { λ _ _ _. ⊥ };
 
@@ -38,19 +39,21 @@ impl<W: Place> Executor<W> for NoResults {
 
     ghost stuck = { λ _ _. ⊥ };
 
-    ghost room = { λ _ _ _. 0 };
+    ghost budget = { λ _ _ _. 0 };
 
     ghost full = { λ _ _. 0 };
 
-    ghost charge = { λ _ _ _. 0 };
+    ghost row_cost = { λ _ _ _. 0 };
 
     ghost may = { λ _ _ _. Unit {0} };
 
     ghost asks = { λ _ _ _. ⊥ };
 
-    ghost patience = { λ _. 0 };
+    ghost waits_left = { λ _. 0 };
 
     ghost busy = { λ _. ⊥ };
+
+    ghost held = { λ _. 0 };
 
     fn begin(&mut self, _alloc: Global, _start: &Row) -> Result<(), OutOfMemory> {
         Ok(())
@@ -83,18 +86,20 @@ impl<W: Place> Executor<W> for NoResults {
 
     ghost some = { λ _ _ _ _ _ _. some_alone [] };
 
-    ghost more_counts = { λ _ _ _ _ _ _ _ _ _ e _ _ _. more_alone e };
+    ghost more_counts = { λ _ _ _ _ _ _ _ _ _ _ e _ _ _. more_alone e };
 
     ghost kept_gives = { λ _ _ _ _ _ _ _ _ _ h. h };
 
     ghost kept_valid = { λ _ _ _ _ _ _ h. h };
 
-    ghost kept_room = { λ _ _ _ _ _ _. le_refl 0 };
+    ghost kept_budget = { λ _ _ _ _ _ _. le_refl 0 };
 
     ghost own_links = { λ _ _ _ _ h. absurd h };
+
+    ghost no_link = { λ _ _ h. absurd h };
 }
 
-impl<W: Place> Unlinked<W> for NoResults {
+impl<W: Surroundings> Unlinked<W> for NoResults {
     fn begun(&self, _input: u32) -> bool {
         false
     }

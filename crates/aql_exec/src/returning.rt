@@ -6,8 +6,8 @@ ghost use Rattle.aql_meaning.specs.AtRows.{value_of};
 ghost use Rattle.aql_plan.specs.Plan as plan;
 ghost use Rattle.aql_plan.specs.Runs.{result_row};
 
-use crate::feed::Place;
 use crate::mapped::{Mapped, RowMap};
+use crate::surroundings::Surroundings;
 use crate::values::values_in;
 use aql_block::Block;
 use aql_tree::Expr;
@@ -24,7 +24,7 @@ pub struct Results {
     pub expr: Expr,
 }
 
-impl<W: Place> RowMap<W> for Results {
+impl<W: Surroundings> RowMap<W> for Results {
     ghost use Rattle.aql_exec.specs.RowMaps.{return_maps};
 
     ghost node = { λ s. plan.Return false (tree s.expr) };

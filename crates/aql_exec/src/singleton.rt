@@ -4,7 +4,8 @@ ghost use Rattle.std.specs.Prelude.{◌≡◌, ℕ, length, false};
 ghost use Rattle.std.proofs.Math.Nat.{le_refl};
 ghost use Rattle.aql_exec.specs.Operators.{StartRow};
 
-use crate::feed::{Executor, Place};
+use crate::feed::Executor;
+use crate::surroundings::Surroundings;
 use crate::turns::Turn;
 use crate::unlinked::Unlinked;
 use aql_block::{Block, Call, Progress, Row, Step, Tally};
@@ -25,14 +26,14 @@ impl Singleton {
     }
 }
 
-impl<W: Place> Executor<W> for Singleton {
+impl<W: Surroundings> Executor<W> for Singleton {
     ghost use Rattle.aql_exec.specs.Leaves.{held_row, gives_alone, some_alone, more_alone};
 
     ghost gives = { λ s _ _ _ _ r. gives_alone (held_row s.row) r };
 
     ghost node = { λ _. StartRow };
 
-    ghost owed = { λ _ _. 0 };
+    ghost unreported = { λ _ _. 0 };
 
     ghost asking = { λ _ _ _. ⊥ };
 
@@ -48,19 +49,21 @@ impl<W: Place> Executor<W> for Singleton {
 
     ghost stuck = { λ _ _. ⊥ };
 
-    ghost room = { λ s _ _. length (held_row s.row) };
+    ghost budget = { λ s _ _. length (held_row s.row) };
 
     ghost full = { λ _ _. 1 };
 
-    ghost charge = { λ _ _ _. 0 };
+    ghost row_cost = { λ _ _ _. 0 };
 
     ghost may = { λ _ _ _. Unit {0} };
 
     ghost asks = { λ _ _ _. ⊥ };
 
-    ghost patience = { λ _. 0 };
+    ghost waits_left = { λ _. 0 };
 
     ghost busy = { λ _. ⊥ };
+
+    ghost held = { λ _. 0 };
 
     fn begin(&mut self, alloc: Global, start: &Row) -> Result<(), OutOfMemory> {
         self.row = Some(start.copy(alloc)?);
@@ -108,18 +111,20 @@ impl<W: Place> Executor<W> for Singleton {
 
     ghost some = { λ s _ _ _ _ _. some_alone (held_row s.row) };
 
-    ghost more_counts = { λ _ _ _ _ _ _ _ _ _ e _ _ _. more_alone e };
+    ghost more_counts = { λ _ _ _ _ _ _ _ _ _ _ e _ _ _. more_alone e };
 
     ghost kept_gives = { λ _ _ _ _ _ _ _ _ _ h. h };
 
     ghost kept_valid = { λ _ _ _ _ _ _ h. h };
 
-    ghost kept_room = { λ s _ _ _ _ _. le_refl (length (held_row s.row)) };
+    ghost kept_budget = { λ s _ _ _ _ _. le_refl (length (held_row s.row)) };
 
     ghost own_links = { λ _ _ _ _ h. absurd h };
+
+    ghost no_link = { λ _ _ h. absurd h };
 }
 
-impl<W: Place> Unlinked<W> for Singleton {
+impl<W: Surroundings> Unlinked<W> for Singleton {
     fn begun(&self, _input: u32) -> bool {
         false
     }

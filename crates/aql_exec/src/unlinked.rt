@@ -2,15 +2,16 @@
 
 ghost use Rattle.std.specs.Prelude.{◌≡◌, ℕ, false};
 
-use crate::feed::{Executor, Place};
+use crate::feed::Executor;
 use crate::links::Wired;
+use crate::surroundings::Surroundings;
 use crate::turns::{Message, Turn};
 use aql_block::{Call, Row, Step, Tally};
 use aql_value::OutOfMemory;
 use std::alloc::Global;
 
 /// An executor that owns no link.
-pub trait Unlinked<W: Place>: Executor<W> {
+pub trait Unlinked<W: Surroundings>: Executor<W> {
     /// this input was begun
     fn begun(&self, input: u32) -> bool
         ensures { result ≡ Self.started self.now input };
@@ -34,12 +35,12 @@ impl<X> AsWired<X> {
     }
 }
 
-impl<W: Place, X: Executor<W>> Executor<W> for AsWired<X> {
+impl<W: Surroundings, X: Executor<W>> Executor<W> for AsWired<X> {
     ghost gives = { λ s w p body ins r. X.gives s.executor w p body ins r };
 
     ghost node = { λ s. X.node s.executor };
 
-    ghost owed = { λ s k. X.owed s.executor k };
+    ghost unreported = { λ s k. X.unreported s.executor k };
 
     ghost asking = { λ s k c. X.asking s.executor k c };
 
@@ -55,19 +56,21 @@ impl<W: Place, X: Executor<W>> Executor<W> for AsWired<X> {
 
     ghost stuck = { λ s k. X.stuck s.executor k };
 
-    ghost room = { λ s w f. X.room s.executor w f };
+    ghost budget = { λ s w f. X.budget s.executor w f };
 
     ghost full = { λ s f. X.full s.executor f };
 
-    ghost charge = { λ s k f. X.charge s.executor k f };
+    ghost row_cost = { λ s k f. X.row_cost s.executor k f };
 
     ghost may = { λ s p c. X.may s.executor p c };
 
     ghost asks = { λ s k c. X.asks s.executor k c };
 
-    ghost patience = { λ s. X.patience s.executor };
+    ghost waits_left = { λ s. X.waits_left s.executor };
 
     ghost busy = { λ s. X.busy s.executor };
+
+    ghost held = { λ s. X.held s.executor };
 
     fn begin(&mut self, alloc: Global, start: &Row) -> Result<(), OutOfMemory> {
         self.executor.begin(alloc, start)
@@ -96,18 +99,20 @@ impl<W: Place, X: Executor<W>> Executor<W> for AsWired<X> {
 
     ghost some = { λ s. X.some s.executor };
 
-    ghost more_counts = { λ s. X.more_counts s.executor };
+    ghost more_counts = { λ e s. X.more_counts e s.executor };
 
     ghost kept_gives = { λ s. X.kept_gives s.executor };
 
     ghost kept_valid = { λ s. X.kept_valid s.executor };
 
-    ghost kept_room = { λ s. X.kept_room s.executor };
+    ghost kept_budget = { λ s. X.kept_budget s.executor };
 
     ghost own_links = { λ s. X.own_links s.executor };
+
+    ghost no_link = { λ s. X.no_link s.executor };
 }
 
-impl<W: Place, X: Unlinked<W>> Wired<W> for AsWired<X> {
+impl<W: Surroundings, X: Unlinked<W>> Wired<W> for AsWired<X> {
     ghost use mathlib.Core.Bool.{false≢true};
 
     ghost serves = { λ _. false };

@@ -1,3 +1,4 @@
+pub mod Ledgers
 pub mod Found
 pub mod Searches
 pub mod PendingPaths

@@ -1,10 +1,12 @@
 //! Rows that PRUNE and a filter judge.
 
-ghost use Rattle.std.specs.Prelude.{◌≡◌, None, Some, IfOk, map, filter, option_to_list, length, ◌∷◌, [], ◌<◌, ◌^◌};
+ghost use Rattle.std.specs.Prelude.{◌≡◌, None, Some, IfOk, map, filter, option_to_list, ◌∷◌, [], ◌<◌};
 ghost use Rattle.aql_meaning.specs.Plain.{MaybePlain};
 ghost use Rattle.aql_meaning.specs.AtRows.{passes, stops};
 ghost use Rattle.aql_plan.specs.View.{maybe_tree};
 ghost use Rattle.aql_block.specs.Rows.{row_of};
+ghost use Rattle.aql_block.specs.declared.tally.Tally.{Tally};
+ghost use Rattle.aql_exec_graph.specs.Ledgers.{ledger};
 ghost use Rattle.aql_exec_graph.specs.Searches.{Judged};
 
 use aql_block::{Row, Tally};
@@ -50,8 +52,8 @@ pub(crate) fn judge(
 ) -> Result<Option<Row>, OutOfMemory>
     requires { MaybePlain (maybe_tree filter.now) }
     ensures { IfOk result (λ kept.
-        Judged (maybe_tree filter.now) 0 (row_of row ∷ []) (map row_of (option_to_list kept))
-        tally.old tally.new) }
+        (own : Tally) → Judged (maybe_tree filter.now) 0 (row_of row ∷ [])
+        (map row_of (option_to_list kept)) (ledger tally.old own) (ledger tally.new own)) }
 {
     let _filtered = tally.filtered;
     if passes(alloc, filter, &row)? {

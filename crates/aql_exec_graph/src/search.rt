@@ -1,4 +1,4 @@
-//! What a traversal is told.
+//! What a traversal is set to.
 
 ghost use Rattle.std.specs.Prelude.{◌≡◌, [], ◌++◌, IfOk, OnOk};
 ghost use Rattle.aql_exec_graph.specs.Searches.{registers_of};

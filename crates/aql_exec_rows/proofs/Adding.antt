@@ -1,5 +1,5 @@
 -- A row more in the groups: its key gets a place, and the group there takes the row.
-use Rattle.std.proofs.Common.{◌≡◌, ℕ, ◌<◌, List, [], ◌∷◌, ◌++◌, length, map, get_or, set, true, false, Option, Some, refl, sym, ap, ◌∙◌, subst}
+use Rattle.std.proofs.Common.{◌≡◌, ℕ, List, [], ◌∷◌, ◌++◌, map, get_or, set, true, false, Option, Some, sym, ap, ◌∙◌, subst}
 use Rattle.std.specs.Prelude.{slice_get, option_map, option_to_list}
 use Rattle.aql_value.specs.declared.values.Value.{Value}
 use Rattle.aql_value.specs.Datum.{Datum}
@@ -14,7 +14,7 @@ use Rattle.aql_meaning.specs.Row.{Row, value_at}
 use Rattle.aql_meaning.specs.AtRows.{keys_of}
 use Rattle.aql_meaning.specs.Groups.{GroupedRow}
 use Rattle.aql_aggregate.specs.declared.staged.StagedKind.{StagedKind}
-use Rattle.aql_exec_rows.specs.CollectSettings.{criteria_vars, criteria_trees, seen_by}
+use Rattle.aql_exec_rows.specs.Settings.{criteria_vars, criteria_trees, seen_by}
 use Rattle.aql_exec_rows.specs.GroupStates.{seen, key_of, members_of, AreGroups, Holds, Grows, Takes}
 use Rattle.aql_exec_rows.specs.laws.Members.{new_key}
 use Rattle.aql_exec_rows.specs.declared.grouping.Grouping.{Grouping}

@@ -9,13 +9,13 @@ use Rattle.aql_meaning.specs.Row.{Row, bind}
 use Rattle.aql_meaning.specs.Clauses.{with_values}
 use Rattle.aql_plan.specs.Runs.{result_of}
 use Rattle.aql_block.specs.declared.calls.Step.{Step}
-use Rattle.aql_exec.specs.Rests.{Counter, Counts, Rest, with_rows, Ahead}
-use Rattle.aql_exec.specs.Steps.{Led, given}
+use Rattle.aql_exec.specs.Rests.{Counter, Counts, Exact, IsOver, Rest, with_rows, Prefixed}
+use Rattle.aql_exec.specs.Steps.{Continues, given}
 use Rattle.aql_exec.specs.Operators.{EachRow}
 use Rattle.aql_exec.specs.Counting.{nothing}
 use Rattle.aql_exec.specs.laws.Telling.{led_none}
-use Rattle.aql_exec.specs.laws.Handing.{none_owed}
-use Rattle.aql_exec_rows.specs.Subqueries.{Follow, Leaves, room_of}
+use Rattle.aql_exec.specs.laws.Handing.{none_unreported}
+use Rattle.aql_exec_rows.specs.Subqueries.{Follow, Leaves, budget_of}
 
 -- ---- values of rows
 
@@ -53,11 +53,11 @@ length_values x (row ∷ rows) (v ∷ values) e = ap suc (length_values x rows v
 
 module _ (body : Row → Rest → Type 0) (x : Ident) where
   -- all that are held have their values: the first of them are given
-  pub ready_given : (begun : Bool) (held held' : List Row) (values values' results : List Datum)
+  pub ready_given : {v : Exact} (begun : Bool) (held held' : List Row) (values values' results : List Datum)
       (below more : Rest) (step : Step) (skipped : List Row) → length values ≡ length held
       → length values' ≡ length held' → length skipped ≡ step.skipped
       → with_values x held values ≡ (skipped ++ given step) ++ with_values x held' values'
-      → Led (Leaves false begun body x held values results below more) nothing step
+      → Continues v (Leaves false begun body x held values results below more) nothing step
       (Leaves false begun body x held' values' results below more)
   ready_given begun held held' values values' results below more step skipped n n' l e r h =
       let none : drop (length values) held ≡ [] = drop_all (length values) held (omega (arith, n)) in
@@ -69,6 +69,7 @@ module _ (body : Row → Rest → Type 0) (x : Ident) where
           rows = ap (λ z. z ++ h.0) e ∙ append_assoc (skipped ++ given step) (with_values x held' values') h.0
               ∙ ap (λ z. (skipped ++ given step) ++ z) (sym h.3);
           counts = λ c. omega arith;
+          exact = λ c y. omega arith;
         },
         (
           h.0,
@@ -79,13 +80,19 @@ module _ (body : Row → Rest → Type 0) (x : Ident) where
         ),
       )
 
+  -- what the run before counts is over
+  dropped_none : (begun : Bool) (n : ℕ) → (begun ≡ true → n ≡ 0) → cond begun n 0 ≡ 0
+  dropped_none true n h = h refl
+  dropped_none false n h = refl
+
   -- a body was begun for the next row
-  pub body_begun : (begun : Bool) (held : List Row) (values results : List Datum) (row : Row)
+  pub body_begun : {v : Exact} (begun : Bool) (held : List Row) (values results : List Datum) (row : Row)
       (rest : List Row)
-      (below old list r : Rest) → drop (length values) held ≡ row ∷ rest → body row list
+      (below old list r : Rest) → (begun ≡ true → (c : Counter) → v c ≡ true → old.counts c ≡ 0)
+      → drop (length values) held ≡ row ∷ rest → body row list
       → Leaves true true body x held values [] below list r
-      → (b : Rest) × Ahead [] nothing r b × Leaves false begun body x held values results below old b
-  body_begun begun held values results row rest below old list r e p h =
+      → (b : Rest) × Prefixed v [] nothing r b × Leaves false begun body x held values results below old b
+  body_begun begun held values results row rest below old list r over e p h =
       let f = subst (λ z. Follow true body x (map result_of list.rows) (z ++ below.rows) h.0 h.1) e h.2 in
       let each : EachRow body x ((row ∷ rest) ++ below.rows) h.0 (λ c. list.counts c + h.1 c) =
       (list, f.0, h.1, p, f.1, f.2, λ c. refl) in (
@@ -93,7 +100,12 @@ module _ (body : Row → Rest → Type 0) (x : Ident) where
           rows = r.rows;
           counts = λ c. below.counts c + (cond begun (old.counts c) 0 + (list.counts c + h.1 c));
         },
-        record { rows = refl; counts = λ c. (let n = h.4 c in omega (arith, n)) },
+        record {
+          rows = refl;
+          counts = λ c. (let n = h.4 c in omega (arith, n));
+          exact = λ c y. (let n = h.4 c in let z = dropped_none begun (old.counts c) (λ b. over b c y) in
+              omega (arith, n, z));
+        },
         (
           h.0,
           λ c. list.counts c + h.1 c,
@@ -106,11 +118,11 @@ module _ (body : Row → Rest → Type 0) (x : Ident) where
   -- ---- steps of inputs
 
   -- rows of the input came, where none was held
-  pub came_below : (begun : Bool) (block s0 s : List Row) (results : List Datum) (d : Counts)
-      (i' i t b more r : Rest) → length s0 ≡ 0 → length s ≡ 0 → Ahead (s ++ block) d t b
+  pub came_below : {v : Exact} (begun : Bool) (block s0 s : List Row) (results : List Datum) (d : Counts)
+      (i' i t b more r : Rest) → length s0 ≡ 0 → length s ≡ 0 → Prefixed v (s ++ block) d t b
       → i' ≡ with_rows (s0 ++ s) t → i ≡ with_rows s0 b
       → Leaves false begun body x block [] results i' more r
-      → (q : Rest) × Ahead [] d r q × Leaves false begun body x [] [] results i more q
+      → (q : Rest) × Prefixed v [] d r q × Leaves false begun body x [] [] results i more q
   came_below begun block s0 s results d i' i t b more r l0 l a e' e h =
       let none0 = nil_from_length s0 l0 in
       let none = nil_from_length s l in
@@ -128,6 +140,8 @@ module _ (body : Row → Rest → Type 0) (x : Ident) where
           rows = refl;
           counts = λ c. (let n = h.4 c in let m = a.counts c in let j = count c in let k = count0 c in
               omega (arith, n, m, j, k));
+          exact = λ c y. (let n = h.4 c in let m = a.exact c y in let j = count c in let k = count0 c in
+              omega (arith, n, m, j, k));
         },
         (
           h.0,
@@ -139,11 +153,11 @@ module _ (body : Row → Rest → Type 0) (x : Ident) where
       )
 
   -- results of the body came
-  pub came_body : (held block s0 s : List Row) (values results results' : List Datum) (d : Counts)
+  pub came_body : {v : Exact} (held block s0 s : List Row) (values results results' : List Datum) (d : Counts)
       (i' i t b below r : Rest) → results' ≡ results ++ map result_of block → length s0 ≡ 0 → length s ≡ 0
-      → Ahead (s ++ block) d t b → i' ≡ with_rows (s0 ++ s) t → i ≡ with_rows s0 b
+      → Prefixed v (s ++ block) d t b → i' ≡ with_rows (s0 ++ s) t → i ≡ with_rows s0 b
       → Leaves true true body x held values results' below i' r
-      → (q : Rest) × Ahead [] d r q × Leaves true true body x held values results below i q
+      → (q : Rest) × Prefixed v [] d r q × Leaves true true body x held values results below i q
   came_body held block s0 s values results results' d i' i t b below r g l0 l a e' e h =
       let none0 = nil_from_length s0 l0 in
       let none = nil_from_length s l in
@@ -167,6 +181,8 @@ module _ (body : Row → Rest → Type 0) (x : Ident) where
           rows = refl;
           counts = λ c. (let n = h.4 c in let m = a.counts c in let j = count c in let k = count0 c in
               omega (arith, n, m, j, k));
+          exact = λ c y. (let n = h.4 c in let m = a.exact c y in let j = count c in let k = count0 c in
+              omega (arith, n, m, j, k));
         },
         (
           h.0,
@@ -178,12 +194,12 @@ module _ (body : Row → Rest → Type 0) (x : Ident) where
       )
 
   -- the last results came: the row at hand has its value
-  pub body_ended : (held block s0 s : List Row) (values results results' other : List Datum) (d : Counts)
-      (i' i t b below r : Rest) → results' ≡ results ++ map result_of block → length s0 ≡ 0 → length s ≡ 0
-      → Ahead (s ++ block) d t b → i' ≡ with_rows (s0 ++ s) t → i ≡ with_rows s0 b
+  pub body_ended : {v : Exact} (held block s0 s : List Row) (values results results' other : List Datum)
+      (d : Counts) (i' i t b below r : Rest) → results' ≡ results ++ map result_of block → length s0 ≡ 0
+      → length s ≡ 0 → Prefixed v (s ++ block) d t b → i' ≡ with_rows (s0 ++ s) t → i ≡ with_rows s0 b
       → length values < length held → length i'.rows ≡ 0
       → Leaves false true body x held (values ++ list results' ∷ []) other below i' r
-      → (q : Rest) × Ahead [] d r q × Leaves true true body x held values results below i q
+      → (q : Rest) × Prefixed v [] d r q × Leaves true true body x held values results below i q
   body_ended held block s0 s values results results' other d i' i t b below r g l0 l a e' e short n h =
       let none0 = nil_from_length s0 l0 in
       let none = nil_from_length s l in
@@ -209,6 +225,8 @@ module _ (body : Row → Rest → Type 0) (x : Ident) where
         record {
           rows = refl;
           counts = λ c. (let p = h.4 c in let q = a.counts c in let j = count c in let k = count0 c in
+              omega (arith, p, q, j, k));
+          exact = λ c y. (let p = h.4 c in let q = a.exact c y in let j = count c in let k = count0 c in
               omega (arith, p, q, j, k));
         },
         (
@@ -268,44 +286,49 @@ module _ (body : Row → Rest → Type 0) (x : Ident) (s : ℕ → List Row) (in
       → Leaves inside begun body x held values results (ins' 0) (ins' 1) r
   same_inputs inside begun held values results r h =
       subst (λ z. Leaves inside begun body x held values results z (ins' 1) r)
-      (sym (none_owed (s 0) (ins' 0) (ins 0) (lens 0) (eqs 0)))
+      (sym (none_unreported (s 0) (ins' 0) (ins 0) (lens 0) (eqs 0)))
       (subst (λ z. Leaves inside begun body x held values results (ins 0) z r)
-      (sym (none_owed (s 1) (ins' 1) (ins 1) (lens 1) (eqs 1))) h)
+      (sym (none_unreported (s 1) (ins' 1) (ins 1) (lens 1) (eqs 1))) h)
 
-  -- nothing is told
-  pub still : (inside begun : Bool) (held : List Row) (values results : List Datum) (step : Step)
+  -- nothing is reported
+  pub still : {v : Exact} (inside begun : Bool) (held : List Row) (values results : List Datum) (step : Step)
       → step.skipped ≡ 0 → given step ≡ []
-      → Led (Leaves inside begun body x held values results (ins' 0) (ins' 1)) nothing step
+      → Continues v (Leaves inside begun body x held values results (ins' 0) (ins' 1)) nothing step
       (Leaves inside begun body x held values results (ins 0) (ins 1))
   still inside begun held values results step l g =
       led_none step l g (λ r h. same_inputs inside begun held values results r h)
 
   -- rows that are ready are given
-  pub rows_given : (inside begun : Bool) (held held' : List Row) (values values' results : List Datum)
-      (step : Step) (skipped : List Row) → inside ≡ false → length values ≡ length held
-      → length values' ≡ length held' → length skipped ≡ step.skipped
+  pub rows_given : {v : Exact} (inside begun : Bool) (held held' : List Row)
+      (values values' results : List Datum) (step : Step) (skipped : List Row) → inside ≡ false
+      → length values ≡ length held → length values' ≡ length held' → length skipped ≡ step.skipped
       → with_values x held values ≡ (skipped ++ given step) ++ with_values x held' values'
-      → Led (Leaves inside begun body x held values results (ins' 0) (ins' 1)) nothing step
+      → Continues v (Leaves inside begun body x held values results (ins' 0) (ins' 1)) nothing step
       (Leaves inside begun body x held' values' results (ins 0) (ins 1))
-  rows_given inside begun held held' values values' results step skipped i n n' l e =
-      subst (λ b. Led (Leaves b begun body x held values results (ins' 0) (ins' 1)) nothing step
+  rows_given {v = v} inside begun held held' values values' results step skipped i n n' l e =
+      subst (λ b. Continues v (Leaves b begun body x held values results (ins' 0) (ins' 1)) nothing step
       (Leaves b begun body x held' values' results (ins 0) (ins 1))) (sym i) (λ r h.
       let led = ready_given body x begun held held' values values' results (ins 0) (ins 1) step skipped
       n n' l e r h in
       (led.0, led.1, led.2, led.3, same_inputs false begun held values results led.1 led.4))
 
 -- nothing follows where no row is held and none comes
-pub none_left : (body : Row → Rest → Type 0) (x : Ident) (inside begun : Bool) (held : List Row)
-    (values results : List Datum) (below more r : Rest) → inside ≡ false → held ≡ [] → below.rows ≡ []
-    → Leaves inside begun body x held values results below more r → r.rows ≡ []
-none_left body x inside begun held values results below more r i e n h =
+pub none_left : {v : Exact} (body : Row → Rest → Type 0) (x : Ident) (inside begun : Bool) (held : List Row)
+    (values results : List Datum) (below more r : Rest) → inside ≡ false → held ≡ [] → IsOver v below
+    → (begun ≡ true → (c : Counter) → v c ≡ true → more.counts c ≡ 0)
+    → Leaves inside begun body x held values results below more r → IsOver v r
+none_left body x inside begun held values results below more r i e n over h =
     let follow = subst (λ b. Follow b body x (results ++ map result_of more.rows)
     (drop (length values) held ++ below.rows) h.0 h.1) i h.2 in
     let none : drop (length values) held ≡ [] = ap (drop (length values)) e
     ∙ drop_all (length values) [] (omega arith) in
     let each : EachRow body x [] h.0 h.1 = subst (λ z. EachRow body x z h.0 h.1)
-    (ap (λ z. z ++ below.rows) none ∙ n) follow in
-    h.3 ∙ ap (λ z. with_values x z values ++ h.0) e ∙ each.0
+    (ap (λ z. z ++ below.rows) none ∙ n.0) follow in (
+      h.3 ∙ ap (λ z. with_values x z values ++ h.0) e ∙ each.0,
+      λ c y. (let m = h.4 c in let p = n.1 c y in
+          let z = dropped_none body x begun (more.counts c) (λ b. over b c y) in let q = each.1 c in
+          omega (arith, m, p, z, q)),
+    )
 
 -- where no row is found all were passed
 pub passed : {X : Type 0} (xs : List X) (i : ℕ) → None ≡ slice_get xs i → length xs ≤ i
@@ -313,12 +336,12 @@ passed [] i e = omega arith
 passed (x ∷ xs) zero e = absurd (cc)
 passed (x ∷ xs) (suc i) e = (let n = passed xs i e in omega (arith, n))
 
--- ---- room
+-- ---- budget
 
-pub room_begun : (done : Bool) (f ready waiting : ℕ) → 1 ≤ waiting
-    → (room_of done true f ready waiting + 1 * f) + 1 ≤ room_of done false f ready waiting
-room_begun done f ready zero l = absurd (omega (arith, l))
-room_begun done f ready (suc k) l =
+pub budget_begun : (done : Bool) (f ready waiting : ℕ) → 1 ≤ waiting
+    → (budget_of done true f ready waiting + 1 * f) + 1 ≤ budget_of done false f ready waiting
+budget_begun done f ready zero l = absurd (omega (arith, l))
+budget_begun done f ready (suc k) l =
     let e : suc k - 1 ≡ k = omega arith in
     let m : suc k * (f + 3) ≡ (k * (f + 3)) + (f + 3) = omega arith in
     let n : (suc k - 1) * (f + 3) ≡ k * (f + 3) = ap (λ z. z * (f + 3)) e in
@@ -326,12 +349,13 @@ room_begun done f ready (suc k) l =
 
 -- ---- steps that were taken, in the state that asked for them
 
-module _ (body : Row → Rest → Type 0) (x : Ident) (begun : Bool) (held block s0 s : List Row) (d : Counts)
-    (i' i t b other' other r : Rest) (l0 : length s0 ≡ 0) (l : length s ≡ 0) (a : Ahead (s ++ block) d t b)
+module _ {v : Exact} (body : Row → Rest → Type 0) (x : Ident) (begun : Bool) (held block s0 s : List Row)
+    (d : Counts) (i' i t b other' other r : Rest) (l0 : length s0 ≡ 0) (l : length s ≡ 0)
+    (a : Prefixed v (s ++ block) d t b)
     (e' : i' ≡ with_rows (s0 ++ s) t) (e : i ≡ with_rows s0 b) (o : other' ≡ other) where
   pub taken_below : (inside : Bool) (values results : List Datum) → inside ≡ false → held ≡ [] → values ≡ []
       → Leaves inside begun body x block values results i' other' r
-      → (q : Rest) × Ahead [] d r q × Leaves inside begun body x held values results i other q
+      → (q : Rest) × Prefixed v [] d r q × Leaves inside begun body x held values results i other q
   taken_below inside values results n h v left =
       let left1 = subst (λ z. Leaves z begun body x block values results i' other' r) n left in
       let left2 = subst (λ z. Leaves false begun body x block z results i' other' r) v left1 in
@@ -344,7 +368,7 @@ module _ (body : Row → Rest → Type 0) (x : Ident) (begun : Bool) (held block
   pub taken_body : (inside : Bool) (values results results' : List Datum) → inside ≡ true → begun ≡ true
       → results' ≡ results ++ map result_of block
       → Leaves inside begun body x held values results' other' i' r
-      → (q : Rest) × Ahead [] d r q × Leaves inside begun body x held values results other i q
+      → (q : Rest) × Prefixed v [] d r q × Leaves inside begun body x held values results other i q
   taken_body inside values results results' n g m left =
       let left1 = subst (λ z. Leaves z begun body x held values results' other' i' r) n left in
       let left2 = subst (λ z. Leaves true z body x held values results' other' i' r) g left1 in
@@ -358,7 +382,7 @@ module _ (body : Row → Rest → Type 0) (x : Ident) (begun : Bool) (held block
       → begun ≡ true → results' ≡ results ++ map result_of block → values' ≡ values ++ list results' ∷ []
       → length values < length held → length i'.rows ≡ 0
       → Leaves false begun body x held values' none other' i' r
-      → (q : Rest) × Ahead [] d r q × Leaves inside begun body x held values results other i q
+      → (q : Rest) × Prefixed v [] d r q × Leaves inside begun body x held values results other i q
   taken_last inside values values' results results' none n g m v short ended left =
       let left1 = subst (λ z. Leaves false z body x held values' none other' i' r) g left in
       let left2 = subst (λ z. Leaves false true body x held z none other' i' r) v left1 in

@@ -1,14 +1,13 @@
 -- What comes of the groups when all rows came: in ascending order of the criteria, they are what a COLLECT
 -- makes of the rows.
-use Rattle.std.proofs.Common.{◌≡◌, ℕ, zero, suc, ◌+◌, List, [], ◌∷◌, ◌++◌, length, map, drop, reverse, get_or, Bool, true, false, cond, Option, Some, None, unwrap_or, refl, sym, ap, ap₂, ◌∙◌, subst, true≢false, append_assoc, arith}
-use Rattle.std.specs.Prelude.{slice_get, option_map, is_some, IsPermutation}
+use Rattle.std.proofs.Common.{◌≡◌, ℕ, suc, List, [], ◌∷◌, ◌++◌, length, map, drop, reverse, Bool, true, false, cond, Option, Some, None, refl, sym, ap, ap₂, ◌∙◌, subst, true≢false, append_assoc, arith}
+use Rattle.std.specs.Prelude.{option_map, is_some, IsPermutation}
 use Rattle.std.specs.List.{All, AllZip}
-use Rattle.std.specs.List.Sorted.{IsSorted, IsSortedBy}
+use Rattle.std.specs.List.Sorted.{IsSortedBy}
 use Rattle.std.specs.Ordering.{is_lt, on}
 use Rattle.std.proofs.lemmas.List.{map-append, reverse-append}
 use Rattle.std.proofs.lemmas.List.Elements.{All-cons, All-head, All-tail, All-nil}
 use Rattle.std.proofs.lemmas.List.Sorted.{IsPermutation-map, IsPermutation-refl, All-permutation}
-use Rattle.std.proofs.lemmas.Simd.{map-map}
 use Rattle.aql_value.specs.declared.values.Value.{Value}
 use Rattle.aql_value.specs.Datum.{Datum, null}
 use Rattle.aql_value.specs.Contents.{list, elements, is_below}
@@ -20,7 +19,6 @@ use Rattle.aql_tree.specs.declared.syntax.Ident.{Ident}
 use Rattle.aql_tree.specs.declared.syntax.Ident.TheVariants.{Num}
 use Rattle.aql_tree.specs.declared.syntax.Let.{Let}
 use Rattle.aql_tree.specs.declared.syntax.Into.{Into}
-use Rattle.aql_tree.specs.View.{AggregatePart, aggregates, aggregate_part}
 use Rattle.aql_meaning.specs.Row.{Row, bind, bind_all}
 use Rattle.aql_meaning.specs.Groups as meaning
 use Rattle.aql_meaning.specs.Groups.{GroupedRow, groups, rows_of_group, aggregate_values, WithInto}
@@ -28,8 +26,8 @@ use Rattle.aql_meaning.specs.Visible.{aggregate_vars, into_var}
 use Rattle.aql_meaning.specs.Stages.{stage_functions}
 use Rattle.aql_block.specs.Rows.{row_of}
 use Rattle.aql_aggregate.specs.declared.staged.StagedKind.{StagedKind}
-use Rattle.aql_exec_rows.specs.CollectSettings.{criteria_vars, aggregate_trees, into_of, AreKinds}
-use Rattle.aql_exec_rows.specs.GroupStates.{IsGroup, result_of_members, into_values_of, members_of, keys_seen, AreGroups, Holds, Result, finished_of, finished_in, functions_of, result_of, key_of}
+use Rattle.aql_exec_rows.specs.Settings.{criteria_vars, aggregate_trees, into_of, AreKinds}
+use Rattle.aql_exec_rows.specs.GroupStates.{IsGroup, result_of_members, into_values_of, members_of, keys_seen, AreGroups, Holds, Result, finished_of, finished_in, functions_of, result_of}
 use Rattle.aql_exec_rows.specs.Framed.{numbered, with_into_values, framed, IsFrame}
 use Rattle.aql_exec_rows.specs.Collecting.{CollectsBy}
 use Rattle.aql_exec_rows.specs.laws.Members.{functions_are}

@@ -9,7 +9,7 @@ use Rattle.aql_meaning.specs.Row.{Row}
 use Rattle.aql_meaning.specs.Clauses.{KeyedRow}
 use Rattle.aql_block.specs.Tables.{Table, rows_of}
 use Rattle.aql_block.specs.laws.BlockRows.{row_has_all, row_only}
-use Rattle.aql_exec.specs.Rests.{Rest, Ahead}
+use Rattle.aql_exec.specs.Rests.{Rest, Prefixed, Exact}
 use Rattle.aql_exec.specs.Counting.{nothing}
 use Rattle.aql_exec_rows.specs.declared.keyed.Keyed.{Keyed}
 use Rattle.aql_exec_rows.specs.declared.sort.Order.{Order}
@@ -47,20 +47,24 @@ joined_have es uniform registers held registers' after block r alike had e =
 
 -- ---- rows that are given
 
-pub none_ahead : (rows : List Row) (r : Rest) → rows ≡ [] → Ahead rows nothing r r
-none_ahead rows r e = record { rows = ap (λ z. z ++ r.rows) (sym e); counts = λ c. omega arith }
+pub none_ahead : {v : Exact} (rows : List Row) (r : Rest) → rows ≡ [] → Prefixed v rows nothing r r
+none_ahead rows r e = record {
+  rows = ap (λ z. z ++ r.rows) (sym e);
+  counts = λ c. omega arith;
+  exact = λ c y. omega arith;
+}
 
 -- of the sorted rows the first are given or skipped
-pub front_leaves : (before after : Order) (front rows : List Row) (r : Rest) → before.sorted ≡ true
-    → after.sorted ≡ true
+pub front_leaves : {v : Exact} (before after : Order) (front rows : List Row) (r : Rest)
+    → before.sorted ≡ true → after.sorted ≡ true
     → rows_alone (reverse (keyed_in before.rows.items))
     ≡ front ++ rows_alone (reverse (keyed_in after.rows.items))
-    → left_order after rows r → (b : Rest) × Ahead front nothing r b × left_order before rows b
+    → left_order after rows r → (b : Rest) × Prefixed v front nothing r b × left_order before rows b
 front_leaves before after front rows r s t e h =
     let left : r.rows ≡ rows_alone (reverse (keyed_in after.rows.items)) =
     subst (λ b. LeavesRows b after rows r.rows) t h.0 in (
       record { rows = front ++ r.rows; counts = r.counts },
-      record { rows = refl; counts = λ c. omega arith },
+      record { rows = refl; counts = λ c. omega arith; exact = λ c y. omega arith },
       (
         subst (λ b. LeavesRows b before rows (front ++ r.rows)) (sym s) (ap (λ z. front ++ z) left ∙ sym e),
         h.1,

@@ -1,5 +1,5 @@
 -- The accumulators of a group: a list of them as it is made, as each takes a member, and as each is finished.
-use Rattle.std.proofs.Common.{◌≡◌, ℕ, zero, suc, ◌+◌, ◌<◌, ◌⊎◌, inl, inr, List, [], ◌∷◌, ◌++◌, length, drop, set, get_or, Bool, true, false, cond, Option, Some, None, refl, sym, ap, ◌∙◌, subst, true≢false, append_assoc, add-one, length-append, length-drop, arith}
+use Rattle.std.proofs.Common.{◌≡◌, ℕ, zero, suc, ◌+◌, ◌<◌, ◌⊎◌, inl, inr, List, [], ◌∷◌, ◌++◌, length, drop, set, get_or, Bool, true, false, cond, Some, refl, sym, ap, ◌∙◌, subst, append_assoc, add-one, length-append, length-drop, arith}
 use Rattle.std.specs.Prelude.{slice_get, nat_lt, ◌≤◌, MatchOption}
 use Rattle.std.proofs.lemmas.List.{append-nil, nil_from_length}
 use Rattle.aql_value.specs.declared.values.Value.{Value}

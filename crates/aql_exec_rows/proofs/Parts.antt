@@ -1,4 +1,4 @@
--- The parts of what a COLLECT is told, one after another.
+-- The parts of the settings of a COLLECT, one after another.
 use Rattle.std.proofs.Common.{◌≡◌, ℕ, zero, suc, ◌+◌, ◌<◌, List, [], ◌∷◌, ◌++◌, length, map, drop, get_or, true, Option, Some, None, option_map, refl, sym, ap, ◌∙◌, rules, append_assoc}
 use Rattle.std.specs.Prelude.{MatchOption}
 use Rattle.std.specs.List.{list_all, AllByRecursion}
@@ -22,7 +22,7 @@ use Rattle.aql_plan.specs.Fits.{HasArgument}
 use Rattle.aql_plan.specs.View.{maybe_tree}
 use Rattle.aql_aggregate.specs.declared.staged.StagedKind.{StagedKind}
 use Rattle.aql_aggregate.specs.Staged.{Staged, staged}
-use Rattle.aql_exec_rows.specs.CollectSettings.{is_number, criteria_vars, criteria_trees, aggregate_trees, in_stage, seen_by, AreKinds}
+use Rattle.aql_exec_rows.specs.Settings.{is_number, criteria_vars, criteria_trees, aggregate_trees, in_stage, seen_by, AreKinds}
 use Rattle.aql_tree.specs.laws.Parts.{let_is, aggregate_is}
 
 -- the item at a place, with those after it

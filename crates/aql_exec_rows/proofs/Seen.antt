@@ -1,25 +1,24 @@
 -- A row more: its key among those that were seen, and its group.
-use Rattle.std.proofs.Common.{◌≡◌, ℕ, zero, suc, ◌+◌, ◌<◌, List, [], ◌∷◌, ◌++◌, length, map, filter, get_or, set, Bool, true, false, cond, ◌||◌, Option, Some, None, refl, sym, ap, ◌∙◌, subst, true≢false, arith}
+use Rattle.std.proofs.Common.{◌≡◌, ℕ, zero, suc, ◌+◌, ◌<◌, List, [], ◌∷◌, ◌++◌, length, map, get_or, set, Bool, true, false, cond, ◌||◌, Option, Some, None, refl, sym, ap, ◌∙◌, subst, true≢false, arith}
 use Rattle.std.specs.Prelude.{slice_get, option_to_list, option_map, is_some, unwrap_or, ◌≤◌}
 use Rattle.std.proofs.Common.{length-append}
-use Rattle.std.proofs.lemmas.List.{append-nil, map-append, length-map}
+use Rattle.std.proofs.lemmas.List.{append-nil, map-append}
 use Rattle.std.proofs.lemmas.List.Elements.{filter-append}
 use Rattle.std.proofs.lemmas.List.Folds.{list_any-append}
 use Rattle.aql_value.specs.Datum.{Datum, null}
 use Rattle.aql_value.specs.Contents.{list, elements, same, is_in}
 use Rattle.aql_value.specs.declared.values.Value.{Value}
-use Rattle.aql_value.specs.View.{datum_of, datums_in}
+use Rattle.aql_value.specs.View.{datum_of}
 use Rattle.aql_func.specs.Arguments.{argument}
 use Rattle.aql_func.specs.Lists.{firsts}
-use Rattle.aql_func.specs.laws.Firsts.{firsts_push, noted, in_firsts, same_flip, same_is}
+use Rattle.aql_func.specs.laws.Firsts.{firsts_push, noted, same_flip}
 use Rattle.aql_tree.specs.declared.syntax.Let.{Let}
 use Rattle.aql_tree.specs.declared.syntax.Into.{Into}
 use Rattle.aql_meaning.specs.Groups.{GroupedRow}
 use Rattle.aql_aggregate.specs.declared.staged.StagedKind.{StagedKind}
-use Rattle.aql_aggregate.specs.declared.staged.StagedAccumulator.{StagedAccumulator}
-use Rattle.aql_aggregate.specs.Staged.{Staged, staged}
-use Rattle.aql_exec_rows.specs.CollectSettings.{criteria_vars}
-use Rattle.aql_exec_rows.specs.GroupStates.{AccumulatesAt, AllAccumulate, arguments_of, into_values_of, IsGroup, key_of, members_of, keys_seen, AreGroups, Grows, Takes}
+use Rattle.aql_aggregate.specs.Staged.{staged}
+use Rattle.aql_exec_rows.specs.Settings.{criteria_vars}
+use Rattle.aql_exec_rows.specs.GroupStates.{AccumulatesAt, arguments_of, into_values_of, IsGroup, key_of, members_of, keys_seen, AreGroups, Grows, Takes}
 use Rattle.aql_exec_rows.specs.laws.Members.{same_self, either_false}
 use Rattle.aql_exec_rows.specs.declared.group.Group.{Group}
 

@@ -1,5 +1,5 @@
 -- COLLECT as an executor: what an answer and a step of the input leave.
-use Rattle.std.proofs.Common.{◌≡◌, ℕ, ◌+◌, ◌≤◌, List, [], ◌++◌, length, map, reverse, Bool, true, false, refl, sym, ap, ◌∙◌, subst, append_assoc, arith, true≢false}
+use Rattle.std.proofs.Common.{◌≡◌, ◌+◌, ◌≤◌, List, [], ◌++◌, length, map, reverse, Bool, true, false, refl, sym, ap, ◌∙◌, subst, append_assoc, arith}
 use Rattle.std.proofs.lemmas.List.{nil_from_length, map-append, append-nil, reverse-reverse, reverse-append}
 use Rattle.std.specs.Prelude.{◌∷◌}
 use Rattle.aql_value.specs.View.{datums_in}
@@ -8,14 +8,14 @@ use Rattle.aql_meaning.specs.Row.{Row}
 use Rattle.aql_meaning.specs.Groups.{GroupedRow}
 use Rattle.aql_block.specs.Rows.{row_of}
 use Rattle.aql_block.specs.declared.calls.Step.{Step}
-use Rattle.aql_exec.specs.Rests.{Counter, Counts, Rest, with_rows, Ahead}
-use Rattle.aql_exec.specs.Steps.{Led, given}
+use Rattle.aql_exec.specs.Rests.{Counter, Counts, Exact, IsOver, Rest, with_rows, Prefixed}
+use Rattle.aql_exec.specs.Steps.{Continues, given}
 use Rattle.aql_exec.specs.Counting.{nothing}
-use Rattle.aql_exec.specs.laws.Handing.{same_rows, same_counts, none_owed}
+use Rattle.aql_exec.specs.laws.Handing.{same_rows, same_counts, none_unreported}
 use Rattle.aql_exec.specs.laws.Telling.{led_none}
 use Rattle.aql_aggregate.specs.declared.staged.StagedKind.{StagedKind}
-use Rattle.aql_exec_rows.specs.CollectSettings.{AreKinds}
-use Rattle.aql_exec_rows.specs.GroupStates.{seen, Holds, Result, finished_of, finished_in, result_of}
+use Rattle.aql_exec_rows.specs.Settings.{AreKinds}
+use Rattle.aql_exec_rows.specs.GroupStates.{seen, Holds, finished_of, finished_in, result_of}
 use Rattle.aql_exec_rows.specs.Framed.{framed, IsFrame}
 use Rattle.aql_exec_rows.specs.Collecting.{CollectsBy, Leaves, GivesOver}
 use Rattle.aql_exec_rows.specs.declared.grouping.Grouping.{Grouping}
@@ -26,20 +26,22 @@ use Rattle.aql_exec_rows.proofs.Finishing.{all_collected}
 
 module _ (g : Grouping) (kinds : List StagedKind) (frame : Frame) where
   -- an answer that tells of nothing
-  pub still : (done : Bool) (groups : Groups) (finished : List Finished) (s : List Row) (i' i : Rest) (step : Step)
+  pub still : {v : Exact} (done : Bool) (groups : Groups) (finished : List Finished) (s : List Row)
+      (i' i : Rest) (step : Step)
       → length s ≡ 0 → i' ≡ with_rows s i → step.skipped ≡ 0 → given step ≡ []
-      → Led (GivesOver done g kinds groups frame finished i') nothing step
+      → Continues v (GivesOver done g kinds groups frame finished i') nothing step
       (GivesOver done g kinds groups frame finished i)
   still done groups finished s i' i step l e skips rows = led_none step skips rows
-      (λ r h. subst (λ i. GivesOver done g kinds groups frame finished i r) (sym (none_owed s i' i l e)) h)
+      (λ r h. subst (λ i. GivesOver done g kinds groups frame finished i r)
+      (sym (none_unreported s i' i l e)) h)
 
   -- an answer with rows
-  pub rows_given : (done : Bool) (groups : Groups) (finished left : List Finished) (s : List Row) (i' i : Rest)
-      (step : Step) (skipped : List Row) → done ≡ true → length s ≡ 0 → i' ≡ with_rows s i
+  pub rows_given : {v : Exact} (done : Bool) (groups : Groups) (finished left : List Finished) (s : List Row)
+      (i' i : Rest) (step : Step) (skipped : List Row) → done ≡ true → length s ≡ 0 → i' ≡ with_rows s i
       → length skipped ≡ step.skipped
       → map (framed frame) (reverse (finished_in finished))
       ≡ (skipped ++ given step) ++ map (framed frame) (reverse (finished_in left))
-      → Led (GivesOver done g kinds groups frame finished i') nothing step
+      → Continues v (GivesOver done g kinds groups frame finished i') nothing step
       (GivesOver done g kinds groups frame left i)
   rows_given done groups finished left s i' i step skipped d l e n rows r h =
       let out : r.rows ≡ map (framed frame) (reverse (finished_in left)) =
@@ -47,7 +49,7 @@ module _ (g : Grouping) (kinds : List StagedKind) (frame : Frame) where
         skipped,
         record { rows = (skipped ++ given step) ++ r.rows; counts = r.counts },
         n,
-        record { rows = refl; counts = λ c. omega arith },
+        record { rows = refl; counts = λ c. omega arith; exact = λ c y. omega arith },
         (
           subst (λ b. Leaves b g kinds groups frame finished i'.rows ((skipped ++ given step) ++ r.rows)) (sym d)
               (ap (λ z. (skipped ++ given step) ++ z) out ∙ sym rows),
@@ -56,18 +58,20 @@ module _ (g : Grouping) (kinds : List StagedKind) (frame : Frame) where
       )
 
   -- nothing is left
-  pub none_left : (done : Bool) (groups : Groups) (finished : List Finished) (i r : Rest) → done ≡ true
-      → finished ≡ [] → GivesOver done g kinds groups frame finished i r → r.rows ≡ []
-  none_left done groups finished i r d n h =
+  pub none_left : {v : Exact} (done : Bool) (groups : Groups) (finished : List Finished) (i r : Rest)
+      → done ≡ true → finished ≡ [] → IsOver v i → GivesOver done g kinds groups frame finished i r
+      → IsOver v r
+  none_left done groups finished i r d n over h =
       let out : r.rows ≡ map (framed frame) (reverse (finished_in finished)) =
       subst (λ b. Leaves b g kinds groups frame finished i.rows r.rows) d h.0 in
-      out ∙ ap (λ fs. map (framed frame) (reverse (finished_in fs))) n
+      (out ∙ ap (λ fs. map (framed frame) (reverse (finished_in fs))) n, λ c y. h.1 c ∙ over.1 c y)
 
   -- ---- a step of the input
 
   -- the rows of a step stand before the rows to come
-  module _ (block s0 s : List Row) (d : Counts) (i' i t b r : Rest) (l0 : length s0 ≡ 0) (l : length s ≡ 0)
-      (a : Ahead (s ++ block) d t b) (e' : i' ≡ with_rows (s0 ++ s) t) (e : i ≡ with_rows s0 b) where
+  module _ {v : Exact} (block s0 s : List Row) (d : Counts) (i' i t b r : Rest) (l0 : length s0 ≡ 0)
+      (l : length s ≡ 0) (a : Prefixed v (s ++ block) d t b) (e' : i' ≡ with_rows (s0 ++ s) t)
+      (e : i ≡ with_rows s0 b) where
     new_rows : i'.rows ≡ t.rows
     new_rows = ap (λ (z : Rest). z.rows) e' ∙ ap (λ z. (z ++ s) ++ t.rows) (nil_from_length s0 l0)
         ∙ ap (λ z. z ++ t.rows) (nil_from_length s l)
@@ -82,14 +86,19 @@ module _ (g : Grouping) (kinds : List StagedKind) (frame : Frame) where
     counts_are h c = (let m = a.counts c in let n = h c in let p = same_counts (s0 ++ s) i' t e' c in
         let q = same_counts s0 i b e c in omega (arith, m, n, p, q))
 
+    counts_exact : ((c : Counter) → r.counts c ≡ i'.counts c) → (c : Counter) → v c ≡ true
+        → i.counts c ≤ r.counts c + d c
+    counts_exact h c y = (let m = a.exact c y in let n = h c in let p = same_counts (s0 ++ s) i' t e' c in
+        let q = same_counts s0 i b e c in omega (arith, m, n, p, q))
+
     pub taken : (done : Bool) (groups groups' : Groups) (finished : List Finished) → done ≡ false
         → ((rows : List GroupedRow) → Holds g kinds rows groups
         → Holds g kinds (rows ++ map (seen g) block) groups')
         → GivesOver done g kinds groups' frame finished i' r
-        → (q : Rest) × Ahead [] d r q × GivesOver done g kinds groups frame finished i q
+        → (q : Rest) × Prefixed v [] d r q × GivesOver done g kinds groups frame finished i q
     taken done groups groups' finished n held h = (
       record { rows = r.rows; counts = i.counts },
-      record { rows = refl; counts = counts_are h.1 },
+      record { rows = refl; counts = counts_are h.1; exact = counts_exact h.1 },
       (
         subst (λ b. Leaves b g kinds groups frame finished i.rows r.rows) (sym n) (λ before is.
             let all = (subst (λ b. Leaves b g kinds groups' frame finished i'.rows r.rows) n h.0)
@@ -109,10 +118,10 @@ module _ (g : Grouping) (kinds : List StagedKind) (frame : Frame) where
         → ((rows : List GroupedRow) → Holds g kinds rows groups'
         → finished_in all ≡ map (result_of g.into kinds rows) (sort_values (datums_in groups'.keys.keys)))
         → GivesOver true g kinds later frame (reverse all) i' r
-        → (q : Rest) × Ahead [] d r q × GivesOver false g kinds groups frame finished i q
+        → (q : Rest) × Prefixed v [] d r q × GivesOver false g kinds groups frame finished i q
     last_taken groups groups' later finished all is known none held results h = (
       record { rows = r.rows; counts = i.counts },
-      record { rows = refl; counts = counts_are h.1 },
+      record { rows = refl; counts = counts_are h.1; exact = counts_exact h.1 },
       (
         λ before holds.
             let rows = before ++ map (seen g) block in

@@ -7,7 +7,7 @@ use Rattle.aql_meaning.specs.Stages.{stage_functions}
 use Rattle.aql_block.specs.declared.calls.Call.{Call}
 use Rattle.aql_block.specs.Rows.{row_of}
 use Rattle.aql_exec.specs.Rests.{Counter, Rest}
-use Rattle.aql_exec_rows.specs.CollectSettings.{criteria_vars, aggregate_trees, into_of, AreKinds}
+use Rattle.aql_exec_rows.specs.Settings.{criteria_vars, aggregate_trees, into_of, AreKinds}
 use Rattle.aql_exec_rows.specs.GroupStates.{seen, Holds, finished_in}
 use Rattle.aql_exec_rows.specs.Framed.{framed, IsFrame}
 use Rattle.aql_exec_rows.specs.declared.grouping.Grouping.{Grouping}
@@ -56,5 +56,5 @@ pub record CollectIs (s : Collect) : Type 0 where
       → (before : List GroupedRow) × Holds s.grouping s.kinds.items before s.groups
 
 -- how many rows it may give and how many turns it may take; a group gives one row
-abbrev pub room_collect : Collect → ℕ
-room_collect s = cond s.done (length s.finished.items) (length s.groups.kept.items + 2)
+abbrev pub budget_collect : Collect → ℕ
+budget_collect s = cond s.done (length s.finished.items) (length s.groups.kept.items + 2)

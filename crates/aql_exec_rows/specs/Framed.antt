@@ -7,7 +7,7 @@ use Rattle.aql_tree.specs.declared.syntax.Ident.TheVariants.{Num}
 use Rattle.aql_meaning.specs.Row.{Row, bind, bind_all}
 use Rattle.aql_meaning.specs.Visible.{aggregate_vars, into_var}
 use Rattle.aql_block.specs.Rows.{row_of, HasAll, only}
-use Rattle.aql_exec_rows.specs.CollectSettings.{criteria_vars, aggregate_trees, into_of}
+use Rattle.aql_exec_rows.specs.Settings.{criteria_vars, aggregate_trees, into_of}
 use Rattle.aql_exec_rows.specs.GroupStates.{Result}
 use Rattle.aql_exec_rows.specs.declared.grouping.Grouping.{Grouping}
 use Rattle.aql_exec_rows.specs.declared.frame.Frame.{Frame}
@@ -30,7 +30,7 @@ abbrev pub FitsFrame : Frame → List ℕ → Type 0
 FitsFrame f registers =
     (r : Result) → HasAll registers (framed f r) × (only registers (framed f r) ≡ framed f r)
 
--- the variables are those that a COLLECT is told
+-- the variables are those that a COLLECT is set to
 pub record IsFrame (g : Grouping) (f : Frame) : Type 0 where
   pub criteria : numbered f.criteria.items ≡ criteria_vars g.criteria
   pub aggregates : numbered f.aggregates.items ≡ aggregate_vars (aggregate_trees g.aggregates)

@@ -12,7 +12,7 @@ use Rattle.aql_meaning.specs.Groups.{GroupedRow, aggregate_values}
 use Rattle.aql_aggregate.specs.declared.staged.StagedKind.{StagedKind}
 use Rattle.aql_aggregate.specs.declared.staged.StagedAccumulator.{StagedAccumulator}
 use Rattle.aql_aggregate.specs.Staged.{Staged, staged, made, KeepsIn}
-use Rattle.aql_exec_rows.specs.CollectSettings.{criteria_vars, seen_by}
+use Rattle.aql_exec_rows.specs.Settings.{criteria_vars, seen_by}
 use Rattle.aql_exec_rows.specs.declared.grouping.Grouping.{Grouping}
 use Rattle.aql_exec_rows.specs.declared.group.Group.{Group}
 use Rattle.aql_exec_rows.specs.declared.group.Finished.{Finished}

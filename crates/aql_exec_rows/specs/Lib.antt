@@ -2,7 +2,7 @@ pub mod Keys
 pub mod Sorting
 pub mod Subqueries
 pub mod laws
-pub mod CollectSettings
+pub mod Settings
 pub mod GroupStates
 pub mod Framed
 pub mod Collecting

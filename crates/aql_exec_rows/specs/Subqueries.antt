@@ -79,14 +79,14 @@ pub record SubqueryIs (s : Subquery) : Type 0 where
   pub ended : s.inside ≡ false → s.begun ≡ true → s.body_done ≡ true
 
 -- how many rows it may give and how many turns it may take, for each row that waits for its body
-abbrev pub room_of : Bool → Bool → ℕ → ℕ → ℕ → ℕ
-room_of done false f ready waiting = (ready + waiting * (f + 3)) + cond done 0 1
-room_of done true f ready waiting = ((ready + (waiting - 1) * (f + 3)) + 2) + cond done 0 1
+abbrev pub budget_of : Bool → Bool → ℕ → ℕ → ℕ → ℕ
+budget_of done false f ready waiting = (ready + waiting * (f + 3)) + cond done 0 1
+budget_of done true f ready waiting = ((ready + (waiting - 1) * (f + 3)) + 2) + cond done 0 1
 
-abbrev pub room_subquery : Subquery → ℕ → ℕ
-room_subquery s f = room_of s.done s.inside f (length s.values.items)
+abbrev pub budget_subquery : Subquery → ℕ → ℕ
+budget_subquery s f = budget_of s.done s.inside f (length s.values.items)
     (length (rows_of s.held) - length s.values.items)
 
-abbrev pub charge_subquery : ℕ → ℕ → ℕ
-charge_subquery zero f = f + 4
-charge_subquery (suc k) f = 1
+abbrev pub row_cost_subquery : ℕ → ℕ → ℕ
+row_cost_subquery zero f = f + 4
+row_cost_subquery (suc k) f = 1

@@ -6,10 +6,10 @@ ghost use Rattle.aql_meaning.specs.Numbered.{IsNumber};
 ghost use Rattle.aql_meaning.specs.Row as meaning;
 ghost use Rattle.aql_plan.specs.Needs.{sets};
 ghost use Rattle.aql_block.specs.Tables.{rows_of};
-ghost use Rattle.aql_exec.specs.Steps.{IsCall, InCall, given, told};
+ghost use Rattle.aql_exec.specs.Steps.{IsCall, InCall, given, reported};
 ghost use Rattle.aql_exec.specs.Operators.{OnRows};
 ghost use Rattle.aql_meaning.specs.declared.grouping.Stage.TheVariants.{Whole};
-ghost use Rattle.aql_exec_rows.specs.CollectSettings.{node_of, node_at};
+ghost use Rattle.aql_exec_rows.specs.Settings.{node_of, node_at};
 ghost use Rattle.aql_exec_rows.specs.Framed.{FitsFrame, framed};
 ghost use Rattle.aql_exec_rows.specs.GroupStates.{finished_in};
 
@@ -19,7 +19,7 @@ use crate::grouping::{Grouping, kinds_of};
 use crate::groups::Groups;
 use aql_aggregate::StagedKind;
 use aql_block::{Block, Call, Progress, Row, Step, Tally};
-use aql_exec::{Executor, Place, Turn, Unlinked, nothing};
+use aql_exec::{Executor, Surroundings, Turn, Unlinked, nothing};
 use aql_meaning::Stage;
 use aql_tree::{Aggregates, Into, Lets};
 use aql_value::OutOfMemory;
@@ -100,9 +100,9 @@ fn give(
     requires fits { FitsFrame frame.now frame.now.registers.items }
     ensures bounds { IfOk result (λ step. InCall call step) }
     ensures progress { IfOk result (λ step. step.progress ≡ Progress.HasMore) }
-    ensures more { IfOk result (λ step. 1 ≤ told step) }
-    ensures told { IfOk result
-        (λ step. length finished.new.items + told step ≡ length finished.old.items) }
+    ensures more { IfOk result (λ step. 1 ≤ reported step) }
+    ensures reported { IfOk result
+        (λ step. length finished.new.items + reported step ≡ length finished.old.items) }
     ensures rows { IfOk result (λ step. (skipped : List meaning.Row)
         × (length skipped ≡ step.skipped)
         × (map (framed frame.now) (reverse (finished_in finished.old.items))
@@ -126,8 +126,8 @@ fn give(
     })
 }
 
-impl<W: Place> Executor<W> for Collect {
-    ghost use Rattle.aql_exec_rows.specs.Collecting.{gives_collect, CollectIs, room_collect};
+impl<W: Surroundings> Executor<W> for Collect {
+    ghost use Rattle.aql_exec_rows.specs.Collecting.{gives_collect, CollectIs, budget_collect};
     ghost use Rattle.aql_exec_rows.specs.Collecting.{AsksCollect};
     ghost use Rattle.aql_exec_rows.specs.laws.SomeGroups.{some_collect, more_collect};
     ghost use Rattle.aql_exec.specs.Streaming.{ended_first, waited_first, asks_all};
@@ -140,7 +140,7 @@ impl<W: Place> Executor<W> for Collect {
         OnRows (node_at s.grouping.stage s.grouping.criteria s.grouping.aggregates
         s.grouping.into) };
 
-    ghost owed = { λ _ _. 0 };
+    ghost unreported = { λ _ _. 0 };
 
     ghost asking = { λ s k ask. AsksCollect s k ask };
 
@@ -156,19 +156,21 @@ impl<W: Place> Executor<W> for Collect {
 
     ghost stuck = { λ _ _. ⊥ };
 
-    ghost room = { λ s _ _. room_collect s };
+    ghost budget = { λ s _ _. budget_collect s };
 
     ghost full = { λ _ _. 3 };
 
-    ghost charge = { λ _ _ _. 2 };
+    ghost row_cost = { λ _ _ _. 2 };
 
     ghost may = { λ _ _ _. Unit {0} };
 
     ghost asks = { λ s k c. asks_all s.done k c };
 
-    ghost patience = { λ s. cond s.waiting 0 1 };
+    ghost waits_left = { λ s. cond s.waiting 0 1 };
 
     ghost busy = { λ _. ⊥ };
+
+    ghost held = { λ _. 0 };
 
     fn begin(&mut self, alloc: Global, start: &Row) -> Result<(), OutOfMemory> {
         let aggregates = self.grouping.aggregates.as_slice();
@@ -239,18 +241,21 @@ impl<W: Place> Executor<W> for Collect {
 
     ghost some = { λ s _ _ _ ins v. some_collect s ins v };
 
-    ghost more_counts = { λ s _ _ _ k d ins ins' r e a o h. more_collect s k d ins ins' r e a o h };
+    ghost more_counts = { λ v s _ _ _ k d ins ins' r e a o h.
+        more_collect v s k d ins ins' r e a o h };
 
     ghost kept_gives = { λ _ _ _ _ _ _ _ _ _ h. h };
 
     ghost kept_valid = { λ _ _ _ _ _ _ h. h };
 
-    ghost kept_room = { λ s _ _ _ _ _. le_refl (room_collect s) };
+    ghost kept_budget = { λ s _ _ _ _ _. le_refl (budget_collect s) };
 
     ghost own_links = { λ _ _ _ _ h. absurd h };
+
+    ghost no_link = { λ _ _ h. absurd h };
 }
 
-impl<W: Place> Unlinked<W> for Collect {
+impl<W: Surroundings> Unlinked<W> for Collect {
     fn begun(&self, input: u32) -> bool {
         input == 0
     }

@@ -10,7 +10,7 @@ ghost use Rattle.aql_meaning.specs.Row.{bind_all};
 ghost use Rattle.aql_meaning.specs.Visible.{aggregate_vars, into_var};
 ghost use Rattle.aql_block.specs.Rows.{row_of};
 ghost use Rattle.aql_block.specs.Tables.{rows_of};
-ghost use Rattle.aql_exec_rows.specs.CollectSettings.{is_number, criteria_vars, aggregate_trees, into_of};
+ghost use Rattle.aql_exec_rows.specs.Settings.{is_number, criteria_vars, aggregate_trees, into_of};
 ghost use Rattle.aql_exec_rows.specs.Framed.{numbered, IsFrame, framed, FitsFrame};
 ghost use Rattle.aql_exec_rows.specs.GroupStates.{finished_of, finished_in};
 

@@ -1,4 +1,4 @@
-//! What a COLLECT is told: its stage, what it groups by, computes and takes.
+//! What a COLLECT is set to: its stage, what it groups by, computes and takes.
 
 ghost use Rattle.std.specs.Prelude.{◌≡◌, List, length, map, option_map, true, IfOk};
 ghost use Rattle.std.specs.List.{list_all};
@@ -17,9 +17,9 @@ ghost use Rattle.aql_meaning.specs.Visible.{aggregate_vars};
 ghost use Rattle.aql_plan.specs.Fits.{AllKnown};
 ghost use Rattle.aql_plan.specs.Needs.{sets};
 ghost use Rattle.aql_plan.specs.View.{maybe_tree};
-ghost use Rattle.aql_exec_rows.specs.CollectSettings.{is_number, criteria_vars, criteria_trees};
-ghost use Rattle.aql_exec_rows.specs.CollectSettings.{aggregate_trees, into_of, seen_by};
-ghost use Rattle.aql_exec_rows.specs.CollectSettings.{node_of, AreKinds};
+ghost use Rattle.aql_exec_rows.specs.Settings.{is_number, criteria_vars, criteria_trees};
+ghost use Rattle.aql_exec_rows.specs.Settings.{aggregate_trees, into_of, seen_by};
+ghost use Rattle.aql_exec_rows.specs.Settings.{node_of, AreKinds};
 
 use aql_aggregate::{StagedKind, aggregate_kind};
 use aql_expr::{RowView, eval};

@@ -12,7 +12,7 @@ ghost use Rattle.aql_plan.specs.Fits.{AllKnown};
 ghost use Rattle.aql_block.specs.Rows.{row_of};
 ghost use Rattle.aql_block.specs.Tables.{rows_of};
 ghost use Rattle.aql_aggregate.specs.declared.staged.StagedKind.{StagedKind};
-ghost use Rattle.aql_exec_rows.specs.CollectSettings.{criteria_trees, aggregate_trees, into_of, AreKinds};
+ghost use Rattle.aql_exec_rows.specs.Settings.{criteria_trees, aggregate_trees, into_of, AreKinds};
 ghost use Rattle.aql_exec_rows.specs.declared.grouping.Grouping.{Grouping};
 ghost use Rattle.aql_exec_rows.specs.GroupStates.{Result, seen, Holds, Grows, finished_in, result_of};
 

@@ -1,6 +1,6 @@
 //! SORT: the rows in the order of their keys, or the first of these.
 
-ghost use Rattle.std.specs.Prelude.{◌≡◌, ◌+◌, ◌<◌, ◌≤◌, ◌++◌, ◌⊎◌, List, [], length, map, reverse};
+ghost use Rattle.std.specs.Prelude.{◌≡◌, refl, ◌+◌, ◌<◌, ◌≤◌, ◌++◌, ◌⊎◌, List, [], length, map, reverse};
 ghost use Rattle.std.specs.Prelude.{true, false, IfOk, OnOk};
 ghost use Rattle.aql_meaning.specs.Plain.{AllPlain};
 ghost use Rattle.aql_meaning.specs.Row as meaning;
@@ -13,7 +13,7 @@ ghost use Rattle.aql_exec_rows.specs.Sorting.{left_order, OrderIs, AllHave, AreF
 
 use crate::keyed::{Keyed, add_rows, keep_first};
 use aql_block::{Block, Row, Tally};
-use aql_exec::{Place, Stream, Transform};
+use aql_exec::{Stream, Surroundings, Transform};
 use aql_tree::Keys;
 use aql_value::OutOfMemory;
 use std::alloc::Global;
@@ -219,7 +219,7 @@ fn move_last(held: &mut Vec<Keyed>, block: &mut Block)
     }
 }
 
-impl<W: Place> Transform<W> for Order {
+impl<W: Surroundings> Transform<W> for Order {
     ghost use Rattle.aql_exec_rows.specs.Sorting.{some_left};
 
     ghost node = { λ s. plan.Sort (directions s.keys) (key_trees s.keys) s.limit };
@@ -281,6 +281,8 @@ impl<W: Place> Transform<W> for Order {
         self.rows.truncate(self.rows.len() - count as usize);
         Ok(count)
     }
+
+    ghost not_handed_on = { λ _. refl };
 
     ghost some = { λ s _ rows _. some_left s rows };
 }

@@ -10,11 +10,11 @@ ghost use Rattle.aql_meaning.specs.Clauses.{with_values};
 ghost use Rattle.aql_plan.specs.Runs.{result_of};
 ghost use Rattle.aql_block.specs.Rows.{row_of};
 ghost use Rattle.aql_block.specs.Tables.{rows_of};
-ghost use Rattle.aql_exec.specs.Steps.{IsCall, InCall, given, told};
+ghost use Rattle.aql_exec.specs.Steps.{IsCall, InCall, given, reported};
 ghost use Rattle.aql_exec.specs.Operators.{WithBody};
 
 use aql_block::{Block, Call, Progress, Row, Step, Tally};
-use aql_exec::{Executor, Place, Turn, Unlinked, nothing, take_front};
+use aql_exec::{Executor, Surroundings, Turn, Unlinked, nothing, take_front};
 use aql_value::{Items, OutOfMemory, Value};
 use std::alloc::Global;
 use std::mem;
@@ -117,9 +117,9 @@ fn give(
     ensures ready { OnOk result (length values.new.items ≡ length (rows_of held.new)) }
     ensures bounds { IfOk result (λ step. InCall call step) }
     ensures progress { IfOk result (λ step. step.progress ≡ Progress.HasMore) }
-    ensures more { IfOk result (λ step. 1 ≤ told step) }
-    ensures told { IfOk result
-        (λ step. length values.new.items + told step ≡ length values.old.items) }
+    ensures more { IfOk result (λ step. 1 ≤ reported step) }
+    ensures reported { IfOk result
+        (λ step. length values.new.items + reported step ≡ length values.old.items) }
     ensures rows { IfOk result (λ step. (skipped : List meaning.Row)
         × (length skipped ≡ step.skipped)
         × (with_values (Num var) (rows_of held.old) (datums_in values.old.items)
@@ -146,11 +146,11 @@ fn give(
     })
 }
 
-impl<W: Place> Executor<W> for Subquery {
+impl<W: Surroundings> Executor<W> for Subquery {
     ghost use Rattle.aql_exec_rows.specs.Subqueries.{gives_subquery, started_subquery};
     ghost use Rattle.aql_exec_rows.specs.Subqueries.{ended_subquery, waited_subquery};
     ghost use Rattle.aql_exec_rows.specs.Subqueries.{AsksSubquery, asks_subquery};
-    ghost use Rattle.aql_exec_rows.specs.Subqueries.{SubqueryIs, room_subquery, charge_subquery};
+    ghost use Rattle.aql_exec_rows.specs.Subqueries.{SubqueryIs, budget_subquery, row_cost_subquery};
     ghost use Rattle.aql_exec_rows.specs.laws.SomeArrays.{some_subquery, more_subquery};
     ghost use Rattle.std.proofs.Math.Nat.{le_refl};
 
@@ -158,7 +158,7 @@ impl<W: Place> Executor<W> for Subquery {
 
     ghost node = { λ s. WithBody (Num s.var) };
 
-    ghost owed = { λ _ _. 0 };
+    ghost unreported = { λ _ _. 0 };
 
     ghost asking = { λ s k ask. AsksSubquery s k ask };
 
@@ -174,19 +174,21 @@ impl<W: Place> Executor<W> for Subquery {
 
     ghost stuck = { λ _ _. ⊥ };
 
-    ghost room = { λ s _ f. room_subquery s f };
+    ghost budget = { λ s _ f. budget_subquery s f };
 
     ghost full = { λ _ _. 1 };
 
-    ghost charge = { λ _ k f. charge_subquery k f };
+    ghost row_cost = { λ _ k f. row_cost_subquery k f };
 
     ghost may = { λ _ _ _. Unit {0} };
 
     ghost asks = { λ s k c. asks_subquery s k c };
 
-    ghost patience = { λ s. cond s.waiting 0 1 };
+    ghost waits_left = { λ s. cond s.waiting 0 1 };
 
     ghost busy = { λ _. ⊥ };
+
+    ghost held = { λ _. 0 };
 
     fn begin(&mut self, alloc: Global, _start: &Row) -> Result<(), OutOfMemory> {
         self.held = Block::empty(alloc);
@@ -279,19 +281,21 @@ impl<W: Place> Executor<W> for Subquery {
 
     ghost some = { λ s w _ body ins v. some_subquery s (W.stock w) body ins v };
 
-    ghost more_counts = { λ s w _ body k d ins ins' r e a o h.
-        more_subquery s (W.stock w) body k d ins ins' r e a o h };
+    ghost more_counts = { λ v s w _ body k d ins ins' r e a o h.
+        more_subquery v s (W.stock w) body k d ins ins' r e a o h };
 
     ghost kept_gives = { λ _ _ _ e _ _ _ _ _ h. rw (← e) h };
 
     ghost kept_valid = { λ _ _ _ _ _ _ h. h };
 
-    ghost kept_room = { λ s _ _ _ _ f. le_refl (room_subquery s f) };
+    ghost kept_budget = { λ s _ _ _ _ f. le_refl (budget_subquery s f) };
 
     ghost own_links = { λ _ _ _ _ h. absurd h };
+
+    ghost no_link = { λ _ _ h. absurd h };
 }
 
-impl<W: Place> Unlinked<W> for Subquery {
+impl<W: Surroundings> Unlinked<W> for Subquery {
     fn begun(&self, input: u32) -> bool {
         match input {
             0 => true,

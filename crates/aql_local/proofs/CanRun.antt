@@ -1,17 +1,19 @@
 -- The operators of a plan that can be run are a tree: each of its nodes fits, and it has no fragment. And what
 -- the tally of a run counts.
 use Rattle.std.specs.List.{AllByRecursion}
-use Rattle.std.proofs.Common.{ℕ, ◌≡◌, ◌≤◌, ap, arith}
+use Rattle.std.proofs.Common.{subst, ℕ, ◌≡◌}
 use Rattle.aql_block.specs.declared.tally.Tally.{Tally}
 use Rattle.aql_plan.specs.declared.facts.Facts.{Facts}
 use Rattle.aql_plan.specs.Plan.{Plan, Singleton, Over, Node, Subquery, Collect}
 use Rattle.aql_meaning.specs.Numbered.{IsNumber}
 use Rattle.aql_meaning.specs.declared.grouping.Stage.TheVariants as stage
-use Rattle.aql_plan.specs.Fits.{Fits}
 use Rattle.aql_plan.specs.Variables.{vars_set, set_once}
 use Rattle.aql_plan_laws.specs.laws.Carried.{all_parts}
 use Rattle.aql_plan.specs.Shapes.{Shape, IsOuter, ReadsFragment, ReadsShard, KeepsRowOrder, Shaped, one_row, calculated, with_subquery, plain_rows, ordered_rows, scatter, distribute, remote, lowest, lowest_in_order, other_reading, passing, sorting, gather, gather_in_order, partial, joining, finishing, returning}
-use Rattle.aql_exec.specs.Rests.{Counter, scanned_full, scanned_index, filtered, Counts, counts_of, Rises}
+use Rattle.aql_exec.specs.Rests.{Counter, scanned_full, scanned_index, filtered, Counts, Exact}
+use Rattle.aql_exec.specs.Rising.{Rose, TallyRose, IsExact, Rises}
+use Rattle.aql_exec.specs.declared.surroundings.Surroundings
+use Rattle.aql_engine.specs.Engine.{no_tally, Tallied, OwnCounted}
 use Rattle.aql_exec.specs.Operators.{IsTree}
 use Rattle.aql_engine.specs.EachFits.{EachFits, BodyFits}
 use Rattle.aql_engine.specs.OperatorsOf.{operators_of}
@@ -87,12 +89,28 @@ mutual
 -- ---- counts
 
 -- what a tally that began at nothing counts
-pub counted_from_none : (t t' : Tally) (d : Counts)
-    → t ≡ record { scanned_full = 0; scanned_index = 0; filtered = 0 } → Rises t t' d
-    → (c : Counter) → counts_of t' c ≤ d c
-counted_from_none t t' d e h scanned_full =
-    let n = (h scanned_full).0 in let i = ap (λ (z : Tally). z.scanned_full) e in omega (arith, n, i)
-counted_from_none t t' d e h scanned_index =
-    let n = (h scanned_index).0 in let i = ap (λ (z : Tally). z.scanned_index) e in omega (arith, n, i)
-counted_from_none t t' d e h filtered =
-    let n = (h filtered).0 in let i = ap (λ (z : Tally). z.filtered) e in omega (arith, n, i)
+pub counted_from_none : {W : Type 0} (p : Surroundings.Ghosts W) (e : Exact) (t t' : Tally) (w w' : W) (d : Counts)
+    → t ≡ no_tally → Rises p (IsExact e) t w t' w' d → Tallied e t' d
+counted_from_none p e t t' w w' d k h = record {
+  added = h.added;
+  most = h.most;
+  exact = h.exact;
+  tally = subst (λ (z : Tally). TallyRose z t' (h.added scanned_full) (h.added scanned_index) (h.added filtered))
+      k (h.full, h.index, h.dropped);
+}
+
+-- and the servers count the same
+pub own_from_none : {W : Type 0} (p : Surroundings.Ghosts W) (x : Counter → Type 0) (t t' : Tally) (w w' : W)
+    (d : Counts) → t ≡ no_tally → Rises p x t w t' w' d → OwnCounted (p.counted w) (p.counted w') t'
+own_from_none p x t t' w w' d k h = record {
+  read = h.added scanned_full;
+  found = h.added scanned_index;
+  read_is = (
+    subst (λ (z : Tally). Rose z.scanned_full t'.scanned_full (h.added scanned_full)) k h.full,
+    h.own_full,
+  );
+  found_is = (
+    subst (λ (z : Tally). Rose z.scanned_index t'.scanned_index (h.added scanned_index)) k h.index,
+    h.own_index,
+  );
+}

@@ -1,9 +1,9 @@
 -- The operators of a plan by its top node, its input and its body; and what holds of a body.
-use Rattle.std.proofs.Common.{ℕ, ◌≡◌, ◌≤◌, ◌+◌, Some, None, true, false, refl, sym, ap, ◌∙◌, subst, arith}
+use Rattle.std.proofs.Common.{◌≡◌, ◌≤◌, ◌+◌, Some, None, false, refl, ap, subst, arith}
 use Rattle.aql_plan.specs.declared.facts.Facts.{Facts}
 use Rattle.aql_plan.specs.Nodes.{weight, weight_in, body_in}
 use Rattle.aql_plan.specs.Plan.{Plan, Singleton, Over, Node, Subquery, NoResults, Index, Scatter, Distribute, Remote, Gather, top}
-use Rattle.aql_exec.specs.Operators.{NoRows, OperatorTree, leaf, within}
+use Rattle.aql_exec.specs.Operators.{NoRows, leaf, within}
 use Rattle.aql_engine.specs.EachFits.{EachFits, BodyFits}
 use Rattle.aql_engine.specs.OperatorsOf.{operators_of}
 use Rattle.aql_engine.specs.Runnable.{HasExecutors, HasExecutor}

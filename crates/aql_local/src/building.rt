@@ -204,7 +204,7 @@ fn executor_of(alloc: Global, node: &Node) -> Result<NodeExecutor, OutOfMemory>
     }
 }
 
-// What a traversal is told.
+// What a traversal is set to.
 fn search_of(alloc: Global, node: &Node) -> Result<Search, OutOfMemory>
     requires traversal { IsTraversal (node_tree node.now) }
     ensures { IfOk result (λ s. graph.node_of s ≡ node_tree node.now) }

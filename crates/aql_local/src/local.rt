@@ -1,6 +1,6 @@
 //! The engine that runs plans on this machine.
 
-ghost use Rattle.std.specs.Prelude.{◌≡◌, []};
+ghost use Rattle.std.specs.Prelude.{◌≡◌, ℕ, []};
 
 use crate::plans::run_plan;
 use aql_engine::{Engine, Ran, Rans};
@@ -15,6 +15,8 @@ use std::alloc::Global;
 struct Oldest;
 
 impl Picker for Oldest {
+    ghost picks = { λ _ _ place _. place ≡ 0 };
+
     fn pick(&mut self, _n: u64) -> u64 {
         0
     }

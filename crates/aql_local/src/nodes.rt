@@ -9,7 +9,7 @@ ghost use Rattle.aql_plan.specs.Needs.{sets};
 ghost use Rattle.aql_plan.specs.Plan as plan;
 ghost use Rattle.aql_plan.specs.View.{directions, key_trees};
 ghost use Rattle.aql_exec.specs.Operators.{StartRow, NoRows, OnRows, WithBody};
-ghost use Rattle.aql_exec_rows.specs.CollectSettings.{node_of};
+ghost use Rattle.aql_exec_rows.specs.Settings.{node_of};
 ghost use Rattle.aql_exec_graph.specs.Searches as graph;
 ghost use Rattle.aql_exec_scan.specs.Scans as scans;
 

@@ -4,7 +4,7 @@ ghost use Rattle.std.specs.Prelude.{◌≡◌, ◌≤◌, IfOk};
 ghost use Rattle.aql_plan.specs.View.{plan_tree};
 ghost use Rattle.aql_engine.specs.OperatorsOf.{operators_of};
 ghost use Rattle.aql_shard.specs.Datasets.{stock};
-ghost use Rattle.aql_engine.specs.Engine.{CanRun, IsRunOver};
+ghost use Rattle.aql_engine.specs.Engine.{CanRun, IsRunOver, OwnCounted};
 
 use crate::World;
 use crate::building::{PlanExecutor, tree_of};
@@ -34,6 +34,8 @@ pub fn run_plan<P: Picker>(
     ensures stock { stock servers.new ≡ stock servers.old }
     ensures run { IfOk result (λ ran. (ran.plan ≡ plan) × (ran.batch ≡ batch)
         × IsRunOver (stock servers.old) ran) }
+    ensures counted { IfOk result
+        (λ ran. OwnCounted servers.old.counts servers.new.counts ran.tally) }
 {
     run_with::<NodeExecutor, P>(alloc, plan, servers, picker, batch)
 }
@@ -51,6 +53,8 @@ fn run_with<X: PlanExecutor, P: Picker>(
     ensures stock { stock servers.new ≡ stock servers.old }
     ensures run { IfOk result (λ ran. (ran.plan ≡ plan) × (ran.batch ≡ batch)
         × IsRunOver (stock servers.old) ran) }
+    ensures counted { IfOk result
+        (λ ran. OwnCounted servers.old.counts servers.new.counts ran.tally) }
 {
     let mut tree: Tree<X> = tree_of(alloc, &plan)?;
     let none = split(alloc, Catalog::new(alloc), 0)?;
@@ -76,6 +80,8 @@ fn run_operators<F: Delivers<World>, P: Picker>(
     ensures stock { stock world.new.servers ≡ stock world.old.servers }
     ensures run { IfOk result (λ ran. (ran.plan ≡ plan) × (ran.batch ≡ batch)
         × IsRunOver (stock world.old.servers) ran) }
+    ensures counted { IfOk result
+        (λ ran. OwnCounted world.old.servers.counts world.new.servers.counts ran.tally) }
 {
     let mut tally = Tally::new();
     let start = Row::new(alloc);

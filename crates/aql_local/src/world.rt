@@ -1,14 +1,13 @@
 //! The world that a plan runs in: the servers with their documents, and the messages between them.
 
-ghost use Rattle.std.specs.Prelude.{◌≡◌, ℕ, ◌<◌, ◌≤◌, List, length};
-ghost use Rattle.aql_plan.specs.Runs as documents;
-ghost use Rattle.aql_exec.specs.Links.{Taken};
+ghost use Rattle.std.specs.Prelude.{◌≡◌, ℕ, ◌+◌, ◌<◌, ◌≤◌, ◌++◌, List, [], ◌∷◌, length, vec_capacity};
+ghost use Rattle.aql_exec.specs.Links.{TakenAt};
 ghost use Rattle.aql_shard.specs.Datasets as datasets;
-ghost use Rattle.aql_local.specs.Messages.{messages_on};
+ghost use Rattle.aql_local.specs.Messages.{line_on, queue_of, picks_of, TakesOn};
 
 use crate::{document_of, edges_at};
 use aql_block::Tally;
-use aql_exec::{Delivered, Mail, Message, Place};
+use aql_exec::{Delivered, Mail, Message, Surroundings};
 use aql_exec_graph::{EdgeList, Neighbours};
 use aql_exec_scan::Shelf;
 use aql_shard::Servers;
@@ -23,15 +22,37 @@ struct Sent {
     message: Message,
 }
 
+/// A delivery: which place was picked, among how many messages.
+#[derive(Drop)]
+struct Picked {
+    among: u64,
+    place: u64,
+}
+
+// Appends to a list that has room.
+fn enter(picks: &mut Vec<Picked>, pick: Picked)
+    requires { length picks.old.items < vec_capacity picks.old }
+    ensures items { picks.new.items ≡ picks.old.items ++ pick ∷ [] }
+    ensures capacity { vec_capacity picks.old ≤ vec_capacity picks.new }
+{
+    match picks.push(pick) {
+        Ok(()) => {}
+        Err(_) => unreachable!(),
+    }
+}
+
 /// The links and the messages in flight.
 #[derive(Drop)]
 struct Net {
     links: u64,
     /// oldest first
     flying: Vec<Sent>,
+    /// what was picked so far; there is room for a pick of each message in flight
+    picks: Vec<Picked>,
     /// how many messages may still be delivered
     left: u64,
     ghost covers: { length flying.items ≤ left },
+    ghost room: { length picks.items + length flying.items ≤ vec_capacity picks },
 }
 
 impl Net {
@@ -40,6 +61,7 @@ impl Net {
         Net {
             links: 0,
             flying: Vec::new(alloc),
+            picks: Vec::new(alloc),
             left: u64::MAX,
         }
     }
@@ -48,12 +70,18 @@ impl Net {
     fn take(&mut self, place: u64) -> Delivered
         requires { place < length self.old.flying.items }
         ensures left { self.new.left < self.old.left }
-        ensures taken { (w : documents.Dataset) → Taken w w self.old.links self.new.links
-            (λ l. messages_on l self.old.flying.items) (λ l. messages_on l self.new.flying.items)
+        ensures links { self.new.links ≡ self.old.links }
+        ensures taken { TakenAt place (queue_of self.old.flying.items)
+            (queue_of self.new.flying.items) result.link result.message }
+        ensures on_link { TakesOn self.old.flying.items self.new.flying.items
             result.link result.message }
+        ensures picks { picks_of self.new.picks.items ≡ picks_of self.old.picks.items
+            ++ record { among = length self.old.flying.items; place = place } ∷ [] }
     {
+        let among = self.flying.len() as u64;
         let Sent { link, message } = self.flying.remove(place as usize);
         self.left -= 1;
+        enter(&mut self.picks, Picked { among, place });
         Delivered { link, message }
     }
 }
@@ -85,20 +113,22 @@ impl World {
     }
 }
 
-impl Place for World {
+impl Surroundings for World {
     ghost stock = { λ s. datasets.stock s.servers };
+
+    ghost counted = { λ s. s.servers.counts };
 
     ghost links = { λ s. s.net.links };
 
-    ghost flight = { λ s l. messages_on l s.net.flying.items };
+    ghost flight = { λ s l. line_on l s.net.flying.items };
 
-    ghost left = { λ s. s.net.left };
+    ghost deliveries = { λ s. record { picks = picks_of s.net.picks.items; left = s.net.left } };
 }
 
 impl Mail for World {
     ghost use Rattle.aql_local.specs.Messages.{some_on};
 
-    ghost flying = { λ s. length s.net.flying.items };
+    ghost queue = { λ s. queue_of s.net.flying.items };
 
     fn in_flight(&self) -> u64 {
         self.net.flying.len() as u64
@@ -111,14 +141,23 @@ impl Mail for World {
     ghost some_flies = { λ s l. some_on l s.net.flying.items };
 }
 
-impl Shelf for World {
-    ghost counted = { λ s. s.servers.counts };
+// The counts of servers are numbers of 64 bits.
+fn recall_counts(servers: &Servers)
+    ensures full { servers.now.counts.scanned_full ≤ 18446744073709551615 }
+    ensures index { servers.now.counts.scanned_index ≤ 18446744073709551615 }
+{
+    let counts = servers.counts();
+    let _full = counts.scanned_full;
+    let _index = counts.scanned_index;
+}
 
+impl Shelf for World {
     fn length(&self, coll: CollNo, shard: Option<u32>) -> u64 {
         self.servers.length(coll, shard)
     }
 
     fn full(&mut self, coll: CollNo, shard: Option<u32>, place: u64, tally: &mut Tally) -> &Value {
+        recall_counts(&self.servers);
         self.servers.full(coll, shard, place, tally)
     }
 }
@@ -132,7 +171,9 @@ impl Neighbours for World {
         collections: &CollNos,
         tally: &mut Tally,
     ) -> Result<EdgeList, OutOfMemory> {
-        edges_at(alloc, &mut self.servers, id, direction, collections, tally)
+        recall_counts(&self.servers);
+        let steps = edges_at(alloc, &mut self.servers, id, direction, collections, tally)?;
+        Ok(steps)
     }
 
     fn vertex(
@@ -141,6 +182,8 @@ impl Neighbours for World {
         id: &Text,
         tally: &mut Tally,
     ) -> Result<Value, OutOfMemory> {
-        document_of(alloc, &mut self.servers, id, tally)
+        recall_counts(&self.servers);
+        let document = document_of(alloc, &mut self.servers, id, tally)?;
+        Ok(document)
     }
 }

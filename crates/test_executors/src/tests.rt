@@ -1,3 +1,4 @@
+mod collects;
 mod driving;
 mod leaves;
 mod lists;

@@ -1,10 +1,11 @@
 -- Where a law holds of both executors, it holds of one of them.
-use Rattle.std.specs.Prelude.{◌≡◌, ℕ, ◌+◌, ◌≤◌, ◌<◌, List, [], Bool, true}
+use Rattle.std.specs.Prelude.{◌≡◌, ℕ, ◌≤◌, ◌<◌, [], Bool, true}
 use Rattle.aql_block.specs.declared.calls.Call.{Call}
 use Rattle.aql_exec.specs.declared.feed.Executor.{Ghosts}
-use Rattle.aql_exec.specs.declared.feed.Place
-use Rattle.aql_exec.specs.Rests.{Rest, Counts, Ahead}
+use Rattle.aql_exec.specs.declared.surroundings.Surroundings
+use Rattle.aql_exec.specs.Rests.{Exact, Rest, Counts, Prefixed}
 use Rattle.aql_exec.specs.Operators.{OperatorTree, Operator, ports}
+use Rattle.aql_exec.specs.Reads.{is_unlinked}
 use Rattle.aql_engine.specs.declared.choice.Choice.{Choice}
 use Rattle.aql_engine.specs.declared.choice.Choice.TheVariants.{First, Second}
 use Rattle.aql_engine.specs.Choices.{on, On}
@@ -21,22 +22,24 @@ module _ {A B W : Type 0} (ga : Ghosts A W) (gb : Ghosts B W) where
   choice_some f h (Second b) w p body ins v = h b w p body ins v
 
   abbrev More : {Y : Type 0} → Ghosts Y W → Type 0
-  More {Y} g = (s : Y) (w : W) (p : ℕ) (body : OperatorTree) (k : ℕ) (d : Counts) (ins ins' : ℕ → Rest)
-      (r : Rest) → g.started s k ≡ true → Ahead [] d (ins k) (ins' k)
+  More {Y} g =
+      (v : Exact) (s : Y) (w : W) (p : ℕ) (body : OperatorTree) (k : ℕ) (d : Counts) (ins ins' : ℕ → Rest)
+      (r : Rest) → g.started s k ≡ true → Prefixed v [] d (ins k) (ins' k)
       → ((j : ℕ) → (j ≡ k → ⊥) → ins' j ≡ ins j) → g.gives s w p body ins r
-      → (b : Rest) × Ahead [] d r b × g.gives s w p body ins' b
+      → (b : Rest) × Prefixed v [] d r b × g.gives s w p body ins' b
 
-  pub choice_more : More ga → More gb → (s : Choice A B) (w : W) (p : ℕ) (body : OperatorTree) (k : ℕ)
+  pub choice_more : More ga → More gb
+      → (v : Exact) (s : Choice A B) (w : W) (p : ℕ) (body : OperatorTree) (k : ℕ)
       (d : Counts) (ins ins' : ℕ → Rest) (r : Rest)
-      → on (λ a. ga.started a k) (λ b. gb.started b k) s ≡ true → Ahead [] d (ins k) (ins' k)
+      → on (λ a. ga.started a k) (λ b. gb.started b k) s ≡ true → Prefixed v [] d (ins k) (ins' k)
       → ((j : ℕ) → (j ≡ k → ⊥) → ins' j ≡ ins j)
       → On (λ a. ga.gives a w p body ins r) (λ b. gb.gives b w p body ins r) s
-      → (c : Rest) × Ahead [] d r c
+      → (c : Rest) × Prefixed v [] d r c
       × On (λ a. ga.gives a w p body ins' c) (λ b. gb.gives b w p body ins' c) s
-  choice_more f h (First a) w p body k d ins ins' r e q o g = f a w p body k d ins ins' r e q o g
-  choice_more f h (Second b) w p body k d ins ins' r e q o g = h b w p body k d ins ins' r e q o g
+  choice_more f h v (First a) w p body k d ins ins' r e q o g = f v a w p body k d ins ins' r e q o g
+  choice_more f h v (Second b) w p body k d ins ins' r e q o g = h v b w p body k d ins ins' r e q o g
 
-module _ {A B W : Type 0} (ga : Ghosts A W) (gb : Ghosts B W) (p : Place.Ghosts W) where
+module _ {A B W : Type 0} (ga : Ghosts A W) (gb : Ghosts B W) (p : Surroundings.Ghosts W) where
   abbrev KeptGives : {Y : Type 0} → Ghosts Y W → Type 0
   KeptGives {Y} g = (s : Y) (w w' : W) → p.stock w' ≡ p.stock w
       → ((l : ℕ) → g.ours s l → p.flight w' l ≡ p.flight w l)
@@ -62,15 +65,16 @@ module _ {A B W : Type 0} (ga : Ghosts A W) (gb : Ghosts B W) (p : Place.Ghosts 
   choice_valid f h (First a) w w' e n o v = f a w w' e n o v
   choice_valid f h (Second b) w w' e n o v = h b w w' e n o v
 
-  abbrev KeptRoom : {Y : Type 0} → Ghosts Y W → Type 0
-  KeptRoom {Y} g = (s : Y) (w w' : W) → p.stock w' ≡ p.stock w
-      → ((l : ℕ) → g.ours s l → p.flight w' l ≡ p.flight w l) → (f : ℕ) → g.room s w' f ≤ g.room s w f
+  abbrev KeptBudget : {Y : Type 0} → Ghosts Y W → Type 0
+  KeptBudget {Y} g = (s : Y) (w w' : W) → p.stock w' ≡ p.stock w
+      → ((l : ℕ) → g.ours s l → p.flight w' l ≡ p.flight w l) → (f : ℕ) → g.budget s w' f ≤ g.budget s w f
 
-  pub choice_room : KeptRoom ga → KeptRoom gb → (s : Choice A B) (w w' : W) → p.stock w' ≡ p.stock w
+  pub choice_budget : KeptBudget ga → KeptBudget gb → (s : Choice A B) (w w' : W) → p.stock w' ≡ p.stock w
       → ((l : ℕ) → On (λ a. ga.ours a l) (λ b. gb.ours b l) s → p.flight w' l ≡ p.flight w l) → (f : ℕ)
-      → on (λ a. ga.room a w' f) (λ b. gb.room b w' f) s ≤ on (λ a. ga.room a w f) (λ b. gb.room b w f) s
-  choice_room f h (First a) w w' e o n = f a w w' e o n
-  choice_room f h (Second b) w w' e o n = h b w w' e o n
+      → on (λ a. ga.budget a w' f) (λ b. gb.budget b w' f) s ≤ on (λ a. ga.budget a w f)
+      (λ b. gb.budget b w f) s
+  choice_budget f h (First a) w w' e o n = f a w w' e o n
+  choice_budget f h (Second b) w w' e o n = h b w w' e o n
 
   abbrev OwnLinks : {Y : Type 0} → Ghosts Y W → Type 0
   OwnLinks {Y} g = (s : Y) (w : W) → g.valid s w → (l : ℕ) → g.ours s l → l < p.links w
@@ -80,6 +84,14 @@ module _ {A B W : Type 0} (ga : Ghosts A W) (gb : Ghosts B W) (p : Place.Ghosts 
       → (l : ℕ) → On (λ a. ga.ours a l) (λ b. gb.ours b l) s → l < p.links w
   choice_links f h (First a) w v l o = f a w v l o
   choice_links f h (Second b) w v l o = h b w v l o
+
+  abbrev NoLink : {Y : Type 0} → Ghosts Y W → Type 0
+  NoLink {Y} g = (s : Y) (l : ℕ) → g.ours s l → is_unlinked (g.node s) ≡ true → ⊥
+
+  pub choice_no_link : NoLink ga → NoLink gb → (s : Choice A B) (l : ℕ)
+      → On (λ a. ga.ours a l) (λ b. gb.ours b l) s → is_unlinked (on ga.node gb.node s) ≡ true → ⊥
+  choice_no_link f h (First a) l o = f a l o
+  choice_no_link f h (Second b) l o = h b l o
 
 pub choice_none : {A B : Type 0} (fa : A → ℕ → Type 0) (fb : B → ℕ → Type 0)
     → ((s : A) (l : ℕ) → fa s l → ⊥) → ((s : B) (l : ℕ) → fb s l → ⊥)

@@ -12,7 +12,7 @@ use Rattle.aql_plan.specs.Facts.{shards_in, numbers_below}
 use Rattle.aql_plan.specs.Plan.{Plan, Singleton, Over, Node, EnumerateCollection, Index, EnumerateList, Traversal, Calculation, Subquery, Filter, Sort, Limit, Collect, Return, NoResults, Scatter, Distribute, Remote, Gather}
 use Rattle.aql_plan.specs.Fits.{IsShard, Fits}
 use Rattle.aql_plan.specs.Shapes.{by_keys, Shape, Rows, Foot, Fragment, States, AllStates, Sent, Result, IsOuter, ReadsFragment, ReadsShard, KeepsRowOrder, IsSent, Shaped, one_row, calculated, with_subquery, plain_rows, ordered_rows, scatter, distribute, remote, lowest, lowest_in_order, other_reading, passing, sorting, gather, gather_in_order, partial, joining, finishing, returning, is_inside, HasNoFragment}
-use Rattle.aql_exec.specs.Operators.{OnRows, WithBody, OperatorTree, within, count_of, is_below, IsTree, AreTrees}
+use Rattle.aql_exec.specs.Operators.{OnRows, WithBody, OperatorTree, within, count_of, is_below, ReachesAll, IsTree, AreTrees}
 use Rattle.aql_engine.specs.OperatorsOf.{reading_at, foot, shards_of, each_tree, on_top, operators_at, operators_below, operators_of}
 use Rattle.aql_engine.specs.EachFits.{EachFits, FewShards}
 
@@ -72,6 +72,20 @@ module _ (facts : Facts) where
       ((shard : ℕ) → shard < shards_in facts coll → IsTree facts (operators_at facts (Some shard) p))
       × Fed coll p
 
+  length-numbers_below : (n : ℕ) → length (numbers_below n) ≡ n
+  length-numbers_below zero = refl
+  length-numbers_below (suc n) =
+      let a = length-append (numbers_below n) (n ∷ []) in
+      let b = length-numbers_below n in
+      omega (arith, a, b)
+
+  -- a Distribute reaches all shards
+  reaches_all : (p : Plan) → ReachesAll facts (foot p) (shards_of facts p)
+  reaches_all Singleton = tt
+  reaches_all (Over b (Scatter coll only)) = tt
+  reaches_all (Over b (Distribute coll es)) = length-numbers_below (shards_in facts coll)
+  reaches_all (Over b n) = reaches_all b
+
   gathered : (b : Plan) (coll : ℕ) → OnShards coll b → (directions : List Bool) (es : ExprTrees) → AllPlain es
       → IsTree facts (operators_of facts (Over b (Gather directions es)))
   gathered b coll h directions es plain =
@@ -93,7 +107,7 @@ module _ (facts : Facts) where
           subst (λ (n : ℕ). n < 2 ^ 32) e h.1.3,
           all_trees tree (λ shard. shard < shards_in facts coll) h.0 shards h.1.2,
           (h.1.3, plain),
-          h.1.1,
+          (h.1.1, reaches_all b),
         ),
       )
 
@@ -113,13 +127,6 @@ module _ (facts : Facts) where
   all_below (suc n) =
       all_with (λ k. k < suc n) (numbers_below n) n (below_next n (numbers_below n) (all_below n))
       (omega arith)
-
-  length-numbers_below : (n : ℕ) → length (numbers_below n) ≡ n
-  length-numbers_below zero = refl
-  length-numbers_below (suc n) =
-      let a = length-append (numbers_below n) (n ∷ []) in
-      let b = length-numbers_below n in
-      omega (arith, a, b)
 
   few_below : (n : ℕ) → n < 2 ^ 32 → length (numbers_below n) < 2 ^ 32
   few_below n l = subst (λ (m : ℕ). m < 2 ^ 32) (sym (length-numbers_below n)) l

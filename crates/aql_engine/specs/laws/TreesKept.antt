@@ -1,26 +1,28 @@
 -- What holds of every tree of executors: there is always a rest, and what happens elsewhere in the world
--- keeps its rests, what is true of it, and its room.
-use Rattle.std.specs.Prelude.{ℕ, zero, suc, ◌≡◌, ◌+◌, ◌*◌, ◌<◌, ◌≤◌, [], Bool, true, false, cond, refl}
+-- keeps its rests, what is true of it, and its budget.
+use Rattle.std.specs.Prelude.{ℕ, zero, suc, ◌≡◌, ◌+◌, ◌*◌, ◌<◌, ◌≤◌, Bool, true, false, cond, refl}
 use Rattle.std.proofs.Common.{arith, inl, inr}
 use Rattle.std.proofs.Math.Nat.{le_refl, mul-le-mul_left}
 use Rattle.std.proofs.lemmas.Bool.{false≢true}
 use Rattle.aql_exec.specs.declared.feed.Executor.{Ghosts}
-use Rattle.aql_exec.specs.declared.feed.Place
-use Rattle.aql_exec.specs.Rests.{Rest, Over}
-use Rattle.aql_exec.specs.Operators.{OperatorTree, leaf, StartRow, no_rest}
+use Rattle.aql_exec.specs.declared.surroundings.Surroundings
+use Rattle.aql_exec.specs.Rests.{Exact, Rest, IsOver, Over}
+use Rattle.aql_exec.specs.Operators.{OperatorTree, leaf, StartRow, no_rest, exact_tree}
 use Rattle.aql_engine.specs.declared.tree.Tree.{Tree, Leaf, Sub'}
-use Rattle.aql_engine.specs.Tree.{Flies, tree_plan, TreeRests, TreeOwn, TreeValid, tree_full, tree_room}
+use Rattle.aql_engine.specs.laws.Exactness.{exact_below, exact_body, over_weaker}
+use Rattle.aql_engine.specs.Tree.{Flies, tree_plan, node_exact, TreeRests, TreeOwn, TreeValid, tree_full, tree_budget}
 
 pub cond_more : (b : Bool) (m n c : ℕ) → (b ≡ true → m ≤ n) → c * cond b m 0 ≤ c * cond b n 0
 cond_more true m n c h = let k : m ≤ n = h refl in mul-le-mul_left c k
 cond_more false m n c h = le_refl (c * 0)
 
 -- a rest of an input, one with no rows where it ended
-pub choose : (started ended : Bool) (R : Rest → Type 0) → (started ≡ true → ended ≡ true → Over R)
-    → (started ≡ true → (r : Rest) × R r) → (r : Rest) × (ended ≡ true → r.rows ≡ []) × (started ≡ true → R r)
-choose true true R f s = (let o = s refl in (o.0, λ _. f refl refl o.0 o.1, λ _. o.1))
-choose true false R f s = (let o = s refl in (o.0, λ e. absurd (false≢true e), λ _. o.1))
-choose false ended R f s = (no_rest, λ _. refl, λ e. absurd (false≢true e))
+pub choose : (e : Exact) (started ended : Bool) (R : Rest → Type 0)
+    → (started ≡ true → ended ≡ true → Over e R) → (started ≡ true → (r : Rest) × R r)
+    → (r : Rest) × (ended ≡ true → IsOver e r) × (started ≡ true → R r)
+choose v true true R f s = (let o = s refl in (o.0, λ _. f refl refl o.0 o.1, λ _. o.1))
+choose v true false R f s = (let o = s refl in (o.0, λ e. absurd (false≢true e), λ _. o.1))
+choose v false ended R f s = (no_rest, (λ _. (refl, λ c i. refl)), λ e. absurd (false≢true e))
 
 -- the rests of two inputs
 abbrev pub two : Rest → Rest → ℕ → Rest
@@ -28,27 +30,32 @@ two a b zero = a
 two a b (suc zero) = b
 two a b (suc (suc k)) = no_rest
 
-pub two_end : (a b : Rest) (ended : ℕ → Bool) → (ended 0 ≡ true → a.rows ≡ [])
-    → (ended 1 ≡ true → b.rows ≡ []) → (k : ℕ) → ended k ≡ true → (two a b k).rows ≡ []
-two_end a b ended f g zero e = f e
-two_end a b ended f g (suc zero) e = g e
-two_end a b ended f g (suc (suc k)) e = refl
+pub two_end : (v : Exact) (a b : Rest) (ended : ℕ → Bool) → (ended 0 ≡ true → IsOver v a)
+    → (ended 1 ≡ true → IsOver v b) → (k : ℕ) → ended k ≡ true → IsOver v (two a b k)
+two_end v a b ended f g zero e = f e
+two_end v a b ended f g (suc zero) e = g e
+two_end v a b ended f g (suc (suc k)) e = (refl, λ c i. refl)
 
 pub three : (a b c d e f : ℕ) → a ≤ b → c ≤ d → e ≤ f → (a + c) + e ≤ (b + d) + f
 three a b c d e f h i j = omega arith
 
-module _ {X W : Type 0} (g : Ghosts X W) (p : Place.Ghosts W) where
+module _ {X W : Type 0} (g : Ghosts X W) (p : Surroundings.Ghosts W) where
   pub tree_some : ((s : X) (w : W) (k : ℕ) (plan : OperatorTree) (ins : ℕ → Rest) → g.valid s w
       → (r : Rest) × g.gives s w k plan ins r)
       → (t : Tree X) (w : W) → TreeValid g p t w → (r : Rest) × TreeRests g p t w r
   tree_some some (Leaf x) w h = some x w 0 (leaf StartRow) (λ k. no_rest) h.0
   tree_some some (Sub' x q below s body) w h =
-      let a = choose (g.started x 0) (g.ended x 0) (TreeRests g p below w) h.below_is.none_left
+      let v = node_exact g p x below body in
+      let a = choose v (g.started x 0) (g.ended x 0) (TreeRests g p below w)
+      (λ s e r q. over_weaker v (exact_tree (tree_plan g p below)) r
+      (exact_below (g.node x) (tree_plan g p below) (tree_plan g p body)) (h.below_is.none_left s e r q))
       (λ b. tree_some some below w (h.below_is.input_valid b)) in
-      let b = choose (g.started x 1) (g.ended x 1) (TreeRests g p body w) h.body_is.none_left
+      let b = choose v (g.started x 1) (g.ended x 1) (TreeRests g p body w)
+      (λ s e r q. over_weaker v (exact_tree (tree_plan g p body)) r
+      (exact_body (g.node x) (tree_plan g p below) (tree_plan g p body)) (h.body_is.none_left s e r q))
       (λ b. tree_some some body w (h.body_is.input_valid b)) in
       let o = some x w 0 (tree_plan g p body) (two a.0 b.0) h.executor_valid in
-      (o.0, (two a.0 b.0, two_end a.0 b.0 (g.ended x) a.1 b.1, a.2 h.begun_is, b.2, o.1))
+      (o.0, (two a.0 b.0, two_end v a.0 b.0 (g.ended x) a.1 b.1, a.2 h.begun_is, b.2, o.1))
 
   abbrev pub KeptGives : Type 0
   KeptGives =
@@ -105,7 +112,7 @@ module _ {X W : Type 0} (g : Ghosts X W) (p : Place.Ghosts W) where
           in (o.0, o.1, o.2, flies_kept w w' o.1 (f o.1 (inr (inr (o.0, o.2)))) o.3));
     };
     begun_is = h.begun_is;
-    none_owed = h.none_owed;
+    none_unreported = h.none_unreported;
     none_waits = h.none_waits;
     idle = h.idle;
     from_below = h.from_below;
@@ -113,21 +120,22 @@ module _ {X W : Type 0} (g : Ghosts X W) (p : Place.Ghosts W) where
     between = h.between;
   }
 
-  abbrev pub KeptRoom : Type 0
-  KeptRoom =
+  abbrev pub KeptBudget : Type 0
+  KeptBudget =
       (s : X) (w w' : W) → p.stock w' ≡ p.stock w → ((l : ℕ) → g.ours s l → p.flight w' l ≡ p.flight w l)
-      → (f : ℕ) → g.room s w' f ≤ g.room s w f
+      → (f : ℕ) → g.budget s w' f ≤ g.budget s w f
 
-  pub tree_kept_room : KeptRoom → (t : Tree X) (w w' : W) → p.stock w' ≡ p.stock w
-      → ((l : ℕ) → TreeOwn g p t l → p.flight w' l ≡ p.flight w l) → tree_room g p t w' ≤ tree_room g p t w
-  tree_kept_room k (Leaf x) w w' e f = k x w w' e f 0
-  tree_kept_room k (Sub' x q below s body) w w' e f =
+  pub tree_kept_budget : KeptBudget → (t : Tree X) (w w' : W) → p.stock w' ≡ p.stock w
+      → ((l : ℕ) → TreeOwn g p t l → p.flight w' l ≡ p.flight w l)
+      → tree_budget g p t w' ≤ tree_budget g p t w
+  tree_kept_budget k (Leaf x) w w' e f = k x w w' e f 0
+  tree_kept_budget k (Sub' x q below s body) w w' e f =
       let a = k x w w' e (λ l o. f l (inl o)) (tree_full g p body) in
-      let b = tree_kept_room k below w w' e (λ l o. f l (inr (inl o))) in
-      let c = cond_more (g.started x 1) (tree_room g p body w') (tree_room g p body w)
-      (g.charge x 1 (tree_full g p body))
-      (λ t. tree_kept_room k body w w' e (λ l o. f l (inr (inr (t, o))))) in
-      three _ _ _ _ _ _ a (mul-le-mul_left (g.charge x 0 (tree_full g p body)) b) c
+      let b = tree_kept_budget k below w w' e (λ l o. f l (inr (inl o))) in
+      let c = cond_more (g.started x 1) (tree_budget g p body w') (tree_budget g p body w)
+      (g.row_cost x 1 (tree_full g p body))
+      (λ t. tree_kept_budget k body w w' e (λ l o. f l (inr (inr (t, o))))) in
+      three _ _ _ _ _ _ a (mul-le-mul_left (g.row_cost x 0 (tree_full g p body)) b) c
 
   abbrev pub OwnLinks : Type 0
   OwnLinks = (s : X) (w : W) → g.valid s w → (l : ℕ) → g.ours s l → l < p.links w

@@ -4,14 +4,14 @@ use Rattle.std.proofs.lemmas.List.{take-append-drop, map-append, length-map}
 use Rattle.aql_value.specs.Datum.{Datum}
 use Rattle.aql_value.specs.Contents.{same, is_in}
 use Rattle.aql_tree.specs.Tree.{ExprTree}
-use Rattle.aql_func.specs.Lists.{firsts, add, add_all}
+use Rattle.aql_func.specs.Lists.{firsts, add_all}
 use Rattle.aql_func.specs.laws.Firsts.{same_is, same_flip}
 use Rattle.aql_meaning.specs.Row.{Row}
 use Rattle.aql_meaning.specs.AtRows.{value_of, values_of}
 use Rattle.aql_plan.specs.Plan as plan
 use Rattle.aql_plan.specs.Runs.{Dataset, result_row}
-use Rattle.aql_exec.specs.Rests.{Counter, Rest, Ahead}
-use Rattle.aql_exec.specs.Counting.{GivesCounting, nothing}
+use Rattle.aql_exec.specs.Rests.{sent_on, Rest, Prefixed, all_exact}
+use Rattle.aql_exec.specs.Counting.{GivesCounting, NoneSent, nothing}
 use Rattle.aql_exec.specs.FirstResults.{unseen, results_of, shown, seen_after, left_results}
 
 -- ---- values that weren't seen
@@ -131,8 +131,10 @@ results_append e seen held rows =
 
 -- a RETURN DISTINCT that holds no rows and saw no values gives what its node gives
 pub returns_firsts : (e : ExprTree) (w : Dataset) (start : Row) (rows : List Row) (r : Rest)
-    → left_results e true [] [] rows r → GivesCounting (plan.Return true e) w start rows r.rows r.counts
-returns_firsts e w start rows r h = (h.0 ∙ ap (map result_row) (none_seen (values_of e rows)), h.1)
+    → left_results e true [] [] rows r
+    → NoneSent r.counts × GivesCounting (plan.Return true e) w start rows r.rows r.counts
+returns_firsts e w start rows r h =
+    (λ l. h.1 (sent_on l), (h.0 ∙ ap (map result_row) (none_seen (values_of e rows)), h.1))
 
 -- a block that is put in stands before the rows to come
 pub put_results : (e : ExprTree) (made : Bool) (seen : List Datum) (held block rows : List Row) (r : Rest)
@@ -147,7 +149,7 @@ pub front_results : (e : ExprTree) (made : Bool) (most : ℕ) (seen after : List
     (held rows front rest : List Row) (r : Rest)
     → front ≡ take most (shown e made seen held) → rest ≡ drop most (shown e made seen held)
     → after ≡ seen_after e made seen held → left_results e true after rest rows r
-    → (b : Rest) × Ahead front nothing r b × left_results e made seen held rows b
+    → (b : Rest) × Prefixed all_exact front nothing r b × left_results e made seen held rows b
 front_results e made most seen after held rows front rest r f g a h =
     let kept = shown e made seen held in
     let coming = results_of e (seen_after e made seen held) rows in
@@ -156,7 +158,11 @@ front_results e made most seen after held rows front rest r f g a h =
     ∙ ap (λ z. front ++ z) (sym g)) ∙ append_assoc front rest coming
     ∙ ap (λ z. front ++ z) (sym (h.0 ∙ ap (λ s. rest ++ results_of e s rows) a)) in (
       record { rows = kept ++ coming; counts = nothing },
-      record { rows = all; counts = λ c. (let k = h.1 c in omega (arith, k)) },
+      record {
+        rows = all;
+        counts = λ c. (let k = h.1 c in omega (arith, k));
+        exact = λ c i. omega arith;
+      },
       (refl, λ c. refl),
     )
 

@@ -20,7 +20,7 @@ use Rattle.aql_plan.specs.Plan.{Reading, Node, EnumerateCollection, Index, Trave
 use Rattle.aql_plan.specs.Runs.{Dataset, Outside, Indexed, read, read_in_bounds, edges_in}
 use Rattle.aql_plan.specs.laws.SomeRun.{some_given}
 use Rattle.aql_exec.specs.Rests.{Counts}
-use Rattle.aql_exec.specs.Counting.{counts, nothing, size_of_all, traversal_counts, GivesCounting}
+use Rattle.aql_exec.specs.Counting.{counts, nothing, size_of_all, traversal_counts, NoneSent, GivesCounting}
 
 -- ---- how many rows a node can give
 
@@ -119,7 +119,7 @@ same_length : (out kept : List Row) (n : ℕ) → out ≡ kept → length kept �
 same_length out kept n e l = rw e l
 
 pub some_counting : (n : Node) (w : Dataset) (start : Row) (rows : List Row)
-    → (out : List Row) × (d : Counts) × GivesCounting n w start rows out d
+    → (out : List Row) × (d : Counts) × GivesCounting n w start rows out d × NoneSent d
 some_counting (EnumerateCollection x) w start rows =
     let o = some_given (EnumerateCollection x) w Outside start rows in
     let size = size_of_all (λ row. read w x.coll x.shard Outside) rows in (
@@ -133,6 +133,7 @@ some_counting (EnumerateCollection x) w start rows =
             (scanned_length x.var (passes x.filter) x.attrs
             (λ row. read w x.coll x.shard Outside) rows o.0 o.1),
       ),
+      λ l. refl,
     )
 some_counting (Index x index equal last ordered) w start rows =
     let o = some_given (Index x index equal last ordered) w Outside start rows in
@@ -146,6 +147,7 @@ some_counting (Index x index equal last ordered) w start rows =
         rest_of _ _
             (indexed_length w x index equal last ordered rows o.0 o.1),
       ),
+      λ l. refl,
     )
 some_counting (Traversal shape e colls prune keep) w start rows =
     let o = some_traversal w.db shape (edges_in w.db colls) (stops prune) rows (values_of e rows) in
@@ -153,6 +155,7 @@ some_counting (Traversal shape e colls prune keep) w start rows =
       out,
       counts 0 (traversal_counts w shape (edges_in w.db colls) prune rows o.1.0) (length o.0 - length out),
       (o.1.0, o.0, o.1.1, o.1.2, refl, refl, refl, rest_of _ _ (filter_length (passes keep) o.0)),
+      λ l. refl,
     )
 some_counting (Filter e) w start rows =
     let o = some_given (Filter e) w Outside start rows in (
@@ -165,6 +168,7 @@ some_counting (Filter e) w start rows =
         rest_of _ _
             (same_length o.0 _ _ o.1 (true_length rows (values_of e rows))),
       ),
+      λ l. refl,
     )
 some_counting n w start rows =
-    let o = some_given n w Outside start rows in (o.0, nothing, (o.1, λ c. refl))
+    let o = some_given n w Outside start rows in (o.0, nothing, (o.1, λ c. refl), λ l. refl)

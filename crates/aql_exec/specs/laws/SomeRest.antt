@@ -8,7 +8,7 @@ use Rattle.aql_meaning.specs.Row.{Row, bind}
 use Rattle.aql_plan.specs.Plan.{Node}
 use Rattle.aql_plan.specs.Runs.{Dataset, result_of}
 use Rattle.aql_exec.specs.Rests.{Counts, Rest}
-use Rattle.aql_exec.specs.Operators.{Operator, StartRow, NoRows, ShardRows, OnRows, WithBody, Remote, Scatter, Gather, Shards, OperatorTree, leaf, over, within, OperatorTrees, no_trees, tree_then, no_rest, one_row, EachRow, rows_for, AtPort, AtEnd, counted, count_of, Makes, Fragments, ProducesOver, Produces}
+use Rattle.aql_exec.specs.Operators.{Operator, StartRow, NoRows, ShardRows, OnRows, WithBody, Remote, Scatter, Gather, Shards, OperatorTree, leaf, over, within, OperatorTrees, no_trees, tree_then, no_rest, one_row, EachRow, rows_for, AtPort, carried, AtEnd, counted, count_of, Makes, Fragments, ProducesOver, Produces}
 use Rattle.aql_exec.specs.laws.SomeCounting.{some_counting}
 use Rattle.aql_exec.specs.laws.SomeMerge.{some_merge}
 
@@ -29,8 +29,14 @@ pub some_row : (row : Row) → (r : Rest) × one_row row r
 some_row row = (record { rows = row ∷ []; counts = λ c. 0 }, (refl, λ c. refl))
 
 some_end : (p : ℕ) (ins : Rest) → (r : Rest) × AtEnd p ins r
-some_end zero ins = (ins, (refl, λ c. refl))
-some_end (suc p) ins = (record { rows = []; counts = ins.counts }, (refl, λ c. refl))
+some_end zero ins = (
+  record { rows = ins.rows; counts = λ c. ins.counts c + carried 0 (length ins.rows) c },
+  (refl, 0, λ c. refl),
+)
+some_end (suc p) ins = (
+  record { rows = []; counts = λ c. ins.counts c + carried 0 (length ins.rows) c },
+  (refl, 0, λ c. refl),
+)
 
 no_both : {p n : ℕ} → p < n → p ≡ n → ⊥
 no_both h e = absurd (omega (arith, h, e))
@@ -60,7 +66,7 @@ mutual
   some_made ShardRows w came row p body f ins = (record { rows = came; counts = λ c. 0 }, (refl, λ c. refl))
   some_made (OnRows n) w came row p body f ins =
       let o = some_counting n w row (ins 0).rows in
-      (record { rows = o.0; counts = λ c. (ins 0).counts c + o.1 c }, (o.1, o.2, λ c. refl))
+      (record { rows = o.0; counts = λ c. (ins 0).counts c + o.1 c }, (o.1, o.2, o.3, λ c. refl))
   some_made (WithBody x) w came row p body f ins =
       let o = some_each body f x (ins 0).rows in
       (record { rows = o.0; counts = λ c. (ins 0).counts c + o.1 c }, (o.1, o.2, λ c. refl))

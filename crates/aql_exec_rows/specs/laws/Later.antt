@@ -1,6 +1,6 @@
 -- What one accumulator keeps of two lists of members: whatever members come later, both lists have the same
 -- aggregate.
-use Rattle.std.proofs.Common.{◌≡◌, ℕ, ◌+◌, ◌<◌, ◌≤◌, ◌^◌, ◌⊎◌, inl, inr, List, [], ◌∷◌, ◌++◌, length, Bool, true, false, cond, ◌||◌, Option, Some, None, unwrap_or, refl, sym, ap, ◌∙◌, subst, append_assoc, length-append, arith, true≢false}
+use Rattle.std.proofs.Common.{◌≡◌, ℕ, ◌+◌, ◌<◌, ◌≤◌, ◌^◌, ◌⊎◌, inl, inr, List, [], ◌∷◌, ◌++◌, length, Bool, true, false, cond, ◌||◌, Option, Some, None, unwrap_or, refl, sym, ap, ◌∙◌, append_assoc, length-append, arith, true≢false}
 use Rattle.std.specs.Prelude.{ℤ, pos, nat_lt, ◌+ℤ◌, is_some}
 use Rattle.std.specs.List.{list_any}
 use Rattle.std.proofs.lemmas.Int.{ints}
@@ -8,7 +8,6 @@ use Rattle.std.proofs.lemmas.List.{append-nil}
 use Rattle.aql_value.specs.Datum.{Datum, null, number}
 use Rattle.aql_value.specs.Contents.{list}
 use Rattle.aql_value.specs.Convert.{in_range, number_or_null, to_number}
-use Rattle.aql_value.specs.View.{datums_in}
 use Rattle.aql_func.specs.Lists.{firsts, add, sort_values}
 use Rattle.aql_func.specs.Aggregates.{Aggregate, count, sum, min, max, sorted_unique, count_distinct, aggregate, count_of, sum_of, exact_sum, is_null, is_bad, best, lesser, greater}
 use Rattle.aql_func.specs.laws.Firsts.{firsts_push}

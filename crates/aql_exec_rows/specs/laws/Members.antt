@@ -18,7 +18,7 @@ use Rattle.aql_meaning.specs.Visible.{functions_by}
 use Rattle.aql_meaning.specs.Stages.{stage_functions}
 use Rattle.aql_aggregate.specs.declared.staged.StagedKind.{StagedKind}
 use Rattle.aql_aggregate.specs.Staged.{Staged, staged, made_in, made}
-use Rattle.aql_exec_rows.specs.CollectSettings.{criteria_vars, aggregate_trees, in_stage, AreKinds}
+use Rattle.aql_exec_rows.specs.Settings.{criteria_vars, aggregate_trees, in_stage, AreKinds}
 use Rattle.aql_exec_rows.specs.GroupStates.{key_of, members_of, keys_seen, functions_of}
 use Rattle.aql_exec_rows.specs.declared.grouping.Grouping.{Grouping}
 

@@ -12,7 +12,7 @@ use Rattle.aql_meaning.specs.Row.{Row, bind}
 use Rattle.aql_meaning.specs.Clauses.{with_values}
 use Rattle.aql_plan.specs.Runs.{Dataset, result_of}
 use Rattle.aql_block.specs.Tables.{rows_of}
-use Rattle.aql_exec.specs.Rests.{Counts, Rest, Ahead}
+use Rattle.aql_exec.specs.Rests.{Counts, Rest, Prefixed, Exact}
 use Rattle.aql_exec.specs.Operators.{OperatorTree, Produces}
 use Rattle.aql_exec.specs.laws.SomeRest.{some_each, some_rest}
 use Rattle.aql_exec_rows.specs.declared.subquery.Subquery.{Subquery}
@@ -49,12 +49,16 @@ some_subquery s w body ins v =
 
 module _ (inside begun : Bool) (body : Row → Rest → Type 0) (x : Ident) (held : List Row)
     (values results : List Datum) where
-  more_below : (below other more r : Rest) (d : Counts) → Ahead [] d below other
+  more_below : {v : Exact} (below other more r : Rest) (d : Counts) → Prefixed v [] d below other
       → Leaves inside begun body x held values results below more r
-      → (b : Rest) × Ahead [] d r b × Leaves inside begun body x held values results other more b
+      → (b : Rest) × Prefixed v [] d r b × Leaves inside begun body x held values results other more b
   more_below below other more r d a h = (
     record { rows = r.rows; counts = λ c. other.counts c + (cond begun (more.counts c) 0 + h.1 c) },
-    record { rows = refl; counts = λ c. (let m = a.counts c in let n = h.4 c in omega (arith, m, n)) },
+    record {
+      rows = refl;
+      counts = λ c. (let m = a.counts c in let n = h.4 c in omega (arith, m, n));
+      exact = λ c y. (let m = a.exact c y in let n = h.4 c in omega (arith, m, n));
+    },
     (
       h.0,
       h.1,
@@ -70,15 +74,22 @@ module _ (inside begun : Bool) (body : Row → Rest → Type 0) (x : Ident) (hel
   counts_more true below more other own d after e m n = omega (arith, m, n)
   counts_more false below more other own d after e m n = absurd (false≢true e)
 
-  more_body : (below more other r : Rest) (d : Counts) → begun ≡ true → Ahead [] d more other
+  counts_exact : (begun : Bool) (below more other own d after : ℕ) → begun ≡ true → other ≤ more + d
+      → after ≡ below + (cond begun more 0 + own) → below + (cond begun other 0 + own) ≤ after + d
+  counts_exact true below more other own d after e m n = omega (arith, m, n)
+  counts_exact false below more other own d after e m n = absurd (false≢true e)
+
+  more_body : {v : Exact} (below more other r : Rest) (d : Counts) → begun ≡ true → Prefixed v [] d more other
       → Leaves inside begun body x held values results below more r
-      → (b : Rest) × Ahead [] d r b × Leaves inside begun body x held values results below other b
+      → (b : Rest) × Prefixed v [] d r b × Leaves inside begun body x held values results below other b
   more_body below more other r d e a h = (
     record { rows = r.rows; counts = λ c. below.counts c + (cond begun (other.counts c) 0 + h.1 c) },
     record {
       rows = refl;
       counts = λ c. counts_more begun (below.counts c) (more.counts c) (other.counts c) (h.1 c) (d c)
           (r.counts c) e (a.counts c) (h.4 c);
+      exact = λ c y. counts_exact begun (below.counts c) (more.counts c) (other.counts c) (h.1 c) (d c)
+          (r.counts c) e (a.exact c y) (h.4 c);
     },
     (
       h.0,
@@ -96,11 +107,11 @@ one_not e = absurd (omega (arith, e))
 pub not_one : ◌≡◌ {A = ℕ} 0 1 → ⊥
 not_one e = absurd (omega (arith, e))
 
-pub more_subquery : (s : Subquery) (w : Dataset) (body : OperatorTree) (k : ℕ) (d : Counts)
-    (ins ins' : ℕ → Rest) (r : Rest) → started_subquery s k ≡ true → Ahead [] d (ins k) (ins' k)
+pub more_subquery : (v : Exact) (s : Subquery) (w : Dataset) (body : OperatorTree) (k : ℕ) (d : Counts)
+    (ins ins' : ℕ → Rest) (r : Rest) → started_subquery s k ≡ true → Prefixed v [] d (ins k) (ins' k)
     → ((j : ℕ) → (j ≡ k → ⊥) → ins' j ≡ ins j) → gives_subquery s w body ins r
-    → (b : Rest) × Ahead [] d r b × gives_subquery s w body ins' b
-more_subquery s w body zero d ins ins' r e a o h =
+    → (b : Rest) × Prefixed v [] d r b × gives_subquery s w body ins' b
+more_subquery v s w body zero d ins ins' r e a o h =
     let m = more_below s.inside s.begun (Produces body w) (Num s.var) (rows_of s.held)
     (datums_in s.values.items) s.results (ins 0) (ins' 0) (ins 1) r d a h in (
       m.0,
@@ -108,7 +119,7 @@ more_subquery s w body zero d ins ins' r e a o h =
       subst (λ z. Leaves s.inside s.begun (Produces body w) (Num s.var) (rows_of s.held)
           (datums_in s.values.items) s.results (ins' 0) z m.0) (sym (o 1 one_not)) m.2,
     )
-more_subquery s w body (suc zero) d ins ins' r e a o h =
+more_subquery v s w body (suc zero) d ins ins' r e a o h =
     let m = more_body s.inside s.begun (Produces body w) (Num s.var) (rows_of s.held)
     (datums_in s.values.items) s.results (ins 0) (ins 1) (ins' 1) r d e a h in (
       m.0,
@@ -116,4 +127,4 @@ more_subquery s w body (suc zero) d ins ins' r e a o h =
       subst (λ z. Leaves s.inside s.begun (Produces body w) (Num s.var) (rows_of s.held)
           (datums_in s.values.items) s.results z (ins' 1) m.0) (sym (o 0 not_one)) m.2,
     )
-more_subquery s w body (suc (suc k)) d ins ins' r e a o h = absurd (false≢true e)
+more_subquery v s w body (suc (suc k)) d ins ins' r e a o h = absurd (false≢true e)

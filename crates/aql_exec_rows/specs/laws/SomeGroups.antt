@@ -21,12 +21,12 @@ use Rattle.aql_meaning.specs.Visible.{aggregate_vars, into_var}
 use Rattle.aql_meaning.specs.Stages.{stage_functions}
 use Rattle.aql_meaning.specs.laws.SomeAnswer.{some_collect as some_collects}
 use Rattle.aql_block.specs.Rows.{row_of}
-use Rattle.aql_exec.specs.Rests.{Counts, Rest, Ahead}
+use Rattle.aql_exec.specs.Rests.{Counts, Rest, Prefixed, Exact}
 use Rattle.aql_exec.specs.Operators.{is_first}
 use Rattle.aql_aggregate.specs.declared.staged.StagedKind.{StagedKind}
 use Rattle.aql_aggregate.specs.declared.staged.StagedAccumulator.{StagedAccumulator}
 use Rattle.aql_aggregate.specs.Staged.{Staged, staged, made, KeepsIn}
-use Rattle.aql_exec_rows.specs.CollectSettings.{criteria_vars, aggregate_trees, into_of, AreKinds}
+use Rattle.aql_exec_rows.specs.Settings.{criteria_vars, aggregate_trees, into_of, AreKinds}
 use Rattle.aql_exec_rows.specs.GroupStates.{seen, arguments_of, into_values_of, IsGroup, key_of, members_of, keys_seen, AreGroups, Holds, functions_of, finished_in}
 use Rattle.aql_exec_rows.specs.Framed.{framed}
 use Rattle.aql_exec_rows.specs.Collecting.{CollectsBy, GivesOver, Leaves, gives_collect, CollectIs}
@@ -224,16 +224,21 @@ some_collect s ins v = by s.done refl
           ),
         )
 
-pub more_collect : (s : Collect) (k : ℕ) (d : Counts) (ins ins' : ℕ → Rest) (r : Rest) → is_first k ≡ true
-    → Ahead [] d (ins k) (ins' k) → ((j : ℕ) → (j ≡ k → ⊥) → ins' j ≡ ins j) → gives_collect s ins r
-    → (b : Rest) × Ahead [] d r b × gives_collect s ins' b
-more_collect s zero d ins ins' r e a o h = (
+pub more_collect : (v : Exact) (s : Collect) (k : ℕ) (d : Counts) (ins ins' : ℕ → Rest) (r : Rest)
+    → is_first k ≡ true
+    → Prefixed v [] d (ins k) (ins' k) → ((j : ℕ) → (j ≡ k → ⊥) → ins' j ≡ ins j) → gives_collect s ins r
+    → (b : Rest) × Prefixed v [] d r b × gives_collect s ins' b
+more_collect v s zero d ins ins' r e a o h = (
   record { rows = r.rows; counts = (ins' 0).counts },
-  record { rows = refl; counts = λ c. (let m = a.counts c in let n = h.1 c in omega (arith, m, n)) },
+  record {
+    rows = refl;
+    counts = λ c. (let m = a.counts c in let n = h.1 c in omega (arith, m, n));
+    exact = λ c y. (let m = a.exact c y in let n = h.1 c in omega (arith, m, n));
+  },
   (
     subst (λ rows. Leaves s.done s.grouping s.kinds.items s.groups s.frame s.finished.items rows r.rows)
         (sym a.rows) h.0,
     λ c. refl,
   ),
 )
-more_collect s (suc k) d ins ins' r e a o h = absurd (false≢true e)
+more_collect v s (suc k) d ins ins' r e a o h = absurd (false≢true e)

@@ -8,7 +8,7 @@ ghost use Rattle.aql_exec.specs.Steps.{IsCall, InCall, Follows, given};
 use crate::tests::rows::add_values;
 use crate::tests::sources::Source;
 use aql_block::{Call, Progress, Row, Step, Tally};
-use aql_exec::{Executor, Place, Turn};
+use aql_exec::{Executor, Surroundings, Turn};
 use aql_value::{Items, OutOfMemory, Value};
 use std::alloc::Global;
 
@@ -27,7 +27,7 @@ fn numbers_below(alloc: Global, row: &Row) -> Result<Vec<i64>, OutOfMemory> {
 }
 
 // Turns an executor until it answers a call; `None` where it did not answer.
-fn answer<W: Place, X: Executor<W>>(
+fn answer<W: Surroundings, X: Executor<W>>(
     alloc: Global,
     x: &mut X,
     below: &mut Source,
@@ -56,10 +56,10 @@ fn answer<W: Place, X: Executor<W>>(
                 call: ask,
             } => {
                 if at == 0 {
-                    let step = below.step(alloc, ask)?;
+                    let step = below.step(alloc, ask, tally)?;
                     x.take(alloc, 0, at, step)?;
                 } else {
-                    let step = body.step(alloc, ask)?;
+                    let step = body.step(alloc, ask, tally)?;
                     x.take(alloc, 0, at, step)?;
                 }
             }
@@ -86,7 +86,7 @@ fn start(alloc: Global) -> Result<Row, OutOfMemory> {
 
 // Takes all rows that an executor gives, in steps of at most `batch`, where so many are skipped
 // first.
-pub fn run<W: Place, X: Executor<W>>(
+pub fn run<W: Surroundings, X: Executor<W>>(
     alloc: Global,
     x: &mut X,
     below: &mut Source,

@@ -2,19 +2,19 @@
 
 ghost use Rattle.std.specs.Prelude.{◌≤◌};
 
-use crate::tests::driving::run;
-use crate::tests::rows::{expect, is_json, numbers};
+use crate::tests::driving::{Ran, run};
+use crate::tests::rows::{expect, is_counted, numbers};
 use crate::tests::sources::{Source, Still};
 use aql_exec::{NoResults, Singleton};
-use aql_value::{Items, OutOfMemory};
+use aql_value::OutOfMemory;
 use std::alloc::Global;
 
-pub fn start(alloc: Global, offset: u64, batch: u64) -> Result<Items, OutOfMemory>
+pub fn start(alloc: Global, offset: u64, batch: u64) -> Result<Ran, OutOfMemory>
     requires { (1 ≤ batch) × (batch ≤ 10000) }
 {
     let mut below = Source::new(1, numbers(alloc, &[])?, false);
     let mut world = Still::new(alloc);
-    let ran = run(
+    run(
         alloc,
         &mut Singleton::new(),
         &mut below,
@@ -22,16 +22,15 @@ pub fn start(alloc: Global, offset: u64, batch: u64) -> Result<Items, OutOfMemor
         offset,
         batch,
         1,
-    )?;
-    Ok(ran.values)
+    )
 }
 
-pub fn nothing(alloc: Global, offset: u64, batch: u64) -> Result<Items, OutOfMemory>
+pub fn nothing(alloc: Global, offset: u64, batch: u64) -> Result<Ran, OutOfMemory>
     requires { (1 ≤ batch) × (batch ≤ 10000) }
 {
     let mut below = Source::new(1, numbers(alloc, &[4, 5])?, false);
     let mut world = Still::new(alloc);
-    let ran = run(
+    run(
         alloc,
         &mut NoResults,
         &mut below,
@@ -39,27 +38,20 @@ pub fn nothing(alloc: Global, offset: u64, batch: u64) -> Result<Items, OutOfMem
         offset,
         batch,
         1,
-    )?;
-    Ok(ran.values)
+    )
 }
 
+// They count nothing, and ask for nothing.
 #[test]
 fn ends(rt: HostRuntime) {
     let alloc = rt.alloc();
     for (offset, want) in [(0, "[8]"), (1, "[]"), (5, "[]")] {
         for batch in [1, 1000] {
-            expect(
-                &rt,
-                is_json(alloc, start(alloc, offset, batch), want),
-                want,
-                batch,
-            );
-            expect(
-                &rt,
-                is_json(alloc, nothing(alloc, offset, batch), "[]"),
-                "no row",
-                batch,
-            );
+            let start = start(alloc, offset, batch);
+            expect(&rt, is_counted(alloc, start, want, 0, 0, 0), want, batch);
+            let nothing = nothing(alloc, offset, batch);
+            let is_given = is_counted(alloc, nothing, "[]", 0, 0, 0);
+            expect(&rt, is_given, "no row", batch);
         }
     }
 }

@@ -4,13 +4,13 @@ ghost use Rattle.std.specs.Prelude.{◌≤◌, IfOk};
 ghost use Rattle.aql_plan.specs.declared.facts.Facts.{Facts};
 ghost use Rattle.aql_exec.specs.Operators.{IsOperator};
 
-use crate::tests::driving::run;
-use crate::tests::rows::{expect, is_json, numbers};
+use crate::tests::driving::{Ran, run};
+use crate::tests::rows::{expect, is_counted, numbers};
 use crate::tests::sources::{Source, Still};
 use aql_exec::{Executor, Stream};
 use aql_exec_scan::{Elements, EnumerateList};
 use aql_tree::{Expr, Exprs, Ident};
-use aql_value::{Items, OutOfMemory, Value};
+use aql_value::{OutOfMemory, Value};
 use std::alloc::Global;
 
 fn each(alloc: Global) -> Result<EnumerateList, OutOfMemory>
@@ -23,20 +23,19 @@ fn each(alloc: Global) -> Result<EnumerateList, OutOfMemory>
     Ok(Stream::new(Elements::new(alloc, 2, Expr::List(items))))
 }
 
-pub fn gives(
+pub fn ran(
     alloc: Global,
     input: &[i64],
     offset: u64,
     batch: u64,
     waits: bool,
-) -> Result<Items, OutOfMemory>
+) -> Result<Ran, OutOfMemory>
     requires { (1 ≤ batch) × (batch ≤ 10000) }
 {
     let mut each = each(alloc)?;
     let mut below = Source::new(1, numbers(alloc, input)?, waits);
     let mut world = Still::new(alloc);
-    let ran = run(alloc, &mut each, &mut below, &mut world, offset, batch, 2)?;
-    Ok(ran.values)
+    run(alloc, &mut each, &mut below, &mut world, offset, batch, 2)
 }
 
 static CASES: [(&[i64], u64, &str); 5] = [
@@ -47,14 +46,16 @@ static CASES: [(&[i64], u64, &str); 5] = [
     (&[], 0, "[]"),
 ];
 
+// All rows of the input come, whatever is skipped.
 #[test]
 fn elements(rt: HostRuntime) {
     let alloc = rt.alloc();
     for (input, offset, want) in CASES {
         for batch in [1, 2, 3, 1000] {
             for waits in [false, true] {
-                let is_given = is_json(alloc, gives(alloc, input, offset, batch, waits), want);
-                expect(&rt, is_given, want, batch);
+                let ran = ran(alloc, input, offset, batch, waits);
+                let rows = input.len() as u64;
+                expect(&rt, is_counted(alloc, ran, want, rows, 0, 0), want, batch);
             }
         }
     }

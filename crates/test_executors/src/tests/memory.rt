@@ -2,7 +2,7 @@
 // with the right rows.
 
 use crate::tests::rows::{expect, is_right};
-use crate::tests::{leaves, lists, scans, sorts, streams, subqueries};
+use crate::tests::{collects, leaves, lists, scans, sorts, streams, subqueries};
 
 #[test]
 fn of_start_row(rt: HostRuntime) {
@@ -57,7 +57,7 @@ fn of_return_distinct(rt: HostRuntime) {
 #[test]
 fn of_array(rt: HostRuntime) {
     let alloc = rt.alloc();
-    let elements = lists::gives(alloc, &[4, 5], 1, 2, true);
+    let elements = lists::ran(alloc, &[4, 5], 1, 2, true);
     let is_given = is_right(alloc, elements, "[9,5,9]");
     expect(&rt, is_given, "FOR over an array", 2);
 }
@@ -67,7 +67,7 @@ fn of_collection(rt: HostRuntime) {
     let alloc = rt.alloc();
     let case = &scans::FILTERED_AND_CUT[1];
     let read = match scans::gives(alloc, true, true, case, 2, true) {
-        Ok((ran, _)) => Ok(ran.values),
+        Ok((ran, _)) => Ok(ran),
         Err(e) => Err(e),
     };
     expect(
@@ -81,14 +81,22 @@ fn of_collection(rt: HostRuntime) {
 #[test]
 fn of_sort(rt: HostRuntime) {
     let alloc = rt.alloc();
-    let sorted = sorts::gives(alloc, &sorts::LIMITED, 2, false);
+    let sorted = sorts::ran(alloc, &sorts::LIMITED, 2, false);
     expect(&rt, is_right(alloc, sorted, "[1,2]"), "SORT", 2);
 }
 
 #[test]
 fn of_subquery(rt: HostRuntime) {
     let alloc = rt.alloc();
-    let arrays = subqueries::gives(alloc, &[2, 0, 1], 0, 2, true);
+    let arrays = subqueries::ran(alloc, &[2, 0, 1], 0, 2, true);
     let is_given = is_right(alloc, arrays, "[[0,1],[],[0]]");
     expect(&rt, is_given, "a subquery", 2);
+}
+
+#[test]
+fn of_collect(rt: HostRuntime) {
+    let alloc = rt.alloc();
+    let groups = collects::ran(alloc, true, &collects::MEMBERS, 2, true);
+    let is_given = is_right(alloc, groups, collects::MEMBERS.3);
+    expect(&rt, is_given, "COLLECT", 2);
 }

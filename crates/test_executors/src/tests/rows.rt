@@ -34,10 +34,7 @@ pub fn add_values(block: Block, var: u32, all: &mut Items) -> Result<(), OutOfMe
 }
 
 // Whether the values are those of this JSON text.
-pub fn is_json(alloc: Global, values: Result<Items, OutOfMemory>, want: &str) -> bool {
-    let Ok(values) = values else {
-        return false;
-    };
+fn is_json(alloc: Global, values: Items, want: &str) -> bool {
     let mut text = Vec::new(alloc);
     match write_json(&Value::List(values), &mut text) {
         Ok(()) => text.as_slice() == want.as_bytes(),
@@ -45,12 +42,13 @@ pub fn is_json(alloc: Global, values: Result<Items, OutOfMemory>, want: &str) ->
     }
 }
 
-// Whether the values are those of this JSON text, where so many documents were read and so many
-// rows dropped.
+// Whether the values are those of this JSON text, where so many rows of the inputs came, so many
+// documents were read and so many rows dropped.
 pub fn is_counted(
     alloc: Global,
     ran: Result<Ran, OutOfMemory>,
     want: &str,
+    rows: u64,
     read: u64,
     dropped: u64,
 ) -> bool {
@@ -59,15 +57,15 @@ pub fn is_counted(
     };
     let counts = Tally {
         scanned_full: read,
-        scanned_index: 0,
+        scanned_index: rows,
         filtered: dropped,
     };
-    tally == counts && is_json(alloc, Ok(values), want)
+    tally == counts && is_json(alloc, values, want)
 }
 
 // Whether memory ran out, or the values are those of this JSON text.
-pub fn is_right(alloc: Global, values: Result<Items, OutOfMemory>, want: &str) -> bool {
-    let Ok(values) = values else {
+pub fn is_right(alloc: Global, ran: Result<Ran, OutOfMemory>, want: &str) -> bool {
+    let Ok(Ran { values, tally: _ }) = ran else {
         return true;
     };
     let mut text = Vec::new(alloc);

@@ -106,12 +106,13 @@ pub fn gives(
 
 fn expect_all(rt: &impl Abort, alloc: Global, filters: bool, cuts: bool, cases: &[Case]) {
     for case in cases {
-        let (_, _, _, want, read, dropped) = *case;
+        let (input, _, _, want, read, dropped) = *case;
+        let rows = input.len() as u64;
         for batch in [1, 2, 3, 1000] {
             for waits in [false, true] {
                 let is_given = match gives(alloc, filters, cuts, case, batch, waits) {
                     Ok((ran, handed_out)) => handed_out == read
-                        && is_counted(alloc, Ok(ran), want, read, dropped),
+                        && is_counted(alloc, Ok(ran), want, rows, read, dropped),
                     Err(_) => false,
                 };
                 expect(rt, is_given, want, batch);

@@ -1,11 +1,11 @@
 // A world with one collection.
 
-ghost use Rattle.std.specs.Prelude.{◌≡◌, length, IfOk};
+ghost use Rattle.std.specs.Prelude.{◌≡◌, ◌≤◌, length, IfOk};
 ghost use Rattle.aql_plan.specs.Facts.{shards_in};
 ghost use Rattle.test_executors.specs.Worlds.{one_collection};
 
 use aql_block::Tally;
-use aql_exec::Place;
+use aql_exec::Surroundings;
 use aql_exec_scan::Shelf;
 use aql_plan::{CollFact, Facts};
 use aql_value::{CollNo, Items, OutOfMemory, Seq, Text, Value};
@@ -50,21 +50,27 @@ impl OneCollection {
     }
 }
 
-impl Place for OneCollection {
+impl Surroundings for OneCollection {
     ghost use Rattle.std.specs.Prelude.{[]};
+    ghost use Rattle.aql_exec.specs.Lines.{no_line};
 
     ghost stock = { λ s. one_collection s.facts s.documents };
 
-    ghost links = { λ _. 0 };
-
-    ghost flight = { λ _ _. [] };
-
-    ghost left = { λ _. 0 };
-}
-
-impl Shelf for OneCollection {
     ghost counted = { λ s. s.counts };
 
+    ghost links = { λ _. 0 };
+
+    ghost flight = { λ _ _. no_line };
+
+    ghost deliveries = { λ _. record { picks = []; left = 0 } };
+}
+
+// A count is a number of 64 bits.
+fn recall_count(count: u64)
+    ensures { count ≤ 18446744073709551615 }
+{}
+
+impl Shelf for OneCollection {
     fn length(&self, _coll: CollNo, _shard: Option<u32>) -> u64 {
         self.documents.len() as u64
     }
@@ -77,6 +83,7 @@ impl Shelf for OneCollection {
         tally: &mut Tally,
     ) -> &Value {
         tally.add_full(1);
+        recall_count(self.counts.scanned_full);
         self.counts.add_full(1);
         let Some(document) = self.documents.get(place as usize) else {
             unreachable!()

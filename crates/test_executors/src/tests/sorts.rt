@@ -4,13 +4,13 @@ ghost use Rattle.std.specs.Prelude.{◌≤◌, IfOk};
 ghost use Rattle.aql_plan.specs.declared.facts.Facts.{Facts};
 ghost use Rattle.aql_exec.specs.Operators.{IsOperator};
 
-use crate::tests::driving::run;
-use crate::tests::rows::{expect, is_json, numbers};
+use crate::tests::driving::{Ran, run};
+use crate::tests::rows::{expect, is_counted, numbers};
 use crate::tests::sources::{Source, Still};
 use aql_exec::{Executor, Stream};
 use aql_exec_rows::{Order, Sort};
 use aql_tree::{Expr, Ident, Key};
-use aql_value::{Items, OutOfMemory, Seq};
+use aql_value::{OutOfMemory, Seq};
 use std::alloc::Global;
 
 // By the variable 1.
@@ -46,24 +46,26 @@ static CASES: [Case; 10] = [
     (&[2, 1], false, Some(0), 0, "[]"),
 ];
 
-pub fn gives(alloc: Global, case: &Case, batch: u64, waits: bool) -> Result<Items, OutOfMemory>
+pub fn ran(alloc: Global, case: &Case, batch: u64, waits: bool) -> Result<Ran, OutOfMemory>
     requires { (1 ≤ batch) × (batch ≤ 10000) }
 {
     let (input, descending, limit, offset, _) = *case;
     let mut sort = sort(alloc, descending, limit)?;
     let mut below = Source::new(1, numbers(alloc, input)?, waits);
     let mut world = Still::new(alloc);
-    let ran = run(alloc, &mut sort, &mut below, &mut world, offset, batch, 1)?;
-    Ok(ran.values)
+    run(alloc, &mut sort, &mut below, &mut world, offset, batch, 1)
 }
 
+// All rows of the input come, whatever is skipped and however few are wanted.
 #[test]
 fn sorted(rt: HostRuntime) {
     let alloc = rt.alloc();
     for case in &CASES {
         for batch in [1, 2, 3, 1000] {
             for waits in [false, true] {
-                let is_given = is_json(alloc, gives(alloc, case, batch, waits), case.4);
+                let ran = ran(alloc, case, batch, waits);
+                let rows = case.0.len() as u64;
+                let is_given = is_counted(alloc, ran, case.4, rows, 0, 0);
                 expect(&rt, is_given, case.4, batch);
             }
         }

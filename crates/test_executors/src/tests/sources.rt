@@ -1,11 +1,11 @@
 // Lists as inputs of executors, and a world without documents.
 
 ghost use Rattle.std.specs.Prelude.{◌≡◌, ◌+◌, ◌<◌, ◌≤◌, length, IfOk, OnOk};
-ghost use Rattle.aql_exec.specs.Steps.{IsCall, InCall, told};
+ghost use Rattle.aql_exec.specs.Steps.{IsCall, InCall, reported};
 
 use crate::tests::rows::block_of;
-use aql_block::{Call, Progress, Step};
-use aql_exec::Place;
+use aql_block::{Call, Progress, Step, Tally};
+use aql_exec::Surroundings;
 use aql_plan::Facts;
 use aql_value::{OutOfMemory, Seq};
 use std::alloc::Global;
@@ -15,16 +15,19 @@ pub struct Still {
     facts: Facts,
 }
 
-impl Place for Still {
+impl Surroundings for Still {
     ghost use Rattle.std.specs.Prelude.{[]};
+    ghost use Rattle.aql_exec.specs.Lines.{no_line};
 
     ghost stock = { λ s. record { facts = s.facts; db = [] } };
 
+    ghost counted = { λ _. record { scanned_full = 0; scanned_index = 0; filtered = 0 } };
+
     ghost links = { λ _. 0 };
 
-    ghost flight = { λ _ _. [] };
+    ghost flight = { λ _ _. no_line };
 
-    ghost left = { λ _. 0 };
+    ghost deliveries = { λ _. record { picks = []; left = 0 } };
 }
 
 impl Still {
@@ -38,8 +41,9 @@ impl Still {
     }
 }
 
-// A list as an input: the numbers under a variable. Where it waits, it says so with every other
-// step, whose rows come all the same.
+// A list as an input: the numbers under a variable. Each row that it gives is counted as a document
+// of an index, and none that it skips. Where it waits, it says so with every other step, whose rows
+// come all the same.
 #[derive(Drop)]
 pub struct Source {
     var: u32,
@@ -67,10 +71,10 @@ impl Source {
         self.numbers = numbers;
     }
 
-    pub fn step(&mut self, alloc: Global, ask: Call) -> Result<Step, OutOfMemory>
+    pub fn step(&mut self, alloc: Global, ask: Call, tally: &mut Tally) -> Result<Step, OutOfMemory>
         requires { IsCall ask }
         ensures bounds { IfOk result (λ step. InCall ask step) }
-        ensures more { IfOk result (λ step. step.progress ≡ Progress.HasMore → 0 < told step) }
+        ensures more { IfOk result (λ step. step.progress ≡ Progress.HasMore → 0 < reported step) }
     {
         let left = (self.numbers.len() - self.at) as u64;
         let skipped = ask.offset.min(left);
@@ -79,6 +83,7 @@ impl Source {
         let from = self.at + skipped as usize;
         let end = from + count as usize;
         let block = block_of(alloc, self.var, &self.numbers[from..end])?;
+        tally.add_indexed(count);
         if end == self.at {
             return Ok(Step {
                 skipped,

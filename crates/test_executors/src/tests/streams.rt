@@ -5,14 +5,14 @@ ghost use Rattle.aql_plan.specs.declared.facts.Facts.{Facts};
 ghost use Rattle.aql_exec.specs.Operators.{IsOperator};
 
 use crate::tests::driving::{Ran, run};
-use crate::tests::rows::{expect, is_counted, is_json, numbers};
+use crate::tests::rows::{expect, is_counted, numbers};
 use crate::tests::sources::{Source, Still};
 use aql_exec::{
     Calculation, Executor, Filter, FirstResults, Keep, Let, Limit, Mapped, Results, Return,
     ReturnDistinct, Stream,
 };
 use aql_tree::{Expr, Ident};
-use aql_value::{Items, OutOfMemory};
+use aql_value::OutOfMemory;
 use std::alloc::Global;
 
 fn filter(alloc: Global) -> Filter
@@ -70,34 +70,18 @@ fn ran<X: Executor<Still>>(
     run(alloc, x, &mut below, &mut world, offset, batch, var)
 }
 
-// What it gives.
-fn given<X: Executor<Still>>(
-    alloc: Global,
-    x: &mut X,
-    var: u32,
-    input: &[i64],
-    offset: u64,
-    batch: u64,
-    waits: bool,
-) -> Result<Items, OutOfMemory>
-    requires node { (facts : Facts) → IsOperator facts (X.node x.old) }
-    requires batch { (1 ≤ batch) × (batch ≤ 10000) }
-{
-    Ok(ran(alloc, x, var, input, offset, batch, waits)?.values)
-}
-
 const INPUT: [i64; 6] = [0, 3, 0, 5, 7, 0];
 
-pub fn kept(alloc: Global, batch: u64) -> Result<Items, OutOfMemory>
+pub fn kept(alloc: Global, batch: u64) -> Result<Ran, OutOfMemory>
     requires { (1 ≤ batch) × (batch ≤ 10000) }
 {
-    given(alloc, &mut filter(alloc), 1, &INPUT, 0, batch, false)
+    ran(alloc, &mut filter(alloc), 1, &INPUT, 0, batch, false)
 }
 
-pub fn first(alloc: Global, batch: u64) -> Result<Items, OutOfMemory>
+pub fn first(alloc: Global, batch: u64) -> Result<Ran, OutOfMemory>
     requires { (1 ≤ batch) × (batch ≤ 10000) }
 {
-    given(
+    ran(
         alloc,
         &mut Limit::new(alloc, 1, 2),
         1,
@@ -108,25 +92,25 @@ pub fn first(alloc: Global, batch: u64) -> Result<Items, OutOfMemory>
     )
 }
 
-pub fn set(alloc: Global, batch: u64) -> Result<Items, OutOfMemory>
+pub fn set(alloc: Global, batch: u64) -> Result<Ran, OutOfMemory>
     requires { (1 ≤ batch) × (batch ≤ 10000) }
 {
-    given(alloc, &mut let_be(alloc), 2, &INPUT, 0, batch, false)
+    ran(alloc, &mut let_be(alloc), 2, &INPUT, 0, batch, false)
 }
 
-pub fn results(alloc: Global, batch: u64) -> Result<Items, OutOfMemory>
+pub fn results(alloc: Global, batch: u64) -> Result<Ran, OutOfMemory>
     requires { (1 ≤ batch) × (batch ≤ 10000) }
 {
-    given(alloc, &mut returns(alloc), 0, &INPUT, 0, batch, false)
+    ran(alloc, &mut returns(alloc), 0, &INPUT, 0, batch, false)
 }
 
-pub fn first_results(alloc: Global, batch: u64) -> Result<Items, OutOfMemory>
+pub fn first_results(alloc: Global, batch: u64) -> Result<Ran, OutOfMemory>
     requires { (1 ≤ batch) × (batch ≤ 10000) }
 {
-    given(alloc, &mut distinct(alloc, 1), 0, &INPUT, 0, batch, false)
+    ran(alloc, &mut distinct(alloc, 1), 0, &INPUT, 0, batch, false)
 }
 
-// The three rows that are dropped are counted, whatever is skipped.
+// All rows come, and the three that are dropped are counted, whatever is skipped.
 #[test]
 fn filtered(rt: HostRuntime) {
     let alloc = rt.alloc();
@@ -134,49 +118,51 @@ fn filtered(rt: HostRuntime) {
         for batch in [1, 2, 3, 1000] {
             for waits in [false, true] {
                 let ran = ran(alloc, &mut filter(alloc), 1, &INPUT, offset, batch, waits);
-                expect(&rt, is_counted(alloc, ran, want, 0, 3), want, batch);
+                expect(&rt, is_counted(alloc, ran, want, 6, 0, 3), want, batch);
             }
         }
     }
 }
 
+// Of the rows that are wanted the input skips those that the call skips, but the last.
 #[test]
 fn limited(rt: HostRuntime) {
     let alloc = rt.alloc();
-    for (skip, count, offset, want) in [
-        (1, 2, 0, "[3,0]"),
-        (0, 9, 0, "[0,3,0,5,7,0]"),
-        (1, 4, 2, "[5,7]"),
-        (9, 1, 0, "[]"),
-        (0, 0, 0, "[]"),
-        (0, 2, 5, "[]"),
+    for (skip, count, offset, want, rows) in [
+        (1, 2, 0, "[3,0]", 2),
+        (0, 9, 0, "[0,3,0,5,7,0]", 6),
+        (1, 4, 2, "[5,7]", 2),
+        (9, 1, 0, "[]", 0),
+        (0, 0, 0, "[]", 0),
+        (0, 2, 5, "[]", 1),
     ] {
         for batch in [1, 2, 3, 1000] {
             for waits in [false, true] {
                 let mut limit = Limit::new(alloc, skip, count);
-                let values = given(alloc, &mut limit, 1, &INPUT, offset, batch, waits);
-                expect(&rt, is_json(alloc, values, want), want, batch);
+                let ran = ran(alloc, &mut limit, 1, &INPUT, offset, batch, waits);
+                expect(&rt, is_counted(alloc, ran, want, rows, 0, 0), want, batch);
             }
         }
     }
 }
 
+// The input skips what the call skips.
 #[test]
 fn made(rt: HostRuntime) {
     let alloc = rt.alloc();
-    for (offset, want) in [(0, "[0,3,0,5,7,0]"), (4, "[7,0]"), (6, "[]")] {
+    for (offset, want, rows) in [(0, "[0,3,0,5,7,0]", 6), (4, "[7,0]", 2), (6, "[]", 0)] {
         for batch in [1, 2, 3, 1000] {
             for waits in [false, true] {
-                let values = given(alloc, &mut let_be(alloc), 2, &INPUT, offset, batch, waits);
-                expect(&rt, is_json(alloc, values, want), want, batch);
-                let values = given(alloc, &mut returns(alloc), 0, &INPUT, offset, batch, waits);
-                expect(&rt, is_json(alloc, values, want), want, batch);
+                let set = ran(alloc, &mut let_be(alloc), 2, &INPUT, offset, batch, waits);
+                expect(&rt, is_counted(alloc, set, want, rows, 0, 0), want, batch);
+                let given = ran(alloc, &mut returns(alloc), 0, &INPUT, offset, batch, waits);
+                expect(&rt, is_counted(alloc, given, want, rows, 0, 0), want, batch);
             }
         }
     }
 }
 
-// A row without the variable stands for null.
+// All rows come. One without the variable stands for null.
 #[test]
 fn made_distinct(rt: HostRuntime) {
     let alloc = rt.alloc();
@@ -190,8 +176,8 @@ fn made_distinct(rt: HostRuntime) {
         for batch in [1, 2, 3, 1000] {
             for waits in [false, true] {
                 let mut distinct = distinct(alloc, var);
-                let values = given(alloc, &mut distinct, 0, &INPUT, offset, batch, waits);
-                expect(&rt, is_json(alloc, values, want), want, batch);
+                let ran = ran(alloc, &mut distinct, 0, &INPUT, offset, batch, waits);
+                expect(&rt, is_counted(alloc, ran, want, 6, 0, 0), want, batch);
             }
         }
     }

@@ -1,17 +1,18 @@
 use Rattle.std.proofs.Common.{subst}
 use Rattle.aql_exec.specs.Counting.{nothing}
-use Rattle.aql_exec.specs.laws.Telling.{ahead_none, rises_none}
+use Rattle.aql_exec.specs.laws.Counted.{prefixed_none, rises_still}
 use Rattle.aql_engine.proofs.run.deliver_one.Goals as goal
 
 pub returns-else-owns-clause-undisturbed : goal.returns-else-owns-clause-undisturbed
 returns-else-owns-clause-undisturbed g c =
     let f = g.F.Feed in
-    let taken = c.in-Some.ensures.1 in (
+    let taken = c.in-Some.ensures.2 in (
       nothing,
-      rises_none _,
+      rises_still g.W.Surroundings c.args.tally.now c.args.world.now c.deliver.new.self taken.counted_kept
+          taken.sent_kept,
       λ r h. (
         r,
-        ahead_none r,
+        prefixed_none r,
         g.met.F.Feed.kept_rests c.args.feed.now c.args.world.now
             c.deliver.new.self taken.stock_kept
             (λ l o. taken.others l (λ e. c.owns.ensures.1 c.if-owns.false (subst (f.ours c.args.feed.now) e o)))

@@ -4,7 +4,7 @@ use Rattle.std.proofs.lemmas.List.{map-append}
 use Rattle.std.specs.List.{list_all}
 use Rattle.aql_tree.specs.declared.syntax.Ident.TheVariants.{Num}
 use Rattle.aql_meaning.specs.Visible.{aggregate_vars}
-use Rattle.aql_exec_rows.specs.CollectSettings.{is_number}
+use Rattle.aql_exec_rows.specs.Settings.{is_number}
 use Rattle.aql_exec_rows.specs.Framed.{numbered}
 use Rattle.aql_exec_rows.proofs.Parts.{aggregates_here, one_more_of}
 use Rattle.aql_exec_rows.proofs.frame.aggregate_numbers.Goals as goal

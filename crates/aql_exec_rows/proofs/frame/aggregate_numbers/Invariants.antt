@@ -1,7 +1,7 @@
 use Rattle.std.proofs.Common.{◌≡◌, ◌++◌, true, drop}
 use Rattle.std.specs.List.{list_all}
 use Rattle.aql_meaning.specs.Visible.{aggregate_vars}
-use Rattle.aql_exec_rows.specs.CollectSettings.{is_number, aggregate_trees}
+use Rattle.aql_exec_rows.specs.Settings.{is_number, aggregate_trees}
 use Rattle.aql_exec_rows.specs.Framed.{numbered}
 use Rattle.aql_exec_rows.proofs.frame.aggregate_numbers.Given as goal
 

@@ -3,7 +3,7 @@ use Rattle.std.proofs.lemmas.Bool.{and_parts}
 use Rattle.std.proofs.lemmas.List.{map-append}
 use Rattle.std.specs.List.{list_all}
 use Rattle.aql_tree.specs.declared.syntax.Ident.TheVariants.{Num}
-use Rattle.aql_exec_rows.specs.CollectSettings.{is_number}
+use Rattle.aql_exec_rows.specs.Settings.{is_number}
 use Rattle.aql_exec_rows.specs.Framed.{numbered}
 use Rattle.aql_exec_rows.proofs.Parts.{vars_here, one_more_of}
 use Rattle.aql_exec_rows.proofs.frame.criteria_numbers.Goals as goal

@@ -1,6 +1,6 @@
 use Rattle.std.proofs.Common.{◌≡◌, ◌++◌, true, drop}
 use Rattle.std.specs.List.{list_all}
-use Rattle.aql_exec_rows.specs.CollectSettings.{is_number, criteria_vars}
+use Rattle.aql_exec_rows.specs.Settings.{is_number, criteria_vars}
 use Rattle.aql_exec_rows.specs.Framed.{numbered}
 use Rattle.aql_exec_rows.proofs.frame.criteria_numbers.Given as goal
 

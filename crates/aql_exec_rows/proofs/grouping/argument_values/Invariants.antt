@@ -2,7 +2,7 @@ use Rattle.std.proofs.Common.{◌≡◌, ◌++◌, drop}
 use Rattle.aql_value.specs.View.{datums_in}
 use Rattle.aql_meaning.specs.Stages.{arguments_at}
 use Rattle.aql_plan.specs.Fits.{AllKnown}
-use Rattle.aql_exec_rows.specs.CollectSettings.{aggregate_trees}
+use Rattle.aql_exec_rows.specs.Settings.{aggregate_trees}
 use Rattle.aql_exec_rows.proofs.grouping.argument_values.Given as goal
 
 -- with the arguments that are left the arguments so far are all

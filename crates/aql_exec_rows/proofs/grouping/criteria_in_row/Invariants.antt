@@ -1,6 +1,6 @@
 use Rattle.std.proofs.Common.{◌≡◌, ◌++◌, map, drop}
 use Rattle.aql_meaning.specs.Row.{value_at}
-use Rattle.aql_exec_rows.specs.CollectSettings.{criteria_vars}
+use Rattle.aql_exec_rows.specs.Settings.{criteria_vars}
 use Rattle.aql_exec_rows.proofs.grouping.criteria_in_row.Given as goal
 
 -- with what stands under the variables that are left the values so far are all

@@ -1,7 +1,7 @@
 use Rattle.std.proofs.Common.{◌≡◌, ◌++◌, drop}
 use Rattle.aql_meaning.specs.Plain.{AllPlain}
 use Rattle.aql_meaning.specs.AtRows.{keys_of}
-use Rattle.aql_exec_rows.specs.CollectSettings.{criteria_trees}
+use Rattle.aql_exec_rows.specs.Settings.{criteria_trees}
 use Rattle.aql_exec_rows.proofs.grouping.criteria_values.Given as goal
 
 -- with the values of the criteria that are left the values so far are all

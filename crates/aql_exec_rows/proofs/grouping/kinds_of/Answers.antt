@@ -4,7 +4,7 @@ use Rattle.aql_plan.specs.Fits.{AllKnown}
 use Rattle.aql_aggregate.specs.Staged.{staged}
 use Rattle.aql_func.specs.Aggregates.{aggregate_named}
 use Rattle.aql_aggregate.specs.View.{aggregate_of}
-use Rattle.aql_exec_rows.specs.CollectSettings.{in_stage}
+use Rattle.aql_exec_rows.specs.Settings.{in_stage}
 use Rattle.aql_exec_rows.proofs.Parts.{aggregates_here, named_here, one_more_of}
 use Rattle.aql_exec_rows.proofs.grouping.kinds_of.Goals as goal
 

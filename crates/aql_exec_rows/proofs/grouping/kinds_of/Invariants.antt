@@ -1,7 +1,7 @@
 use Rattle.std.proofs.Common.{◌≡◌, ◌++◌, Some, map, drop}
 use Rattle.aql_plan.specs.Fits.{AllKnown}
 use Rattle.aql_aggregate.specs.Staged.{staged}
-use Rattle.aql_exec_rows.specs.CollectSettings.{aggregate_trees}
+use Rattle.aql_exec_rows.specs.Settings.{aggregate_trees}
 use Rattle.aql_exec_rows.proofs.Parts.{named}
 use Rattle.aql_exec_rows.proofs.grouping.kinds_of.Given as goal
 

@@ -92,8 +92,8 @@ returns-clause-more c =
     let some = few.0 in
     omega (arith, n, some)
 
-pub returns-clause-told : goal.returns-clause-told
-returns-clause-told c =
+pub returns-clause-reported : goal.returns-clause-reported
+returns-clause-reported c =
     let most = c.if-skips.most in
     let held = rows_of c.args.held.now in
     let block = rows_of c.in_ok-block.block in

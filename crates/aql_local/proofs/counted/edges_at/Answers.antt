@@ -1,4 +1,4 @@
-use Rattle.std.proofs.Common.{ap, sym, ◌∙◌}
+use Rattle.std.proofs.Common.{ap}
 use Rattle.aql_doc.specs.Held.{database}
 use Rattle.aql_plan.specs.Runs.{edges_in}
 use Rattle.aql_exec_graph.specs.Found.{numbers, steps_in}

@@ -1,14 +1,18 @@
-use Rattle.std.proofs.Common.{map, refl, sym, ap, ◌∙◌, subst}
+use Rattle.std.proofs.Common.{map, length, refl, sym, ap, ◌∙◌, subst, arith}
+use Rattle.std.proofs.lemmas.List.{length-map}
+use Rattle.aql_block.specs.declared.tally.Tally.{Tally}
 use Rattle.aql_meaning.specs.Row.{Row, empty_row}
 use Rattle.aql_plan.specs.Runs.{result_of}
 use Rattle.aql_plan.specs.Shapes.{Result}
 use Rattle.aql_plan.specs.View.{plan_tree}
 use Rattle.aql_block.specs.Rows.{row_of}
-use Rattle.aql_exec.specs.Operators.{OperatorTree, IsTree, Produces}
+use Rattle.aql_exec.specs.Operators.{OperatorTree, IsTree, Produces, exact_tree}
+use Rattle.aql_engine.specs.Engine.{Tallied}
+use Rattle.aql_engine.specs.Run.{rows_in}
 use Rattle.aql_engine.specs.OperatorsOf.{operators_of}
 use Rattle.aql_engine.specs.laws.Sound.{produces_runs}
 use Rattle.aql_shard.specs.Datasets.{stock}
-use Rattle.aql_local.proofs.CanRun.{runs_tree, counted_from_none}
+use Rattle.aql_local.proofs.CanRun.{runs_tree, counted_from_none, own_from_none}
 use Rattle.aql_local.proofs.plans.run_operators.Goals as goal
 
 pub run_feed-requires-clause-plan : goal.run_feed-requires-clause-plan
@@ -32,7 +36,19 @@ returns-clause-run g c =
         rest = run.0;
         produced = produced;
         values = values;
-        counted = counted_from_none c.new-tally.result c.run_feed.new.tally run.0.counts c.new-tally.ensures
-            run.3;
+        counted = subst (λ (t : OperatorTree). Tallied (exact_tree t) c.run_feed.new.tally run.0.counts)
+            c.requires.feed
+            (counted_from_none _ _ c.new-tally.result c.run_feed.new.tally c.args.world.now
+            c.run_feed.new.world run.0.counts c.new-tally.ensures run.3);
+        little = λ e. (let a = c.in_ok-blocks.ensures.reads (rw c.requires.feed e) in
+            let b = ap (λ (z : Tally). z.scanned_full) c.new-tally.ensures in
+            let l = ap length c.in_ok-values.ensures in
+            let m = length-map (rows_in c.in_ok-blocks.blocks.items) result_of in
+            omega (arith, a, b, l, m));
       },
     )
+
+pub returns-clause-counted : goal.returns-clause-counted
+returns-clause-counted g c =
+    own_from_none _ _ c.new-tally.result c.run_feed.new.tally c.args.world.now c.run_feed.new.world
+    c.in_ok-blocks.ensures.rows.0.counts c.new-tally.ensures c.in_ok-blocks.ensures.rows.3

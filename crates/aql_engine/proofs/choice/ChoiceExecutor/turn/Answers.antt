@@ -12,8 +12,8 @@ returns-in-First-clause-other_ports g c = rw c.in-First.is c.turn.ensures.other_
 pub returns-in-First-clause-drained : goal.returns-in-First-clause-drained
 returns-in-First-clause-drained g c = rw c.in-First.is c.turn.ensures.drained
 
-pub returns-in-First-clause-room : goal.returns-in-First-clause-room
-returns-in-First-clause-room g c = rw c.in-First.is c.turn.ensures.room
+pub returns-in-First-clause-budget : goal.returns-in-First-clause-budget
+returns-in-First-clause-budget g c = rw c.in-First.is c.turn.ensures.budget
 
 pub returns-in-Second-clause-inputs : goal.returns-in-Second-clause-inputs
 returns-in-Second-clause-inputs g c = rw c.in-Second.is c.turn-in-Second.ensures.inputs
@@ -27,5 +27,17 @@ returns-in-Second-clause-other_ports g c = rw c.in-Second.is c.turn-in-Second.en
 pub returns-in-Second-clause-drained : goal.returns-in-Second-clause-drained
 returns-in-Second-clause-drained g c = rw c.in-Second.is c.turn-in-Second.ensures.drained
 
-pub returns-in-Second-clause-room : goal.returns-in-Second-clause-room
-returns-in-Second-clause-room g c = rw c.in-Second.is c.turn-in-Second.ensures.room
+pub returns-in-Second-clause-budget : goal.returns-in-Second-clause-budget
+returns-in-Second-clause-budget g c = rw c.in-Second.is c.turn-in-Second.ensures.budget
+
+pub returns-in-First-clause-unskipped : goal.returns-in-First-clause-unskipped
+returns-in-First-clause-unskipped g c = rw c.in-First.is c.turn.ensures.unskipped
+
+pub returns-in-First-clause-done : goal.returns-in-First-clause-done
+returns-in-First-clause-done g c = rw c.in-First.is c.turn.ensures.done
+
+pub returns-in-Second-clause-unskipped : goal.returns-in-Second-clause-unskipped
+returns-in-Second-clause-unskipped g c = rw c.in-Second.is c.turn-in-Second.ensures.unskipped
+
+pub returns-in-Second-clause-done : goal.returns-in-Second-clause-done
+returns-in-Second-clause-done g c = rw c.in-Second.is c.turn-in-Second.ensures.done

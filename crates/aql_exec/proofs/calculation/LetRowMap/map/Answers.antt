@@ -1,4 +1,4 @@
-use Rattle.std.proofs.Common.{◌≡◌, length, sym, ap, ◌∙◌}
+use Rattle.std.proofs.Common.{length, sym, ap, ◌∙◌}
 use Rattle.std.proofs.lemmas.List.{length-map}
 use Rattle.aql_tree.specs.declared.syntax.Ident.TheVariants.{Num}
 use Rattle.aql_tree.specs.View.{tree}
@@ -19,5 +19,5 @@ pub returns : goal.returns
 returns g c =
     let var = Num c.args.self.now.var in
     c.in_ok-set.ensures.ok ∙ ap (with_values var (rows_of c.args.block)) c.in_ok-values.ensures
-    ∙ sym (let_maps var (tree c.args.self.now.expr) (g.W.Place.stock c.args._world.now) empty_row
+    ∙ sym (let_maps var (tree c.args.self.now.expr) (g.W.Surroundings.stock c.args._world.now) empty_row
     (rows_of c.args.block)).0

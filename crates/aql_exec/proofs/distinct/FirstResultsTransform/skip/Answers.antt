@@ -1,9 +1,10 @@
-use Rattle.std.proofs.Common.{length, take, drop, sym, ap, ◌∙◌, arith}
+use Rattle.std.proofs.Common.{take, drop, sym, ap, ◌∙◌, arith}
 use Rattle.aql_value.specs.View.{datums_in}
 use Rattle.aql_tree.specs.View.{tree}
 use Rattle.aql_block.specs.Tables.{rows_of}
 use Rattle.aql_exec.specs.Counting.{nothing}
 use Rattle.aql_exec.specs.FirstResults.{shown}
+use Rattle.aql_exec.specs.laws.Counted.{rises_none}
 use Rattle.aql_exec.proofs.Keeping.{cut}
 use Rattle.aql_exec.specs.laws.Firsts.{front_results, shown_fewer}
 use Rattle.aql_exec.proofs.distinct.FirstResultsTransform.skip.Goals as goal
@@ -14,7 +15,7 @@ returns-clause-left g c =
     let made = c.in_ok-make.ensures in
     let front = c.in_ok-block.ensures in (
       nothing,
-      λ k. (omega arith, omega arith),
+      rises_none g.W.Surroundings c.args._tally.now c.args._world.now,
       λ rows r h.
           (let x = front_results (tree me.expr) me.made c.args.most (datums_in me.seen.keys)
           (datums_in c.make.new.self.seen.keys) (rows_of me.block) rows

@@ -3,6 +3,7 @@ use Rattle.aql_tree.specs.View.{tree}
 use Rattle.aql_block.specs.Tables.{rows_of}
 use Rattle.aql_exec.specs.Counting.{counts}
 use Rattle.aql_exec.specs.Filters.{kept_of, lost_of}
+use Rattle.aql_exec.specs.laws.Counted.{rises_dropped}
 use Rattle.aql_exec.proofs.Keeping.{front_given, kept_fewer, cut}
 use Rattle.aql_exec.proofs.filter.KeepTransform.skip.Goals as goal
 
@@ -12,7 +13,8 @@ returns-clause-left g c =
     let judged = c.in_ok-judge.ensures in
     let front = c.in_ok-block.ensures in (
       counts 0 0 (length (lost_of (tree me.condition) me.judged (rows_of me.block))),
-      judged.tally,
+      rises_dropped g.W.Surroundings c.args.tally.now c.judge.new.tally c.args._world.now
+          (length (lost_of (tree me.condition) me.judged (rows_of me.block))) judged.tally,
       λ rows r h.
           (let x = front_given (tree me.condition) me.judged c.args.most (rows_of me.block) rows
           (rows_of c.in_ok-block.block) (rows_of c.take_front.new.held) r

@@ -9,7 +9,7 @@ use Rattle.aql_exec.proofs.Asking.{same_follows, not_true}
 use Rattle.aql_exec.proofs.limit.LimitExecutor.take.Goals as goal
 
 pub returns-clause-leads : goal.returns-clause-leads
-returns-clause-leads g c w p body d s0 s ins' ins t b r l0 l1 a e' e os ends h =
+returns-clause-leads g c v w p body d s0 s ins' ins t b r l0 l1 a e' e os ends h =
     let me = c.args.self.now in
     let first = only_input c.args._input c.requires.input in
     let waits = c.requires.valid.1.waits (rw first at c.requires.asked.1).1 in

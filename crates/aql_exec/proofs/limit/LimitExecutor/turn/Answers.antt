@@ -1,11 +1,13 @@
-use Rattle.std.proofs.Common.{◌≡◌, ◌+◌, ◌-◌, inl, inr, false, refl, sym, ap, ◌∙◌, arith}
+use Rattle.std.proofs.Common.{◌≡◌, ◌+◌, ◌-◌, inl, inr, false, length, refl, sym, ap, ◌∙◌, arith}
+use Rattle.std.proofs.Math.Nat.{le_refl}
 use mathlib.Core.Bool.{false≢true}
 use Rattle.aql_block.specs.Tables.{rows_of}
 use Rattle.aql_block.specs.declared.calls.Call.{Call}
 use Rattle.aql_block.specs.declared.calls.Progress.TheVariants.{Done}
 use Rattle.aql_exec.specs.Counting.{nothing}
-use Rattle.aql_exec.specs.laws.Telling.{rises_none, ahead_none, led_none, no_other, only_port}
-use Rattle.aql_exec.proofs.Limited.{limit_told}
+use Rattle.aql_exec.specs.laws.Counted.{rises_none, prefixed_none}
+use Rattle.aql_exec.specs.laws.Telling.{led_none, no_other, only_port}
+use Rattle.aql_exec.proofs.Limited.{limit_reported}
 use Rattle.aql_exec.proofs.Asking.{not_true}
 use Rattle.aql_exec.proofs.Answering.{came_of, enough_left, answers_of, either, either_of, zero_or, all_given, none_more, none_in, same_limits}
 use Rattle.aql_exec.proofs.limit.LimitExecutor.turn.Goals.{then-self-2-via-then-self-2, then-self-2-via-else-self-2+then-self-eq0}
@@ -26,9 +28,9 @@ returns-then-self-clause-leads g c =
     (rows_of c.replace-block.result) (rows_of me.block) c.answer-step.result gone
     (ap rows_of c.replace-block.ensures.value) c.answer-step.ensures.over c.answer-step.ensures.whole in (
       nothing,
-      rises_none c.args._tally.now,
-      λ body s ins ins' l e ends r h.
-          limit_told me.skip me.left left me.skipped (rows_of me.block) (rows_of c.replace-block.new.dest)
+      rises_none g.W.Surroundings c.args._tally.now c.args._world.now,
+      λ v within body s ins ins' l e ends r h.
+          limit_reported me.skip me.left left me.skipped (rows_of me.block) (rows_of c.replace-block.new.dest)
           (s 0)
           c.answer-step.result (ins' 0) (ins 0) r (l 0) (e 0)
           (λ n. (let f = held.first (omega (arith, n, len)) in omega (arith, f)))
@@ -40,8 +42,8 @@ returns-then-self-clause-leads g c =
 pub returns-then-self-clause-other_ports : goal.returns-then-self-clause-other_ports
 returns-then-self-clause-other_ports g c = (
   nothing,
-  rises_none c.args._tally.now,
-  λ p body s ins ins' r n o l e ends h. absurd (no_other c.args._port p c.requires.port n o),
+  rises_none g.W.Surroundings c.args._tally.now c.args._world.now,
+  λ v within p body s ins ins' r n o l e ends h. absurd (no_other c.args._port p c.requires.port n o),
 )
 
 pub returns-then-self-clause-done : goal.returns-then-self-clause-done
@@ -65,16 +67,20 @@ returns-then-self-clause-done g c done =
     let some = asks.1 in
     let soft = asks.2 in
     either_of (zero_or left)
-    (λ z. inr (λ body ins ends r h.
-    none_more c.saturating_sub-self.result left (rows_of c.replace-block.new.dest) (ins 0) r z h))
+    (λ z. inr (λ v at within body ins ends r h. (
+      none_more c.saturating_sub-self.result left (rows_of c.replace-block.new.dest) (ins 0) r z h,
+      λ k x. absurd (false≢true (within k x)),
+    )))
     (λ m. either_of
     (held.done (sym (c.progress_at-progress.ensures.1 m) ∙ sym c.answer-step.ensures.progress ∙ done))
     (λ all. inl (all_given me.call.soft me.call.hard me.skip me.left me.skipped me.ask.soft me.ask.hard left
     me.call (rows_of me.block) c.answer-step.result came answers (omega (arith, some, soft)) m
     (sym len ∙ all) ∙ sym (ap (λ (z : Call). z.hard) call)))
-    (λ ended. inr (λ body ins ends r h.
-    none_in c.saturating_sub-self.result left (rows_of c.replace-block.new.dest) (ins 0) r none
-    (ends 0 ended) h)))
+    (λ ended. inr (λ v at within body ins ends r h. (
+      none_in c.saturating_sub-self.result left (rows_of c.replace-block.new.dest) (ins 0) r none
+          (ends 0 ended).0 h,
+      λ k x. absurd (false≢true (within k x)),
+    ))))
 
 pub returns-then-self-2-clause-leads : goal.returns-then-self-2-clause-leads
 returns-then-self-2-clause-leads g c =
@@ -88,8 +94,8 @@ returns-then-self-2-clause-leads g c =
     ]) in
     let none = (valid.idle idle).0 in (
       nothing,
-      rises_none c.args._tally.now,
-      λ body s ins ins' l e ends.
+      rises_none g.W.Surroundings c.args._tally.now c.args._world.now,
+      λ v within body s ins ins' l e ends.
           led_none (record { skipped = 0; block = c.empty-then-self-2.result; progress = Done }) refl
           (ap rows_of c.empty-then-self-2.ensures) (λ r h.
           same_limits me.skip me.left me.skipped (rows_of me.block) (s 0) (ins' 0) (ins 0) r (l 0 ∙ none)
@@ -99,14 +105,31 @@ returns-then-self-2-clause-leads g c =
 pub returns-then-self-2-clause-other_ports : goal.returns-then-self-2-clause-other_ports
 returns-then-self-2-clause-other_ports g c = (
   nothing,
-  rises_none c.args._tally.now,
-  λ p body s ins ins' r n o l e ends h. absurd (no_other c.args._port p c.requires.port n o),
+  rises_none g.W.Surroundings c.args._tally.now c.args._world.now,
+  λ v within p body s ins ins' r n o l e ends h. absurd (no_other c.args._port p c.requires.port n o),
 )
 
 pub returns-clause-leads : goal.returns-clause-leads
 returns-clause-leads g c = (
   nothing,
-  rises_none c.args._tally.now,
-  λ p body ins r ends h.
-      (r, ahead_none r, h),
+  rises_none g.W.Surroundings c.args._tally.now c.args._world.now,
+  λ v within p body ins r ends h.
+      (r, prefixed_none r, h),
 )
+
+pub returns-then-self-clause-reads : goal.returns-then-self-clause-reads
+returns-then-self-clause-reads g c =
+    let me = c.args.self.now in
+    let held = c.requires.valid.held c.if-self.true in
+    let port = only_port c.args._port c.requires.port in
+    let call : c.args.call ≡ me.call = (rw port at c.requires.may).0 held.asked in (
+      λ scans. absurd (false≢true scans),
+      λ hands. (
+        le_refl c.args._tally.now.scanned_full,
+        λ whole.
+            (let offset : me.call.offset ≡ 0 = sym (ap (λ (z : Call). z.offset) call) ∙ whole refl in
+            let all = (c.answer-step.ensures.whole (omega (arith, offset))).0
+            ∙ ap rows_of c.replace-block.ensures.value in
+            rw (c.if-self.true, all) (le_refl (length (rows_of me.block)))),
+      ),
+    )

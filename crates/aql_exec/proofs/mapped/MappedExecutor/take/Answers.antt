@@ -5,7 +5,7 @@ use Rattle.aql_exec.specs.laws.Handing.{taken}
 use Rattle.aql_exec.proofs.mapped.MappedExecutor.take.Goals as goal
 
 pub returns-clause-leads : goal.returns-clause-leads
-returns-clause-leads g c w p body d s0 s ins' ins t b r l0 l1 a e' e os ends h =
+returns-clause-leads g c v w p body d s0 s ins' ins t b r l0 l1 a e' e os ends h =
     let me = c.args.self.now in
     let first = only_input c.args._input c.requires.input in
     let has : me.has ≡ false = (rw first at c.requires.asked.1).2 in

@@ -5,7 +5,8 @@ use Rattle.aql_block.specs.Tables.{rows_of}
 use Rattle.aql_block.specs.declared.calls.Call.{Call}
 use Rattle.aql_block.specs.declared.calls.Progress.TheVariants.{Done}
 use Rattle.aql_exec.specs.Counting.{nothing}
-use Rattle.aql_exec.specs.laws.Telling.{rises_none, ahead_none, led_none, no_other, only_port}
+use Rattle.aql_exec.specs.laws.Counted.{rises_none, prefixed_none}
+use Rattle.aql_exec.specs.laws.Telling.{led_none, no_other, only_port}
 use Rattle.aql_exec.specs.laws.Handing.{handed, same_images}
 use Rattle.aql_exec.proofs.mapped.MappedExecutor.turn.Goals as goal
 
@@ -15,8 +16,8 @@ returns-then-self-clause-leads g c =
     let f = g.M.RowMap.image me.by in
     let out = c.in_ok-block.ensures ∙ ap (λ z. map f (rows_of z)) c.replace-block.ensures.value in (
       nothing,
-      rises_none c.args._tally.now,
-      λ body s ins ins' l e ends r h. rw c.if-self.true
+      rises_none g.W.Surroundings c.args._tally.now c.args.world.now,
+      λ v within body s ins ins' l e ends r h. rw c.if-self.true
           (handed f me.skipped (rows_of me.block) (rows_of c.in_ok-block.block) (s 0) (ins' 0) (ins 0) r
           (rw c.if-self.true at l 0) (e 0) out h),
     )
@@ -24,8 +25,8 @@ returns-then-self-clause-leads g c =
 pub returns-then-self-clause-other_ports : goal.returns-then-self-clause-other_ports
 returns-then-self-clause-other_ports g c = (
   nothing,
-  rises_none c.args._tally.now,
-  λ p body s ins ins' r n o l e ends h. absurd (no_other c.args._port p c.requires.port n o),
+  rises_none g.W.Surroundings c.args._tally.now c.args.world.now,
+  λ v within p body s ins ins' r n o l e ends h. absurd (no_other c.args._port p c.requires.port n o),
 )
 
 pub returns-then-self-clause-may : goal.returns-then-self-clause-may
@@ -45,8 +46,8 @@ pub returns-then-self-2-clause-leads : goal.returns-then-self-2-clause-leads
 returns-then-self-2-clause-leads g c =
     let me = c.args.self.now in (
       nothing,
-      rises_none c.args._tally.now,
-      λ body s ins ins' l e ends.
+      rises_none g.W.Surroundings c.args._tally.now c.args.world.now,
+      λ v within body s ins ins' l e ends.
           led_none (record { skipped = 0; block = c.empty-then-self-2.result; progress = Done }) refl
           (ap rows_of c.empty-then-self-2.ensures) (λ r h. rw c.if-self.false
           (same_images (g.M.RowMap.image me.by) (s 0) (ins' 0) (ins 0) r (rw c.if-self.false at l 0) (e 0)
@@ -56,16 +57,16 @@ returns-then-self-2-clause-leads g c =
 pub returns-then-self-2-clause-other_ports : goal.returns-then-self-2-clause-other_ports
 returns-then-self-2-clause-other_ports g c = (
   nothing,
-  rises_none c.args._tally.now,
-  λ p body s ins ins' r n o l e ends h. absurd (no_other c.args._port p c.requires.port n o),
+  rises_none g.W.Surroundings c.args._tally.now c.args.world.now,
+  λ v within p body s ins ins' r n o l e ends h. absurd (no_other c.args._port p c.requires.port n o),
 )
 
 pub returns-clause-leads : goal.returns-clause-leads
 returns-clause-leads g c = (
   nothing,
-  rises_none c.args._tally.now,
-  λ p body ins r ends h.
-      (r, ahead_none r, h),
+  rises_none g.W.Surroundings c.args._tally.now c.args.world.now,
+  λ v within p body ins r ends h.
+      (r, prefixed_none r, h),
 )
 
 pub returns-then-self-clause-done : goal.returns-then-self-clause-done
@@ -80,5 +81,6 @@ returns-then-self-clause-done g c p =
     ap length out ∙ length-map (rows_of me.block) f in
     elim (c.requires.valid.done c.if-self.true p) [
       | inl e ↦ inl (count ∙ e ∙ sym (ap (λ (z : Call). z.hard) call))
-      | inr d ↦ inr (λ body ins ends r h. h.0 ∙ ap (map f) (ends 0 d))
+      | inr d ↦ inr (λ v at within body ins ends r h.
+          (h.0 ∙ ap (map f) (ends 0 d).0, λ k x. h.1 k ∙ (ends 0 d).1 k x))
     ]

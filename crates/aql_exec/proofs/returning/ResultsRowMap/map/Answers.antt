@@ -13,7 +13,7 @@ use Rattle.aql_exec.proofs.returning.ResultsRowMap.map.Goals as goal
 pub returns : goal.returns
 returns g c = IfOk-weaker c.from_values.result _ _ (λ b h.
     h ∙ ap (map result_row) c.in_ok-values.ensures
-    ∙ sym (return_maps (tree c.args.self.now.expr) (g.W.Place.stock c.args._world.now) empty_row
+    ∙ sym (return_maps (tree c.args.self.now.expr) (g.W.Surroundings.stock c.args._world.now) empty_row
     (rows_of c.args.block)).0) c.from_values.ensures.rows
 
 pub from_values-requires : goal.from_values-requires

@@ -1,5 +1,5 @@
 use Rattle.aql_plan.specs.Needs.{sets}
-use Rattle.aql_exec_rows.specs.CollectSettings.{node_at}
+use Rattle.aql_exec_rows.specs.Settings.{node_at}
 use Rattle.aql_exec_rows.proofs.Parts.{numbers_all}
 use Rattle.aql_exec_rows.proofs.collect.Collect.at_stage.Goals as goal
 

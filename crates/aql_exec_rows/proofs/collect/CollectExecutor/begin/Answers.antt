@@ -1,4 +1,4 @@
-use Rattle.std.proofs.Common.{◌≡◌, ◌++◌, [], map, refl, sym, subst, ap, arith}
+use Rattle.std.proofs.Common.{[], map, refl, subst, ap, arith}
 use Rattle.aql_meaning.specs.Row.{Row}
 use Rattle.aql_block.specs.Rows.{row_of}
 use Rattle.aql_exec.specs.Counting.{nothing}
@@ -19,5 +19,6 @@ returns-clause-makes g c w p body ins r port h =
             (ap row_of c.in_ok-self-2.ensures.start) out,
         λ c. refl,
       ),
+      λ l. refl,
       λ k. (let n = h.1 k in omega (arith, n)),
     )

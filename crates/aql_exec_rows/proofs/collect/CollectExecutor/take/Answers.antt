@@ -1,10 +1,10 @@
-use Rattle.std.proofs.Common.{◌≡◌, List, ◌∙◌, ◌++◌, [], map, reverse, length, true, refl, sym, subst, ap, arith}
+use Rattle.std.proofs.Common.{◌≡◌, List, ◌∙◌, ◌++◌, [], map, length, true, refl, sym, subst, arith}
 use Rattle.std.proofs.lemmas.List.{nil_from_length, length-map}
 use Rattle.aql_value.specs.View.{datum_of, datums_in}
 use Rattle.aql_func.specs.Lists.{sort_values}
 use Rattle.aql_meaning.specs.Groups.{GroupedRow}
 use Rattle.aql_block.specs.Tables.{rows_of}
-use Rattle.aql_exec.specs.Rests.{Rest, Ahead}
+use Rattle.aql_exec.specs.Rests.{Rest, Prefixed}
 use Rattle.aql_exec.specs.laws.Telling.{only_input}
 use Rattle.aql_exec_rows.specs.GroupStates.{seen, Holds, finished_in, result_of}
 use Rattle.aql_exec_rows.specs.Collecting.{GivesOver}
@@ -22,7 +22,7 @@ add_block-requires-clause-holds g c =
     (sym c.deref.ensures.value) (c.requires.valid.1.held ask.3)
 
 pub returns-in-Waiting-clause-leads : goal.returns-in-Waiting-clause-leads
-returns-in-Waiting-clause-leads g c w p body d s0 s ins' ins t b r l0 l1 a e' e os ends h =
+returns-in-Waiting-clause-leads g c v w p body d s0 s ins' ins t b r l0 l1 a e' e os ends h =
     let me = c.args.self.now in
     let first = only_input c.args._input c.requires.input in
     let asked = rw first at c.requires.asked in
@@ -36,7 +36,7 @@ returns-in-Waiting-clause-leads g c w p body d s0 s ins' ins t b r l0 l1 a e' e 
     c.add_block.new.self me.finished.items asked.1.3 held h
 
 pub returns-in-HasMore-clause-leads : goal.returns-in-HasMore-clause-leads
-returns-in-HasMore-clause-leads g c w p body d s0 s ins' ins t b r l0 l1 a e' e os ends h =
+returns-in-HasMore-clause-leads g c v w p body d s0 s ins' ins t b r l0 l1 a e' e os ends h =
     let me = c.args.self.now in
     let first = only_input c.args._input c.requires.input in
     let asked = rw first at c.requires.asked in
@@ -65,7 +65,7 @@ finish-requires g c =
     (many ∙ length-map groups.keys.keys datum_of)
 
 pub returns-in_ok-self-in-Done-clause-leads : goal.returns-in_ok-self-in-Done-clause-leads
-returns-in_ok-self-in-Done-clause-leads g c w p body d s0 s ins' ins t b r l0 l1 a e' e os ends h =
+returns-in_ok-self-in-Done-clause-leads g c v w p body d s0 s ins' ins t b r l0 l1 a e' e os ends h =
     let me = c.args.self.now in
     let first = only_input c.args._input c.requires.input in
     let asked = rw first at c.requires.asked in
@@ -80,11 +80,11 @@ returns-in_ok-self-in-Done-clause-leads g c w p body d s0 s ins' ins t b r l0 l1
     → finished_in all ≡ map (result_of me.grouping.into me.kinds.items rows)
     (sort_values (datums_in s.keys.keys))) c.replace-groups.ensures.value
     (c.in_ok-self-in-Done.ensures.results me.grouping me.kinds.items) in
-    subst (λ b. (q : Rest) × Ahead [] d r q
+    subst (λ b. (q : Rest) × Prefixed v [] d r q
     × GivesOver b me.grouping me.kinds.items me.groups me.frame me.finished.items (ins 0) q) (sym asked.1.3)
     (last_taken me.grouping me.kinds.items me.frame (rows_of c.args.step.block) s0 s d (ins' 0) (ins 0) t b r l0
     (omega (arith, l1, skipped, offset)) a (rw first at e') (rw first at e) me.groups groups c.replace-groups.new.dest
     me.finished.items all c.requires.valid.1.frame c.requires.valid.1.kinds
-    (nil_from_length (ins' 0).rows (ends 0 refl)) held results
+    (nil_from_length (ins' 0).rows (ends 0 refl).0) held results
     (subst (λ fs. GivesOver true me.grouping me.kinds.items c.replace-groups.new.dest me.frame fs (ins' 0) r)
     c.reverse.ensures.items h))

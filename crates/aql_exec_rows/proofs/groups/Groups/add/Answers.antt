@@ -1,11 +1,9 @@
-use Rattle.std.proofs.Common.{◌≡◌, ◌<◌, ◌≤◌, ◌+◌, ◌∙◌, length, get_or, set, true, false, refl, ap, sym, subst, arith}
+use Rattle.std.proofs.Common.{◌≡◌, ◌∙◌, length, get_or, set, refl, ap, sym, subst, arith}
 use Rattle.std.specs.Prelude.{map, option_to_list}
 use Rattle.std.specs.List.{All}
 use Rattle.std.proofs.lemmas.List.{length-map, with_items_is}
 use Rattle.std.specs.Vec.{with_items}
 use Rattle.std.proofs.lemmas.Option.{slice_get_within}
-use Rattle.aql_value.specs.declared.values.Value.{Value}
-use Rattle.aql_value.specs.Contents.{is_in}
 use Rattle.aql_value.specs.View.{datum_of, datums_in}
 use Rattle.aql_block.specs.Rows.{row_of}
 use Rattle.aql_exec_rows.specs.GroupStates.{Takes}

@@ -1,15 +1,13 @@
-use Rattle.std.proofs.Common.{◌≡◌, ℕ, ◌≤◌, ◌+◌, ◌<◌, ◌∙◌, ◌++◌, ◌∷◌, [], List, length, map, take, Some, None, refl, sym, ap, subst, append_assoc, arith}
+use Rattle.std.proofs.Common.{◌≡◌, ℕ, ◌+◌, ◌<◌, ◌∙◌, ◌++◌, ◌∷◌, [], List, length, map, take, Some, None, sym, ap, subst, append_assoc, arith}
 use Rattle.std.specs.Prelude.{slice_get}
 use Rattle.std.proofs.lemmas.List.{take_more, map-append}
 use Rattle.std.proofs.lemmas.Option.{slice_get_within, slice_get-get_or, get_or_from_slice_get}
 use Rattle.aql_meaning.specs.Row.{Row, empty_row}
 use Rattle.aql_meaning.specs.Groups.{GroupedRow}
-use Rattle.aql_aggregate.specs.declared.staged.StagedKind.{StagedKind}
 use Rattle.aql_block.specs.Rows.{row_of}
 use Rattle.aql_block.specs.Tables.{rows_of}
 use Rattle.aql_exec_rows.specs.GroupStates.{seen, Holds}
 use Rattle.aql_exec_rows.specs.declared.grouping.Grouping.{Grouping}
-use Rattle.aql_exec_rows.specs.declared.groups.Groups.{Groups}
 use Rattle.aql_exec_rows.proofs.groups.Groups.add_block.Goals.{in-Some+in_ok-add, in_default}
 use Rattle.aql_exec_rows.proofs.groups.Groups.add_block.Goals as goal
 

@@ -1,4 +1,4 @@
-use Rattle.std.proofs.Common.{◌≡◌, ◌+◌, ◌≤◌, ◌++◌, List, length, map, take}
+use Rattle.std.proofs.Common.{◌+◌, ◌≤◌, ◌++◌, List, length, map, take}
 use Rattle.aql_block.specs.Tables.{rows_of}
 use Rattle.aql_meaning.specs.Groups.{GroupedRow}
 use Rattle.aql_exec_rows.specs.GroupStates.{seen, Holds}

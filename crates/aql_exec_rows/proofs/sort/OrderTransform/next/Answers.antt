@@ -1,16 +1,16 @@
 use Rattle.std.proofs.Common.{◌∙◌, ◌≤◌, length, reverse, ap, sym, subst, arith, length-append}
 use Rattle.aql_block.specs.Tables.{rows_of}
 use Rattle.aql_exec.specs.Counting.{nothing}
-use Rattle.aql_exec.specs.laws.Telling.{rises_none}
 use Rattle.aql_exec_rows.specs.Keys.{keyed_in, rows_alone}
 use Rattle.aql_exec_rows.specs.Sorting.{AreFew}
+use Rattle.aql_exec.specs.laws.Counted.{rises_none}
 use Rattle.aql_exec_rows.proofs.Joining.{none_ahead, front_leaves, row_count, fewer_few, if_ok, both_on_ok}
 use Rattle.aql_exec_rows.proofs.sort.OrderTransform.next.Goals as goal
 
 pub returns-then-not-self-clause-left : goal.returns-then-not-self-clause-left
 returns-then-not-self-clause-left g c = (
   nothing,
-  rises_none _,
+  rises_none g.W.Surroundings c.args._tally.now c.args._world.now,
   λ rows r h. (r, none_ahead _ r (ap rows_of c.empty.ensures), c.in_ok-prepare.ensures.left rows r h),
 )
 
@@ -39,7 +39,7 @@ pub returns-clause-left : goal.returns-clause-left
 returns-clause-left g c =
     if_ok c.give.result c.give.ensures.rows (λ block rows. (
       nothing,
-      rises_none _,
+      rises_none g.W.Surroundings c.args._tally.now c.args._world.now,
       λ others r h.
           (let sorted = c.if-not-self.false in
           let b = front_leaves c.prepare.new.self c.give.new.self (rows_of block) others r sorted

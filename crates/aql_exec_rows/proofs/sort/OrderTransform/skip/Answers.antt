@@ -1,17 +1,17 @@
 use Rattle.std.proofs.Common.{◌≡◌, ◌∙◌, ◌-◌, ◌++◌, [], length, drop, reverse, refl, ap, sym, subst, arith, length-drop}
 use Rattle.std.proofs.lemmas.List.{length-take}
 use Rattle.aql_exec.specs.Counting.{nothing}
-use Rattle.aql_exec.specs.laws.Telling.{rises_none}
 use Rattle.aql_exec_rows.specs.declared.sort.Order.{Order}
 use Rattle.aql_exec_rows.specs.Keys.{keyed_in, rows_alone}
 use Rattle.aql_exec_rows.specs.Sorting.{AllHave}
+use Rattle.aql_exec.specs.laws.Counted.{rises_none}
 use Rattle.aql_exec_rows.proofs.Joining.{none_ahead, front_leaves, row_count, last_cut, fewer_few, take_has}
 use Rattle.aql_exec_rows.proofs.sort.OrderTransform.skip.Goals as goal
 
 pub returns-then-not-self-clause-left : goal.returns-then-not-self-clause-left
 returns-then-not-self-clause-left g c = (
   nothing,
-  rises_none _,
+  rises_none g.W.Surroundings c.args._tally.now c.args._world.now,
   λ rows r h. ([], r, refl, none_ahead [] r refl, c.in_ok-prepare.ensures.left rows r h),
 )
 
@@ -45,7 +45,7 @@ returns-clause-left g c =
     let same : c.len.result ≡ length before.rows.items = c.len.ensures ∙ before.rows.ok.0 in
     let few = c.min-count.ensures in (
       nothing,
-      rises_none _,
+      rises_none g.W.Surroundings c.args._tally.now c.args._world.now,
       λ others r h.
           (let sorted = c.if-not-self.false in
           let b = front_leaves before after front others r sorted sorted rows h in (

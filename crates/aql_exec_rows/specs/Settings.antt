@@ -1,4 +1,4 @@
--- What a COLLECT is told, as the definitions see it: its stage, the variables and expressions of its
+-- What a COLLECT is set to, as the definitions see it: its stage, the variables and expressions of its
 -- criteria, its aggregates and its INTO.
 use Rattle.std.specs.Prelude.{◌≡◌, List, map, Bool, true, false, Option, Some, option_map}
 use Rattle.aql_func.specs.Aggregates.{Aggregate, aggregate_named}
