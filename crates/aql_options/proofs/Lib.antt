@@ -1,3 +1,2 @@
 pub mod Lists
 pub mod Parsed
-pub mod Bounds

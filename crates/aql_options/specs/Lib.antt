@@ -1,2 +1,3 @@
 pub mod Words
 pub mod Generated
+pub mod laws

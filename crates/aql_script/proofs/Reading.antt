@@ -1,23 +1,16 @@
 -- What was read from a source is a script, or has a fault.
-use Rattle.std.proofs.Common.{sym, ◌≡◌, ◌≤◌, ◌<◌, ℕ, List, true, false, Option, Ok, Err, subst, refl, ◌∙◌, inl, inr, length, nat_le, arith}
+use Rattle.std.proofs.Common.{sym, ◌≡◌, ◌≤◌, ◌<◌, ℕ, List, Option, Ok, Err, subst, ◌∙◌, inl, inr, length, arith}
 use Rattle.std.specs.Prelude.{Result, ⊤, IfOk, IfErr, OnErr}
 use Rattle.std.specs.Io.KnownBytes.{Consumes, IsAtEnd}
 use Rattle.aql_io.specs.Bytes.{HandsOut}
 use Rattle.aql_script.specs.inner.Meets.{Meets}
-use Rattle.aql_script.proofs.OfBytes.{fault_of_lines}
-use Rattle.aql_script.specs.Script.{lines, script, Loads, Hinders, IsFaulty}
+use Rattle.aql_script.specs.Script.{lines, Loads, Hinders, IsFaulty}
+use Rattle.aql_script.specs.laws.OfBytes.{fault_of_lines}
+use Rattle.aql_script.specs.laws.Scripts.{script_within, script_beyond}
 use Rattle.aql_script.specs.declared.loading.Loaded.{Loaded}
 use Rattle.aql_script.specs.declared.faults.LoadFault.{LoadFault}
 use Rattle.aql_script.specs.declared.faults.LoadFault.TheVariants.{Read, Limit, Line, Memory}
 use Rattle.aql_script.specs.declared.faults.LimitKind.TheVariants.{ScriptBytes}
-
-pub script_within : (bytes : List ℕ) → length bytes ≤ 67108864 → script bytes ≡ lines bytes
-unfolding script
-script_within bytes h = let few : nat_le (length bytes) 67108864 ≡ true = grind (arith, h) in rw few refl
-
-pub script_beyond : (bytes : List ℕ) → 67108864 < length bytes → script bytes ≡ Err (Limit ScriptBytes)
-unfolding script
-script_beyond bytes h = let many : nat_le (length bytes) 67108864 ≡ false = grind (arith, h) in rw many refl
 
 module _ (bytes : List ℕ) (before after : Option (List ℕ)) where
   pub loads : length bytes ≤ 67108864 → Consumes before after bytes → IsAtEnd after

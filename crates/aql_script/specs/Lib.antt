@@ -5,4 +5,5 @@ pub mod Lines
 pub mod LineEffects
 pub mod Script
 pub mod Texts
+pub mod laws
 pub mod inner

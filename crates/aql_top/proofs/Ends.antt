@@ -1,6 +1,6 @@
 -- Which status comes, and what the engine's list gained.
-use Rattle.std.proofs.Common.{arith, ◌≡◌, ◌≢◌, ℕ, ◌⊎◌, ◌↔◌, inl, inr, List, [], Option, Some, None, Err, refl, sym, ap, ◌∙◌, subst}
-use Rattle.std.specs.Prelude.{IsSome, IsSomeAnd, IfSome, Result, codes}
+use Rattle.std.proofs.Common.{arith, ◌≡◌, ◌≢◌, ◌≤◌, ℕ, ◌⊎◌, ◌↔◌, inl, inr, List, [], Option, Some, None, Err, refl, sym, ap, ◌∙◌, subst}
+use Rattle.std.specs.Prelude.{⊤, IsSome, IsSomeAnd, IfSome, MatchOption, Result, codes}
 use Rattle.aql_script.specs.Script.{IsScript, HasFault}
 use Rattle.aql_script.specs.declared.loading.Loaded.{Loaded}
 use Rattle.aql_script.specs.declared.faults.LoadFault.{LoadFault}
@@ -12,9 +12,10 @@ use Rattle.aql_top.specs.declared.query_faults.QueryFault.{QueryFault}
 use Rattle.aql_top.specs.declared.query_faults.QueryFault.TheVariants as query
 use Rattle.aql_top.specs.Reading.{Refuses}
 use Rattle.aql_top.proofs.Once.{only_query, only_fault}
+use Rattle.aql_top.proofs.made.Accepted.{made_accepted}
 use Rattle.aql_options.specs.Words.{Words as WordsOf}
 use Rattle.aql_options.specs.declared.settings.Settings.{Settings}
-use Rattle.aql_options.proofs.Bounds.{same_generate}
+use Rattle.aql_options.specs.laws.Bounds.{same_generate, generate_bounds}
 use Rattle.aql_top.specs.Forms.{Gives, TakesWords, HasQuery, Accepts, HasQueryFault, made_or_left, script_bytes}
 use Rattle.aql_top.specs.Reasons.{fault_status, query_status, Deserves, IsTextOf, as_line}
 use Rattle.aql_top.specs.Faults.{Leads, LeadsBy, status_of, line_of, IsMade}
@@ -136,6 +137,12 @@ completes (Query fault) bytes h a = absurd (none_deserved bytes _ _ a (Deserves.
 completes Write bytes h a = inr (inr (inl refl))
 completes Memory bytes h a = inr (inr (inr refl))
 
+-- where no read fails
+pub unless_read : (n : ℕ) → Completes n → (n ≡ 6 → ⊥) → (n ≡ 0) ⊎ ((n ≡ 7) ⊎ (n ≡ 8))
+unless_read n (inl zero) never = inl zero
+unless_read n (inr (inl six)) never = absurd (never six)
+unless_read n (inr (inr late)) never = inr late
+
 completes_input : (e : RunFault) (input : Option (List ℕ)) → LeadsBy e input → IsSomeAnd input Accepts
     → Completes (status_of e)
 completes_input e None h a = absurd a
@@ -171,6 +178,13 @@ module _ (words : List (List ℕ)) (settings : Settings) (w : WordsOf words sett
   complete e h a =
       by_words e h (λ is. absurd (no_words e h is)) (λ is. inr (inr (inr (ap status_of is))))
       (λ by. completes_input e (script_bytes settings left) by a)
+
+  -- a script that is made is accepted
+  pub accepts_made : (n : ℕ) → settings.generate ≡ Some n → IsSomeAnd (script_bytes settings left) Accepts
+  accepts_made n is =
+      let bounds = subst (λ m. MatchOption m ⊤ (λ k. (1 ≤ k) × (k ≤ 100000))) is
+      (generate_bounds words settings w) in
+      subst (λ m. IsSomeAnd (made_or_left m left) Accepts) (sym is) (made_accepted n bounds.0 bounds.1)
 
   -- where the text came, nothing is deserved
   pub printed_deserves : (s : ℕ) (t : List ℕ)

@@ -5,3 +5,4 @@ pub mod Answering
 pub mod Ends
 pub mod Once
 pub mod Settings
+pub mod made

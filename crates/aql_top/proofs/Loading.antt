@@ -4,7 +4,7 @@ use Rattle.std.specs.Prelude.{IfSome, Result}
 use Rattle.std.proofs.lemmas.Bool.{false≢true}
 use Rattle.aql_io.specs.Bytes.{HandsOut}
 use Rattle.aql_script.specs.Script.{script, IsScript, HasFault, Loads, IsFaulty, Hinders}
-use Rattle.aql_script.proofs.OfBytes.{fault_of_bytes}
+use Rattle.aql_script.specs.laws.OfBytes.{fault_of_bytes}
 use Rattle.aql_script.specs.declared.loading.Loaded.{Loaded}
 use Rattle.aql_script.specs.declared.faults.LoadFault.{LoadFault}
 use Rattle.aql_script.specs.declared.faults.LoadFault.TheVariants.{Read, Limit, Line, Memory}

@@ -35,6 +35,7 @@ pub(crate) fn load_script<S: Source>(
         → HandsOut (S.left source.old) (S.left source.new) (λ taken. length taken ≤ 67108864)) }
     ensures early { IfErr result (λ fault. status_of fault ≢ 7) }
     ensures unread { (n : ℕ) → made ≡ Some n → source.new ≡ source.old }
+    ensures no_read { IfErr result (λ fault. status_of fault ≡ 6 → made ≡ None) }
 {
     match made {
         None => load_source(alloc, source),

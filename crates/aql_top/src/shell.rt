@@ -41,8 +41,8 @@ use std::alloc::Global;
 /// | 8 | where memory ran out, and nothing was written to `out` |
 ///
 /// (*) unless a read fails or memory runs out. The faults of the script come before those of its
-/// query. With any status but 0 and 7 nothing is written to `out`. A failed write to `err` changes
-/// nothing.
+/// query. Where the script is made, only 0, 7 and 8 come. With any status but 0 and 7 nothing is
+/// written to `out`. A failed write to `err` changes nothing.
 pub fn run_shell<S: Source, K: Sink, E: Sink, G: Engine>(
     alloc: Global,
     words: &Names,
@@ -86,6 +86,8 @@ pub fn run_shell<S: Source, K: Sink, E: Sink, G: Engine>(
     ensures complete { (settings : Settings) → Words words.now settings
         → IsSomeAnd (script_bytes settings (S.left source.old)) Accepts
         → (result ≡ 0) ⊎ ((result ≡ 6) ⊎ ((result ≡ 7) ⊎ (result ≡ 8))) }
+    // Of a script that is made the text comes, unless a write fails or memory runs out.
+    ensures made { Generates words.now → (result ≡ 0) ⊎ ((result ≡ 7) ⊎ (result ≡ 8)) }
 
     // With 8 the engine's list has at most the one entry of a run; with 0 and 7 what stands there
     // says it, and else the engine was not called. A plan that is explained is not run.
@@ -141,6 +143,7 @@ fn run<S: Source, K: Sink, G: Engine>(
     ensures untouched { IfErr result (λ fault. status_of fault ≢ 7 → out.new ≡ out.old) }
     ensures unread { IfErr result (λ fault. status_of fault ≡ 2 → source.new ≡ source.old) }
     ensures made { Generates words.now → source.new ≡ source.old }
+    ensures no_read { IfErr result (λ fault. status_of fault ≡ 6 → Generates words.now → ⊥) }
     ensures at_most { (G.entries engine.new ≡ G.entries engine.old)
         ⊎ Gives words.now (λ settings. AddsAtMostOne settings
         (S.left source.old) (G.entries engine.old) (G.entries engine.new)) }
@@ -187,6 +190,8 @@ fn run_with<S: Source, K: Sink, G: Engine>(
         (AppendsPrefix (K.written out.old) (K.written out.new))) }
     ensures untouched { IfErr result (λ fault. status_of fault ≢ 7 → out.new ≡ out.old) }
     ensures unread { (n : ℕ) → settings.now.generate ≡ Some n → source.new ≡ source.old }
+    ensures no_read { IfErr result
+        (λ fault. status_of fault ≡ 6 → settings.now.generate ≡ None) }
     ensures at_most { AddsAtMostOne settings.now (S.left source.old)
         (G.entries engine.old) (G.entries engine.new) }
     ensures idle { IfErr result (λ fault. status_of fault ≢ 7 → status_of fault ≢ 8

@@ -1,6 +1,6 @@
 use Rattle.std.proofs.Common.{inr, sym, subst}
 use Rattle.aql_script.specs.inner.Meets.{Meets}
-use Rattle.aql_script.proofs.Reading.{script_within, script_beyond}
+use Rattle.aql_script.specs.laws.Scripts.{script_within, script_beyond}
 use Rattle.aql_script.proofs.loading.load_bytes.Goals as goal
 
 pub returns-then-bytes-gt-SCRIPT_BYTES : goal.returns-then-bytes-gt-SCRIPT_BYTES

@@ -5,7 +5,7 @@ use Rattle.aql_script.specs.inner.Meets.{Meets}
 use Rattle.aql_script.specs.LineEffects.{line_effect}
 use Rattle.aql_script.specs.declared.loading.Loaded.{Loaded}
 use Rattle.aql_script.specs.declared.faults.LoadFault.{LoadFault}
-use Rattle.aql_script.proofs.Cuts.{last_line, no_line}
+use Rattle.aql_script.specs.laws.Cuts.{last_line, no_line}
 use Rattle.aql_script.proofs.loading.load_last.Goals as goal
 
 pub returns-then-bytes-eq0 : goal.returns-then-bytes-eq0

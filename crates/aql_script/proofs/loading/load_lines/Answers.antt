@@ -6,7 +6,7 @@ use Rattle.aql_script.specs.inner.Meets.{Meets}
 use Rattle.aql_script.specs.LineEffects.{line_effect}
 use Rattle.aql_script.specs.declared.loading.Loaded.{Loaded}
 use Rattle.aql_script.specs.declared.faults.LoadFault.{LoadFault}
-use Rattle.aql_script.proofs.Cuts.{cut_length, goes, ends}
+use Rattle.aql_script.specs.laws.Cuts.{cut_length, goes, ends}
 use Rattle.aql_script.proofs.loading.load_lines.Goals as goal
 
 pub lines-init : goal.lines-init

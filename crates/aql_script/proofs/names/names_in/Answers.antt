@@ -1,7 +1,7 @@
 use Rattle.std.proofs.Common.{◌≡◌, ◌∙◌, ap, length, map, arith}
 use Rattle.std.proofs.lemmas.List.{length-map}
 use Rattle.aql_script.specs.Pieces.{pieces}
-use Rattle.aql_script.proofs.Cuts.{one_piece}
+use Rattle.aql_script.specs.laws.Cuts.{one_piece}
 use Rattle.aql_script.proofs.names.names_in.Goals as goal
 
 pub names_of-requires : goal.names_of-requires

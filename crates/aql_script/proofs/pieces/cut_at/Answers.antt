@@ -1,6 +1,6 @@
 use Rattle.std.proofs.Common.{arith}
 use Rattle.std.proofs.lemmas.List.{take_rest}
-use Rattle.aql_script.proofs.Cuts.{cut_here, cut_none}
+use Rattle.aql_script.specs.laws.Cuts.{cut_here, cut_none}
 use Rattle.aql_script.proofs.pieces.cut_at.Goals as goal
 
 pub returns-in-Some : goal.returns-in-Some

@@ -1,6 +1,6 @@
 use Rattle.std.proofs.Common.{arith, ◌≡◌, ◌⊎◌, sym, subst}
 use Rattle.aql_top.specs.Reasons.{Tells}
-use Rattle.aql_top.proofs.Ends.{Deserved, Completes, told_leads, deserved, refused, complete, printed_deserves, IsOfWords, printed_words, fault_words, never_0, of_fault, unread, idle}
+use Rattle.aql_top.proofs.Ends.{Deserved, Completes, told_leads, deserved, refused, complete, unless_read, accepts_made, printed_deserves, IsOfWords, printed_words, fault_words, never_0, of_fault, unread, idle}
 use Rattle.aql_top.proofs.shell.run_shell.Goals as goal
 
 pub returns-in-Ok-clause-refused : goal.returns-in-Ok-clause-refused
@@ -71,6 +71,16 @@ returns-in-Err-clause-complete g c = λ settings w accepts.
     let fault = c.tell-fault.result in
     let leads = told_leads c.in-Err.fault fault words left c.tell-fault.ensures.same c.in-Err.ensures.leads in
     subst Completes (sym c.status.ensures) (complete words settings w left fault leads accepts)
+
+pub returns-in-Err-clause-made : goal.returns-in-Err-clause-made
+returns-in-Err-clause-made g c = λ generates.
+    let words = c.args.words.now in
+    let left = g.S.Source.left c.args.source.now in
+    let settings = generates.0 in
+    let accepts = accepts_made words settings generates.1 left generates.2.0 generates.2.1 in
+    unless_read _ (returns-in-Err-clause-complete g c settings generates.1 accepts)
+    (of_fault c.in-Err.fault c.tell-fault.result c.tell-fault.ensures.same _ c.status.ensures 6
+    (λ k. omega (arith, k)) (λ six. c.in-Err.ensures.no_read six generates))
 
 pub returns-in-Err-clause-idle : goal.returns-in-Err-clause-idle
 returns-in-Err-clause-idle g c = λ success.

@@ -1,8 +1,8 @@
 -- What the settings that words give have in common, and their bounds.
-use Rattle.std.proofs.Common.{◌≡◌, ◌∙◌, ◌≤◌, ℕ, List, Bool, true, false, Option, None, Some, refl, sym, ap, arith}
+use Rattle.std.proofs.Common.{◌≡◌, ◌∙◌, ◌≤◌, ℕ, List, Bool, true, Option, None, Some, sym, ap, arith}
 use Rattle.std.specs.Prelude.{⊤, MatchOption}
-use Rattle.clap.specs.Words.{Text, first_of, matches_of}
-use Rattle.aql_options.specs.Words.{command, IsBatch, IsFlag, IsGenerated, Words}
+use Rattle.clap.specs.Words.{Text}
+use Rattle.aql_options.specs.Words.{IsBatch, IsFlag, IsGenerated, Words}
 use Rattle.aql_options.specs.declared.settings.Settings.{Settings}
 
 batch_within : (value : Option Text) (n : ℕ) → IsBatch value n → (1 ≤ n) × (n ≤ 10000)

@@ -20,7 +20,7 @@ use Rattle.aql_script.specs.Directives.{directive}
 use Rattle.aql_script.specs.Lines.{LineEffect, next, query, fault, after, last, read, with_query}
 use Rattle.aql_script.specs.LineEffects.{line_effect, by_first, directive_effect, by_directive, declaration, declare_effect, index, index_at, index_effect, document, with_value, document_effect, doc_fault, json_fault, shards_of, keys_of}
 use Rattle.aql_script.specs.Script.{lines, script, HasFault, IsOfBytes}
-use Rattle.aql_script.proofs.LowerFaults.{FaultIs, OfCatalog, OfDocument, OfJson, declared_is, indexed_is, added_is, json_is}
+use Rattle.aql_script.specs.laws.LowerFaults.{FaultIs, OfCatalog, OfDocument, OfJson, declared_is, indexed_is, added_is, json_is}
 use Rattle.aql_script.specs.declared.loading.Loaded.{Loaded}
 use Rattle.aql_script.specs.declared.options.Options.{Options}
 use Rattle.aql_script.specs.declared.directives.Directive.{Directive}

@@ -1,0 +1,4 @@
+pub mod Cuts
+pub mod LowerFaults
+pub mod OfBytes
+pub mod Scripts

@@ -1,0 +1,14 @@
+pub mod Texts
+pub mod Json
+pub mod Documents
+pub mod Lines
+pub mod Users
+pub mod Edges
+pub mod Script
+pub mod Pieces
+pub mod Tokens
+pub mod Query
+pub mod Tree
+pub mod Written
+pub mod NoFault
+pub mod Accepted
