@@ -1,4 +1,5 @@
 mod catalogs;
+mod counts;
 mod pages;
 mod rule_sets;
 mod scoping;
