@@ -7,6 +7,7 @@ mod expressions;
 mod exprs;
 mod facts;
 mod filters;
+mod indexes;
 mod lines;
 mod loops;
 mod nodes;

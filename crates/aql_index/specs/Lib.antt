@@ -1,0 +1,9 @@
+pub mod Bounds
+pub mod Entries
+pub mod IndexOrder
+pub mod Spans
+pub mod Groups
+pub mod Found
+pub mod Theorems
+pub mod laws
+pub mod inner

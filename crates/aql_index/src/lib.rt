@@ -1,0 +1,15 @@
+//! Indexes over the documents of a collection: lookups by one attribute, and sorted indexes.
+#![tactic(auto)]
+
+mod bounds;
+mod entries;
+mod groups;
+pub mod laws;
+mod lookup;
+mod sorted_index;
+mod spans;
+
+pub use bounds::{Bound, Span};
+pub use lookup::Lookup;
+pub use sorted_index::{SortedIndex, spans_of};
+pub use spans::Spans;
