@@ -2,13 +2,13 @@
 -- the tally of a run counts.
 use Rattle.std.specs.List.{AllByRecursion}
 use Rattle.std.proofs.Common.{subst, ℕ, ◌≡◌}
+use Rattle.aql_value.specs.laws.Alls.{all_parts}
 use Rattle.aql_block.specs.declared.tally.Tally.{Tally}
 use Rattle.aql_plan.specs.declared.facts.Facts.{Facts}
 use Rattle.aql_plan.specs.Plan.{Plan, Singleton, Over, Node, Subquery, Collect}
 use Rattle.aql_meaning.specs.Numbered.{IsNumber}
 use Rattle.aql_meaning.specs.declared.grouping.Stage.TheVariants as stage
 use Rattle.aql_plan.specs.Variables.{vars_set, set_once}
-use Rattle.aql_plan_laws.specs.laws.Carried.{all_parts}
 use Rattle.aql_plan.specs.Shapes.{Shape, IsOuter, ReadsFragment, ReadsShard, KeepsRowOrder, Shaped, one_row, calculated, with_subquery, plain_rows, ordered_rows, scatter, distribute, remote, lowest, lowest_in_order, other_reading, passing, sorting, gather, gather_in_order, partial, joining, finishing, returning}
 use Rattle.aql_exec.specs.Rests.{Counter, scanned_full, scanned_index, filtered, Counts, Exact}
 use Rattle.aql_exec.specs.Rising.{Rose, TallyRose, IsExact, Rises}

@@ -2,6 +2,7 @@
 use Rattle.std.proofs.Common.{◌≡◌, ap, refl, subst, ℕ, suc, List, [], ◌∷◌, ◌++◌}
 use Rattle.std.specs.Prelude.{Some, None}
 use Rattle.std.specs.List.{AllByRecursion}
+use Rattle.aql_value.specs.laws.Alls.{all_parts}
 use Rattle.aql_tree.specs.declared.syntax.Ident.{Ident}
 use Rattle.aql_tree.specs.declared.syntax.Ident.TheVariants.{Name, Num}
 use Rattle.aql_tree.specs.Tree.{no_into}
@@ -13,7 +14,6 @@ use Rattle.aql_plan.specs.Plan.{Plan, Over, Node, EnumerateCollection, Index, En
 use Rattle.aql_plan.specs.Needs.{sets}
 use Rattle.aql_plan.specs.Variables.{vars_set, set_once, numbers}
 use Rattle.aql_plan.specs.Shapes.{Shape, Foot, Fragment, States, AllStates, Sent, Result, IsOuter, ReadsFragment, ReadsShard, KeepsRowOrder, IsSent, Shaped, one_row, calculated, with_subquery, plain_rows, ordered_rows, scatter, distribute, remote, lowest, lowest_in_order, other_reading, passing, sorting, gather, gather_in_order, partial, joining, finishing, returning}
-use Rattle.aql_plan_laws.specs.laws.Carried.{all_parts}
 use Rattle.aql_plan_check.specs.inner.Rows.{variables, IsNum, AreNumbers, GivesRows, RowsNumbered, BodyNumbered, ResultNumbered}
 
 is_num : (x : Ident) → IsNumber x → IsNum x

@@ -3,10 +3,10 @@ use Rattle.std.proofs.Common.{◌≡◌, ◌∙◌, ap, sym, refl, subst, ℕ, �
 use Rattle.std.specs.Prelude.{◌↔◌, IsTrue}
 use Rattle.std.specs.List.{AllByRecursion}
 use Rattle.std.proofs.lemmas.List.{drop_more}
+use Rattle.aql_value.specs.laws.Alls.{all_append, all_parts}
 use Rattle.aql_meaning.specs.Numbered.{IsNumber}
 use Rattle.aql_plan.specs.Plan.{Plan, Over, top}
 use Rattle.aql_plan.specs.Variables.{vars_set, set_once}
-use Rattle.aql_plan_laws.specs.laws.Carried.{all_parts}
 
 -- what is left of a list, from one place on
 pub left : {X : Type 0} (xs : List X) (i : ℕ) (x : X) → i < length xs → x ≡ get_or xs i x
@@ -20,14 +20,9 @@ both r s h k l e = ((λ t. h.0 (k.0 e, l.0 t)), (λ w. l.1 (h.1 w).1))
 pub first_fails : {A B W : Type 0} (r : Bool) → (A × B) ↔ W → IsTrue r ↔ A → r ≡ false → IsTrue r ↔ W
 first_fails r h k e = ((λ t. absurd (true≢false (sym t ∙ e))), (λ w. k.1 (h.1 w).0))
 
-glued : {X : Type 0} (P : X → Type 0) (xs ys : List X) → AllByRecursion P xs → AllByRecursion P ys
-    → AllByRecursion P (xs ++ ys)
-glued P [] ys h k = k
-glued P (x ∷ xs) ys h k = (h.0, glued P xs ys h.1 k)
-
 pub joined : {X : Type 0} (P : X → Type 0) (xs ys : List X)
     → (AllByRecursion P xs × AllByRecursion P ys) ↔ AllByRecursion P (xs ++ ys)
-joined P xs ys = ((λ h. glued P xs ys h.0 h.1), (λ h. all_parts P xs ys h))
+joined P xs ys = ((λ h. all_append P xs ys h.0 h.1), (λ h. all_parts P xs ys h))
 
 -- two tests of one thing
 pub same_test : {P : Type 0} (r b : Bool) → IsTrue r ↔ P → P ↔ (b ≡ true) → r ≡ b

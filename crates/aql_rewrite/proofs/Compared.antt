@@ -5,9 +5,10 @@ use Rattle.std.specs.Cmp.Lexicographic.{pointwise}
 use Rattle.aql_tree.specs.declared.syntax.Expr.{Expr}
 use Rattle.aql_tree.specs.declared.syntax.Expr as code
 use Rattle.aql_tree.specs.View.{tree, trees, member_part, steps, step_part, links, link_part}
+use Rattle.aql_tree.specs.laws.Parts.{access_form}
 use Rattle.aql_rewrite.specs.inner.Same.{same_expr, same_list, same_steps, same_links, same_member, same_step, same_link}
 use Rattle.aql_rewrite.specs.laws.Sameness.{list_pairs, member_pairs, step_pairs, link_pairs}
-use Rattle.aql_rewrite.proofs.Forms.{list_form, object_form, access_form, call_form, chain_form}
+use Rattle.aql_rewrite.proofs.Forms.{list_form, object_form, call_form, chain_form}
 
 pub lists_compared : (a b : Expr) (xs ys : _) (answer : Bool) → a ≡ code.List xs → b ≡ code.List ys
     → answer ≡ pointwise same_expr (map tree xs) (map tree ys) → answer ≡ same_expr (tree a) (tree b)

@@ -10,6 +10,7 @@ use Rattle.aql_tree.specs.declared.syntax.Expr as code
 use Rattle.aql_tree.specs.View.{tree, trees, members, MemberPart, named, computed, member_part}
 use Rattle.aql_tree.specs.View.{steps, StepPart, name, at, inline, step_part, links, LinkPart, link_part}
 use Rattle.aql_tree.specs.View.{maybe}
+use Rattle.aql_tree.specs.laws.Parts.{access_form, ternary_form, range_form}
 use Rattle.aql_rewrite.specs.Children.{children, list_children, member_children, step_children, link_children, maybe_children}
 use Rattle.aql_rewrite.specs.OverChildren.{first_or, after_first, over_list, over_maybe, after_maybe}
 use Rattle.aql_rewrite.specs.OverChildren.{over_members, over_steps, over_links, over_children}
@@ -26,12 +27,6 @@ list_form e es h =
 pub object_form : (e : Expr) (fs : _) → e ≡ code.Object fs → tree e ≡ object_literal (members (map member_part fs))
 object_form e fs h =
     ap tree h ∙ (let k : tree (code.Object fs) ≡ object_literal (members (map member_part fs))
-    = search (rules, the_lemmas) in k)
-
-pub access_form : (e : Expr) (a ss : _) → e ≡ code.Access a ss
-    → tree e ≡ access (tree a.value) (steps (map step_part ss))
-access_form e a ss h =
-    ap tree h ∙ (let k : tree (code.Access a ss) ≡ access (tree a.value) (steps (map step_part ss))
     = search (rules, the_lemmas) in k)
 
 pub call_form : (e : Expr) (n es : _) → e ≡ code.Call n es → tree e ≡ function_call n (trees (map tree es))
@@ -53,18 +48,6 @@ quant_form : (e : Expr) (a kind op b : _) → e ≡ code.Quant a kind op b
     → tree e ≡ array_comparison (tree a.value) kind op (tree b.value)
 quant_form e a kind op b h =
     ap tree h ∙ (let k : tree (code.Quant a kind op b) ≡ array_comparison (tree a.value) kind op (tree b.value)
-    = search (rules, the_lemmas) in k)
-
-cond_form : (e : Expr) (t m o : _) → e ≡ code.Cond t m o
-    → tree e ≡ ternary (tree t.value) (maybe (option_map (λ b. tree b.value) m)) (tree o.value)
-cond_form e t m o h =
-    ap tree h ∙ (let k : tree (code.Cond t m o)
-    ≡ ternary (tree t.value) (maybe (option_map (λ b. tree b.value) m)) (tree o.value)
-    = search (rules, the_lemmas) in k)
-
-range_form : (e : Expr) (a b : _) → e ≡ code.Range a b → tree e ≡ range_of (tree a.value) (tree b.value)
-range_form e a b h =
-    ap tree h ∙ (let k : tree (code.Range a b) ≡ range_of (tree a.value) (tree b.value)
     = search (rules, the_lemmas) in k)
 
 -- ---- the parts
@@ -101,7 +84,7 @@ quant_has e a k op b h = ap children (quant_form e a k op b h)
 pub cond_has : (e : Expr) (t m o : _) → e ≡ code.Cond t m o
     → children (tree e) ≡ tree t.value
     ∷ (maybe_children (maybe (option_map (λ b. tree b.value) m)) ++ tree o.value ∷ [])
-cond_has e t m o h = ap children (cond_form e t m o h)
+cond_has e t m o h = ap children (ternary_form e t m o h)
 
 pub range_has : (e : Expr) (a b : _) → e ≡ code.Range a b
     → children (tree e) ≡ tree a.value ∷ tree b.value ∷ []
@@ -185,7 +168,7 @@ module _ (ps : List ExprTree) where
       (first_or (tree o.value) (after_option (option_map (λ b. tree b.value) m) (after_first ps)))
   over_a_cond e t m o h =
       let middle = option_map (λ b. tree b.value) m in
-      ap (λ t. over_children t ps) (cond_form e t m o h)
+      ap (λ t. over_children t ps) (ternary_form e t m o h)
       ∙ ap₂ (λ x qs. ternary (first_or (tree t.value) ps) x (first_or (tree o.value) qs))
       (maybe_over middle (after_first ps)) (after_over middle (after_first ps))
 

@@ -5,19 +5,8 @@ use Rattle.aql_tree.specs.Tree.{range_of, ternary}
 use Rattle.aql_tree.specs.declared.syntax.Expr.{Expr, the_lemmas}
 use Rattle.aql_tree.specs.declared.syntax.Expr as code
 use Rattle.aql_tree.specs.View.{tree, maybe}
+use Rattle.aql_tree.specs.laws.Parts.{range_form, ternary_form}
 use Rattle.aql_show.specs.Exprs.{expr_text, maybe_text}
-
-range_form : (e : Expr) (a b : _) → e ≡ code.Range a b → tree e ≡ range_of (tree a.value) (tree b.value)
-range_form e a b h =
-    ap tree h ∙ (let k : tree (code.Range a b) ≡ range_of (tree a.value) (tree b.value)
-    = search (rules, the_lemmas) in k)
-
-ternary_form : (e : Expr) (t m o : _) → e ≡ code.Cond t m o
-    → tree e ≡ ternary (tree t.value) (maybe (option_map (λ b. tree b.value) m)) (tree o.value)
-ternary_form e t m o h =
-    ap tree h ∙ (let k : tree (code.Cond t m o)
-    ≡ ternary (tree t.value) (maybe (option_map (λ b. tree b.value) m)) (tree o.value)
-    = search (rules, the_lemmas) in k)
 
 pub range_written : (names : List (List ℕ)) (e : Expr) (a b : _) (low high : Expr) (out o1 o2 o3 : List ℕ)
     → e ≡ code.Range a b → low ≡ a.value → high ≡ b.value

@@ -9,19 +9,13 @@ use Rattle.aql_value.specs.WellFormed.{FieldsWellFormed, IsBelowNames}
 use Rattle.aql_value.specs.laws.Ranks.{fields_rank, same_bytes, above_bytes}
 use Rattle.aql_value.specs.laws.Strict.{not_itself, chain}
 use Rattle.aql_value.specs.TotalOrder.{field_at, MissingBelow, IsFirstBelowAt, ObjectsCompareAtLeastName}
+use Rattle.aql_value.specs.laws.Kept.{above, below_later}
 
 itself : (k : List ℕ) → slice_cmp nat_cmp k k ≡ Equal
 itself k = tied_itself nat_list_cmp_total k
 
 alike : (k l : List ℕ) → k ≡ l → slice_cmp nat_cmp k l ≡ Equal
 alike k l e = ap (slice_cmp nat_cmp k) (sym e) ∙ itself k
-
-turned : (k l : List ℕ) → BytesBelow l k → slice_cmp nat_cmp k l ≡ Greater
-turned k l b = nat_list_cmp_total.antisymm k l ∙ ap ordering_reverse b
-
-below_later : (k l : List ℕ) (fs : Fields) → BytesBelow k l → IsBelowNames l fs → IsBelowNames k fs
-below_later k l no_fields b h = tt
-below_later k l (field m t fs) b h = (nat_list_cmp_total.trans k l m b h.0, below_later k l fs b h.1)
 
 none_at : (l : List ℕ) (fs : Fields) → IsBelowNames l fs → field_at l fs ≡ None
 none_at l no_fields h = refl
@@ -85,7 +79,7 @@ first (field k t fs) (field l u gs) w v (inr (e, inr (s, h))) =
     let from = subst (λ x. BytesBelow x r.0) (sym e) later in (
       r.0,
       (
-        rw (turned r.0 k from, turned r.0 l later) r.1.0,
+        rw (above r.0 k from, above r.0 l later) r.1.0,
         λ m c i. match_ordering (slice_cmp nat_cmp m (e i)) (r.1.1 m c i) (Some (s i)) (r.1.1 m c i),
       ),
     )

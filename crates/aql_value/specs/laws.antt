@@ -1,3 +1,4 @@
+pub mod Alls
 pub mod Falls
 pub mod Keyed
 pub mod Ranks

@@ -5,7 +5,7 @@ use Rattle.aql_value.specs.Datum.{Datum}
 use Rattle.aql_value.specs.Contents.{same, is_in}
 use Rattle.aql_tree.specs.Tree.{ExprTree}
 use Rattle.aql_func.specs.Lists.{firsts, add_all}
-use Rattle.aql_func.specs.laws.Firsts.{same_is, same_flip}
+use Rattle.aql_func.specs.laws.Firsts.{same_is, same_flip, is_in_push}
 use Rattle.aql_meaning.specs.Row.{Row}
 use Rattle.aql_meaning.specs.AtRows.{value_of, values_of}
 use Rattle.aql_plan.specs.Plan as plan
@@ -15,19 +15,6 @@ use Rattle.aql_exec.specs.Counting.{GivesCounting, NoneSent, nothing}
 use Rattle.aql_exec.specs.FirstResults.{unseen, results_of, shown, seen_after, left_results}
 
 -- ---- values that weren't seen
-
-is_in_push : (ts : List Datum) (x t : Datum) → is_in (ts ++ x ∷ []) t ≡ is_in ts t || same t x
-is_in_push [] x t = or_false (same t x)
-  where
-    or_false : (b : Bool) → b || false ≡ b
-    or_false true = refl
-    or_false false = refl
-is_in_push (u ∷ us) x t = ap (λ b. same t u || b) (is_in_push us x t)
-    ∙ grouped (same t u) (is_in us t) (same t x)
-  where
-    grouped : (a b c : Bool) → a || (b || c) ≡ (a || b) || c
-    grouped true b c = refl
-    grouped false b c = refl
 
 -- the values that are not the same as t, nor seen
 seen_others : (seen : List Datum) (t : Datum) → is_in seen t ≡ true → (ts : List Datum)

@@ -125,7 +125,7 @@ sift_more p xs i v out e f = rw e (rw f (sym (filter-append p (datums_in (take i
     by true l = refl
     by false l = append-nil l
 
-is_in_push : (ts : List Datum) (x t : Datum) → is_in (ts ++ x ∷ []) t ≡ is_in ts t || same t x
+pub is_in_push : (ts : List Datum) (x t : Datum) → is_in (ts ++ x ∷ []) t ≡ is_in ts t || same t x
 is_in_push [] x t = or_false (same t x)
   where
     or_false : (b : Bool) → b || false ≡ b

@@ -14,11 +14,6 @@ all_filter P p (x ∷ xs) h = by (p x) (all_filter P p xs h.1)
     by true k = (h.0, k)
     by false k = k
 
-pub all_to : {X : Type 0} (P Q : X → Type 0) → ((x : X) → P x → Q x) → (xs : List X) → AllByRecursion P xs
-    → AllByRecursion Q xs
-all_to P Q f [] h = tt
-all_to P Q f (x ∷ xs) h = (f x h.0, all_to P Q f xs h.1)
-
 -- tests that agree on a list
 pub filter_on : {X : Type 0} (p q : X → Bool) (xs : List X) → AllByRecursion (λ x. p x ≡ q x) xs
     → filter p xs ≡ filter q xs

@@ -7,6 +7,7 @@ use Rattle.std.proofs.lemmas.List.{take-map, length-map}
 use Rattle.std.proofs.lemmas.List.Sorted.{length_permutation}
 use Rattle.aql_value.specs.Datum.{Datum}
 use Rattle.aql_value.specs.Contents.{list, at_name, same}
+use Rattle.aql_value.specs.laws.Alls.{all_more}
 use Rattle.aql_meaning.specs.Documents.{index_keys}
 use Rattle.aql_meaning.specs.laws.Agrees.{map_same}
 use Rattle.aql_plan.specs.Facts as facts
@@ -16,7 +17,7 @@ use Rattle.aql_index.specs.Groups.{alike}
 use Rattle.aql_index.specs.IndexOrder.{insert, sort, index_entries}
 use Rattle.aql_index.specs.Theorems.{WidestIsOfDocuments}
 use Rattle.aql_index.specs.laws.Documents.{all_there, each_of, IsOf}
-use Rattle.aql_index.specs.laws.Filters.{all_to, filter_map, filter_on}
+use Rattle.aql_index.specs.laws.Filters.{filter_map, filter_on}
 use Rattle.aql_index.specs.laws.Passing.{filter_sort}
 
 -- ---- a maximum does not look at the order
@@ -66,7 +67,7 @@ module _ (names : List (List ℕ)) (documents : List Datum) (width : ℕ) where
       let es = entries_of names documents in
       ap length (filter_on (λ (f : Entry). same (list (take width e.keys)) (list (take width f.keys)))
       (λ f. tests d (document_of documents f)) es
-      (all_to (IsOf names documents) _ (λ (f : Entry) k.
+      (all_more (IsOf names documents) _ (λ (f : Entry) k.
       ap₂ (λ (a b : List Datum). same (list a) (list b)) (firsts e h) (firsts f k))
       es (each_of names documents)))
       ∙ sym (length-map (filter (λ f. tests d (document_of documents f)) es) (document_of documents))
@@ -84,6 +85,6 @@ widest_is_of_documents names documents width =
     ∙ max_sort is_before (λ e. length (alike width es e)) es 0
     ∙ ap (fold max 0) (map_on (λ e. length (alike width es e))
     (λ e. size names documents width (document_of documents e))
-    es (all_to (IsOf names documents) _ (group_is names documents width) es (each_of names documents))
+    es (all_more (IsOf names documents) _ (group_is names documents width) es (each_of names documents))
     ∙ sym (map_map (size names documents width) (document_of documents) es)
     ∙ ap (map (size names documents width)) (all_there names documents))

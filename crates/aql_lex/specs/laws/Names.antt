@@ -24,7 +24,7 @@ use Rattle.aql_lex.specs.laws.Separators.{no_fault, blank_apart, not_star}
 
 -- ---- words
 
-word_parts : (word : List ℕ) → is_word word ≡ true → list_all is_word_part word ≡ true
+pub word_parts : (word : List ℕ) → is_word word ≡ true → list_all is_word_part word ≡ true
 word_parts [] h = absurd (cc)
 word_parts (b ∷ more) h = and_both (is_word_part b) _ (rw (and_left (is_letter b) _ h) refl)
     (and_right (is_letter b) _ h)

@@ -12,7 +12,7 @@ use Rattle.aql_lex.specs.Characters.{begins}
 use Rattle.aql_lex.specs.Vocabulary.{name_of, IsReserved, spelling_of}
 use Rattle.aql_lex.specs.inner.Scans.{is_other}
 
-unfoldable every_keyword : List Keyword
+unfoldable pub every_keyword : List Keyword
 every_keyword =
     k.Aggregate ∷ k.All ∷ k.AllShortestPaths ∷ k.And ∷ k.Any ∷ k.Asc ∷ k.Collect ∷ k.Desc ∷ k.Distinct
     ∷ k.False ∷ k.Filter ∷ k.For ∷ k.Graph ∷ k.In ∷ k.Inbound ∷ k.Insert ∷ k.Into ∷ k.KPaths
@@ -20,7 +20,7 @@ every_keyword =
     ∷ k.Remove ∷ k.Replace ∷ k.Return ∷ k.ShortestPath ∷ k.Sort ∷ k.True ∷ k.Update ∷ k.Upsert
     ∷ k.Window ∷ k.With ∷ []
 
-unfoldable every_symbol : List Symbol
+unfoldable pub every_symbol : List Symbol
 every_symbol =
     s.Equal ∷ s.NotEqual ∷ s.LessOrEqual ∷ s.GreaterOrEqual ∷ s.Range ∷ s.And ∷ s.Or ∷ s.DoubleColon
     ∷ s.Less ∷ s.Greater ∷ s.Assign ∷ s.Dot ∷ s.Plus ∷ s.Minus ∷ s.Star ∷ s.Slash ∷ s.Percent ∷ s.Not
@@ -33,10 +33,10 @@ same x y e = cc
 -- ---- keywords
 
 -- the keyword whose name in small letters is this text
-unfoldable keyword_of : List ℕ → Option Keyword
+unfoldable pub keyword_of : List ℕ → Option Keyword
 keyword_of text = find (λ keyword. bytes_eq (map to_ascii_lowercase (name_of keyword)) text) every_keyword
 
-keyword_of-name : (keyword : Keyword) → keyword_of (map to_ascii_lowercase (name_of keyword)) ≡ Some keyword
+pub keyword_of-name : (keyword : Keyword) → keyword_of (map to_ascii_lowercase (name_of keyword)) ≡ Some keyword
 unfolding name_of every_keyword keyword_of
 keyword_of-name k.Aggregate = refl
 keyword_of-name _ = refl
@@ -48,10 +48,10 @@ one_keyword word a b x y =
 -- ---- symbols
 
 -- the symbol with this spelling
-unfoldable symbol_of : List ℕ → Option Symbol
+unfoldable pub symbol_of : List ℕ → Option Symbol
 symbol_of text = find (λ symbol. bytes_eq (spelling_of symbol) text) every_symbol
 
-symbol_of-spelling : (symbol : Symbol) → symbol_of (spelling_of symbol) ≡ Some symbol
+pub symbol_of-spelling : (symbol : Symbol) → symbol_of (spelling_of symbol) ≡ Some symbol
 unfolding spelling_of every_symbol symbol_of
 symbol_of-spelling s.Equal = refl
 symbol_of-spelling _ = refl

@@ -24,3 +24,7 @@ same_swapped x y h = by (same_ident y x) refl
     by true e =
         absurd (true≢false (sym (subst (λ (z : Ident). same_ident z y ≡ true) (same_is y x e) (same_self y))
         ∙ h))
+
+pub same_apart : (x y : Ident) → same_ident x y ≡ false → (z : Ident) → same_ident y z ≡ true
+    → same_ident x z ≡ false
+same_apart x y h z e = subst (λ (w : Ident). same_ident x w ≡ false) (same_is y z e) h

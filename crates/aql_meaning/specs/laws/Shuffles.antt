@@ -70,7 +70,7 @@ pub alike_permutation : {A B : Type 0} (R : A → B → Type 0) (xs zs : List A)
     → AllZip R xs ys → (ws : List B) × IsPermutation ys ws × AllZip R zs ws
 alike_permutation R xs zs ys p h = let t = through R (shuffle xs zs p) ys h in (t.0, permutes t.1, t.3)
 
-fronts_swapped : {X : Type 0} (us vs ws : List X) → IsPermutation (us ++ (vs ++ ws)) (vs ++ (us ++ ws))
+pub fronts_swapped : {X : Type 0} (us vs ws : List X) → IsPermutation (us ++ (vs ++ ws)) (vs ++ (us ++ ws))
 fronts_swapped us vs ws =
     subst (λ xs. IsPermutation xs (vs ++ (us ++ ws))) (append_assoc us vs ws)
     (subst (λ xs. IsPermutation ((us ++ vs) ++ ws) xs) (append_assoc vs us ws)

@@ -1,6 +1,7 @@
 -- The cheapest candidate of those that were tried so far, and what is chosen at the end.
 use Rattle.std.proofs.Common.{◌≡◌, ◌∙◌, ℕ, ◌<◌, ◌≤◌, List, [], ◌∷◌, ◌++◌, Bool, true, false, refl, ap, sym, subst, append_assoc, arith}
 use Rattle.std.specs.List.{AllZip, AllByRecursion}
+use Rattle.aql_value.specs.laws.Alls.{all_append, all_more}
 use Rattle.aql_plan.specs.declared.facts.Facts.{Facts}
 use Rattle.aql_plan.specs.declared.rules.RuleName.{RuleName}
 use Rattle.aql_plan.specs.declared.rules.RuleName.TheVariants as rule
@@ -29,16 +30,6 @@ zip_more R [] [] x y h k = (k, tt)
 zip_more R [] (b ∷ ys) x y h k = absurd h
 zip_more R (a ∷ xs) [] x y h k = absurd h
 zip_more R (a ∷ xs) (b ∷ ys) x y h k = (h.0, zip_more R xs ys x y h.1 k)
-
-all_append : {X : Type 0} (P : X → Type 0) (xs ys : List X) → AllByRecursion P xs → AllByRecursion P ys
-    → AllByRecursion P (xs ++ ys)
-all_append P [] ys h k = k
-all_append P (x ∷ xs) ys h k = (h.0, all_append P xs ys h.1 k)
-
-all_more : {X : Type 0} (P Q : X → Type 0) → ((x : X) → P x → Q x) → (xs : List X)
-    → AllByRecursion P xs → AllByRecursion Q xs
-all_more P Q f [] h = tt
-all_more P Q f (x ∷ xs) h = (f x h.0, all_more P Q f xs h.1)
 
 some_append : (es : List Ended) (e : Ended) (fs : List Ended) → are_some (es ++ e ∷ fs) ≡ true
 some_append [] e fs = refl

@@ -34,11 +34,6 @@ pub record Carries (f : ExprTree → ExprTree) (Free : Ident → Type 0) (S : Us
   pub whole : (x : Ident) (r s : Row) → Free x → S (Whole x ∷ []) r s → value_at r x ≡ value_at s x
   pub empty : (us : Uses) → S us empty_row empty_row
 
-pub all_parts : {X : Type 0} (P : X → Type 0) (xs ys : List X) → AllByRecursion P (xs ++ ys)
-    → AllByRecursion P xs × AllByRecursion P ys
-all_parts P [] ys h = (tt, h)
-all_parts P (x ∷ xs) ys h = let k = all_parts P xs ys h.1 in ((h.0, k.0), k.1)
-
 module _ (f : ExprTree → ExprTree) (Free : Ident → Type 0) (S : Uses → Row → Row → Type 0)
     (carry : Carries f Free S) where
   -- ---- values

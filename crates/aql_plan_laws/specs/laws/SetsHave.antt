@@ -3,6 +3,7 @@
 use Rattle.std.proofs.Common.{List, [], ◌∷◌, ◌++◌}
 use Rattle.std.specs.Prelude.{option_to_list}
 use Rattle.std.specs.List.{AllByRecursion}
+use Rattle.aql_value.specs.laws.Alls.{all_parts}
 use Rattle.aql_tree.specs.declared.syntax.Ident.{Ident}
 use Rattle.aql_tree.specs.declared.syntax.Ident.TheVariants.{Num}
 use Rattle.aql_meaning.specs.Visible.{aggregate_vars, into_var}
@@ -12,7 +13,6 @@ use Rattle.aql_plan.specs.Needs.{sets}
 use Rattle.aql_plan.specs.Variables.{vars_set, set_once}
 use Rattle.aql_plan.specs.Shapes.{HasNoFragment, IsNoFragment}
 use Rattle.aql_plan.specs.Renaming.{PlanSets, NodeSets}
-use Rattle.aql_plan_laws.specs.laws.Carried.{all_parts}
 
 module _ (Has : Ident → Type 0) where
   mutual

@@ -1,5 +1,6 @@
 -- A part of a placed part is placed: the input of a node, and the body of a subquery.
 use Rattle.std.proofs.Common.{◌≡◌, ◌∙◌, ℕ, suc, ◌+◌, ◌≤◌, List, [], ◌∷◌, ◌++◌, Bool, true, false, cond, refl, ap, sym, subst, arith}
+use Rattle.aql_value.specs.laws.Alls.{all_parts}
 use Rattle.aql_tree.specs.declared.syntax.Ident.{Ident}
 use Rattle.aql_tree.specs.declared.syntax.Ident.TheVariants.{Num}
 use Rattle.aql_meaning.specs.Row.{same_ident}
@@ -11,7 +12,6 @@ use Rattle.aql_plan.specs.Plan.{Plan, Singleton, Over, Node, Subquery, Collect, 
 use Rattle.aql_plan.specs.Needs.{sets, under, result_uses}
 use Rattle.aql_plan.specs.Above.{input_inside}
 use Rattle.aql_plan.specs.Variables.{vars_of, vars_set, set_once, count}
-use Rattle.aql_plan_laws.specs.laws.Carried.{all_parts}
 use Rattle.aql_plan.specs.Shapes.{Shape, Result, Shaped}
 use Rattle.aql_plan_laws.specs.laws.ShapesKept.{under_top, body_shaped}
 use Rattle.aql_plan_laws.specs.laws.Among.{count_append, counted_once}

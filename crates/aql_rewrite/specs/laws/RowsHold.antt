@@ -5,6 +5,7 @@ use Rattle.std.specs.Prelude.{Option, Some, None, filter, option_to_list}
 use Rattle.std.specs.List.{AllZip, AllByRecursion}
 use Rattle.aql_value.specs.Datum.{Datum}
 use Rattle.aql_value.specs.Contents.{list, elements}
+use Rattle.aql_value.specs.laws.Alls.{all_parts}
 use Rattle.aql_tree.specs.declared.syntax.Ident.{Ident}
 use Rattle.aql_tree.specs.Tree.{TraversalShape, ExprTree, ExprTrees}
 use Rattle.aql_meaning.specs.AtRows.{values_of, keys_of, passes}
@@ -18,7 +19,6 @@ use Rattle.aql_plan.specs.Plan.{Reading, Plan, Over, Node, EnumerateCollection, 
 use Rattle.aql_plan.specs.Needs.{sets}
 use Rattle.aql_plan.specs.Runs.{Dataset, Outside, read, read_in_bounds, Indexed, Runs, result_of}
 use Rattle.aql_plan.specs.Shapes.{IsNoFragment}
-use Rattle.aql_plan_laws.specs.laws.Carried.{all_parts}
 use Rattle.aql_plan_laws.specs.laws.Lists.{take_related, drop_related, filter_related}
 use Rattle.aql_plan_laws.specs.laws.NodesAlike.{kept_related, first_related}
 use Rattle.aql_plan_laws.specs.laws.SortsAlike.{sorted_alike}

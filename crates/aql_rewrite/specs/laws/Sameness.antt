@@ -34,6 +34,7 @@ use Rattle.aql_tree.specs.View.{trees, members, steps, links, maybe, MemberPart,
 use Rattle.aql_tree.specs.View.{StepPart, name, at, inline, LinkPart}
 use Rattle.aql_meaning.specs.Row.{same_ident}
 use Rattle.aql_meaning.specs.Plain.{IsPlain, AllPlain, MaybePlain, MembersPlain, StepsPlain, LinksPlain}
+use Rattle.aql_meaning.specs.laws.Idents.{same_is, same_self}
 use Rattle.aql_rewrite.specs.inner.Same.{op_number, sign_number, kind_number, same_expr, same_list, same_maybe}
 use Rattle.aql_rewrite.specs.inner.Same.{same_members, same_steps, same_links, same_member, same_step, same_link}
 
@@ -49,16 +50,6 @@ itself Greater v h = absurd (not_itself v h)
 
 value_itself : (v : Datum) → same v v ≡ true
 value_itself v = itself (compare v v) v (datum_ranks v v)
-
-equal_idents : (x y : Ident) → same_ident x y ≡ true → x ≡ y
-equal_idents (Name a) (Name b) h = ap (λ (n : List ℕ). Name n) ((bytes_eq-Decides a b).0 h)
-equal_idents (Num a) (Num b) h = ap (λ (n : ℕ). Num n) (eqb-true a b h)
-equal_idents (Name a) (Num b) h = absurd (true≢false (sym h))
-equal_idents (Num a) (Name b) h = absurd (true≢false (sym h))
-
-ident_itself : (x : Ident) → same_ident x x ≡ true
-ident_itself (Name a) = (bytes_eq-Decides a a).1 refl
-ident_itself (Num a) = eq-eqb a a refl
 
 name_itself : (n : List ℕ) → bytes_eq n n ≡ true
 name_itself n = (bytes_eq-Decides n n).1 refl
@@ -115,7 +106,7 @@ equal_kinds a b h = absurd (true≢false (sym h))
 mutual
   pub same_true : (e d : ExprTree) → same_expr e d ≡ true → IsPlain e × (e ≡ d)
   same_true (literal v) (literal w) h = (tt, ap literal (equal_values v w h))
-  same_true (variable x) (variable y) h = (tt, ap variable (equal_idents x y h))
+  same_true (variable x) (variable y) h = (tt, ap variable (same_is x y h))
   same_true current current h = (tt, refl)
   same_true (array_literal es) (array_literal ds) h =
       let k = list_true es ds h in (k.0, ap array_literal k.1)
@@ -233,7 +224,7 @@ both = and_from
 mutual
   pub same_itself : (e : ExprTree) → IsPlain e → same_expr e e ≡ true
   same_itself (literal v) h = value_itself v
-  same_itself (variable x) h = ident_itself x
+  same_itself (variable x) h = same_self x
   same_itself current h = refl
   same_itself (array_literal es) h = list_itself es h
   same_itself (object_literal ms) h = members_itself ms h

@@ -8,6 +8,7 @@ use Rattle.std.proofs.lemmas.Bool.{or_parts}
 use Rattle.aql_value.specs.Datum.{Datum, null, boolean}
 use Rattle.aql_value.specs.Truth.{truth}
 use Rattle.aql_value.specs.Contents.{elements}
+use Rattle.aql_value.specs.laws.Alls.{all_parts}
 use Rattle.aql_func.specs.Objects.{id_text}
 use Rattle.aql_tree.specs.declared.syntax.Ident.{Ident}
 use Rattle.aql_tree.specs.Tree.{TraversalShape, ExprTree, ExprTrees, MaybeExpr, no_expr, one_expr}
@@ -25,8 +26,7 @@ use Rattle.aql_meaning.specs.laws.Shuffles.{alike_permutation}
 use Rattle.aql_plan.specs.Plan.{Node, EnumerateCollection, EnumerateList, Traversal, Sort}
 use Rattle.aql_plan.specs.Needs.{sets, own_uses}
 use Rattle.aql_plan.specs.Runs.{Dataset, Outside, read, edges_in, Gives}
-use Rattle.aql_plan_laws.specs.laws.Carried.{all_parts}
-use Rattle.aql_meaning.specs.laws.Idents.{same_is}
+use Rattle.aql_meaning.specs.laws.Idents.{same_is, same_apart}
 use Rattle.aql_plan_laws.specs.laws.Lists.{map_equal, filter_related}
 use Rattle.aql_plan_laws.specs.laws.NodesAlike.{first_related}
 use Rattle.aql_plan_laws.specs.laws.SortsAlike.{sorted_alike}
@@ -42,10 +42,6 @@ abbrev pub IsFree : Ident → (Row → Datum → Type 0) → Ident → Type 0
 IsFree x V y = (same_ident x y ≡ false)
     × ((row : Row) (v d : Datum) → V row v → V (bind y row d) v)
 
-apart : (x y : Ident) → same_ident x y ≡ false → (z : Ident) → same_ident y z ≡ true
-    → same_ident x z ≡ false
-apart x y h z e = subst (λ (w : Ident). same_ident x w ≡ false) (same_is y z e) h
-
 module _ (x : Ident) (V : Row → Datum → Type 0) where
   -- the row with x stands first
   abbrev More : Row → Row → Type 0
@@ -56,7 +52,7 @@ module _ (x : Ident) (V : Row → Datum → Type 0) where
   binds_more y free g row d h = (
     h.0,
     free.1 row h.0 d h.1,
-    ap (λ (r : Row). bind y r d) h.2 ∙ binds_swap y x row d h.0 (apart x y free.0),
+    ap (λ (r : Row). bind y r d) h.2 ∙ binds_swap y x row d h.0 (same_apart x y free.0),
   )
 
   maybe_more : (y : Option Ident) → AllByRecursion (IsFree x V) (option_to_list y) → (g row : Row) (d : Datum)

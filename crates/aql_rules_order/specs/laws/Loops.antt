@@ -19,7 +19,7 @@ use Rattle.aql_plan.specs.Plan.{Reading, Plan, Over, EnumerateCollection}
 use Rattle.aql_plan.specs.Refines.{dataset, RefinesFor}
 use Rattle.aql_plan.specs.Runs.{Dataset, Outside, read}
 use Rattle.aql_plan_laws.specs.laws.Agreement.{rows_agree}
-use Rattle.aql_meaning.specs.laws.Idents.{same_is}
+use Rattle.aql_meaning.specs.laws.Idents.{same_is, same_apart}
 use Rattle.aql_rules_order.specs.InterchangeAdjacentEnumerations.{is_missing}
 use Rattle.aql_rules_order.specs.laws.Grid.{flat_flat, flat_each, grid}
 
@@ -54,10 +54,6 @@ loop_rows w x h (row ∷ rows) =
 
 -- ---- the rows of two loops
 
-apart : (x y : Ident) → same_ident x y ≡ false → (z : Ident) → same_ident y z ≡ true
-    → same_ident x z ≡ false
-apart x y h z e = subst (λ (w : Ident). same_ident x w ≡ false) (same_is y z e) h
-
 module _ (w : Dataset) (x y : Reading) (other : same_ident x.var y.var ≡ false) where
   either_first : (row : Row)
       → IsPermutation (flat_map (rows_with w x) (rows_with w y row))
@@ -68,7 +64,7 @@ module _ (w : Dataset) (x y : Reading) (other : same_ident x.var y.var ≡ false
       let swapped : (λ (d e : Datum). bind x.var (bind y.var row d) e)
       ≡ (λ (d e : Datum). bind y.var (bind x.var row e) d)
       = fun_ext (λ d. fun_ext (λ e.
-      sym (binds_swap y.var x.var row d e (apart x.var y.var other)))) in
+      sym (binds_swap y.var x.var row d e (same_apart x.var y.var other)))) in
       subst (λ (rows : List Row). IsPermutation rows (flat_map (rows_with w y) (rows_with w x row)))
       (sym (flat_map-map (rows_with w x) (bind y.var row) ys))
       (subst (λ (rows : List Row). IsPermutation (flat_map (λ d. rows_with w x (bind y.var row d)) ys) rows)

@@ -3,6 +3,7 @@ use Rattle.std.proofs.Common.{◌≡◌, ◌∙◌, ◌<◌, List, [], ◌∷◌
 use Rattle.std.specs.Prelude.{◌&&◌, cond, filter, Option, None, option_to_list}
 use Rattle.std.specs.List.{AllByRecursion}
 use Rattle.std.proofs.lemmas.List.Folds.{list_all-append}
+use Rattle.aql_value.specs.laws.Alls.{all_parts}
 use Rattle.aql_tree.specs.declared.syntax.Ident.{Ident}
 use Rattle.aql_tree.specs.Tree.{ExprTree, ExprTrees, AggregateTrees, aggregate_then, IntoTree}
 use Rattle.aql_tree.specs.View.{AggregatePart, aggregates, maybe}
@@ -19,7 +20,6 @@ use Rattle.aql_plan.specs.Refines.{RefinesFor}
 use Rattle.aql_plan.specs.Shapes.{HasNoFragment, plain_rows, lowest, other_reading, passing, KeepsShape}
 use Rattle.aql_plan.specs.Variables.{vars_of, vars_set}
 use Rattle.aql_plan_laws.specs.laws.Among.{count_append}
-use Rattle.aql_plan_laws.specs.laws.Carried.{all_parts}
 use Rattle.aql_plan_laws.specs.laws.Mapped.{vars_kept, into_kept}
 use Rattle.aql_rewrite.specs.declared.swap.Rename.{Rename}
 use Rattle.aql_rewrite.specs.Places.{Stays, First}

@@ -50,7 +50,8 @@ idents_entered names (none l) = refl
 idents_entered names (next k x l w) = idents_entered ((x, k) ∷ names) w
 
 pub numbers_entered : (P : ℕ → Type 0) {n m : ℕ} {xs ys : List Ident} (own outer : Numbering)
-    → Named n xs ys m → ((k : ℕ) → n ≤ k → k < m → P k) → NumbersAre P (own ++ outer) → NumbersAre P (enter xs ys own ++ outer)
+    → Named n xs ys m → ((k : ℕ) → n ≤ k → k < m → P k) → NumbersAre P (own ++ outer)
+    → NumbersAre P (enter xs ys own ++ outer)
 numbers_entered P own outer (none l) f b = b
 numbers_entered P own outer (next k x l w) f b =
     let more = named_le w in

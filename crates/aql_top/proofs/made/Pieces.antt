@@ -21,42 +21,11 @@ use Rattle.aql_lex.specs.Tokens.{Separates}
 use Rattle.aql_lex.specs.Reading.{NoSeparator, NoFault, IsLongest, Reads, Lexes}
 use Rattle.aql_lex.specs.inner.Scans.{begins_comment, is_other}
 use Rattle.aql_lex.specs.laws.Runs.{and_left, and_right, and_both, IsRun}
-use Rattle.aql_lex.specs.laws.Names.{word_takes, symbol_takes}
+use Rattle.aql_lex.specs.laws.Names.{word_takes, symbol_takes, word_parts}
 use Rattle.aql_lex.specs.laws.Digits.{all_digits, number_takes}
-use Rattle.aql_lex.specs.laws.Spellings.{symbol_begins}
+use Rattle.aql_lex.specs.laws.Spellings.{symbol_begins, every_keyword, keyword_of, keyword_of-name, every_symbol, symbol_of, symbol_of-spelling}
 
 -- ---- which keyword a word is, and which symbol a spelling is
-
-unfoldable pub every_keyword : List Keyword
-every_keyword =
-    k.Aggregate ∷ k.All ∷ k.AllShortestPaths ∷ k.And ∷ k.Any ∷ k.Asc ∷ k.Collect ∷ k.Desc ∷ k.Distinct
-    ∷ k.False ∷ k.Filter ∷ k.For ∷ k.Graph ∷ k.In ∷ k.Inbound ∷ k.Insert ∷ k.Into ∷ k.KPaths
-    ∷ k.KShortestPaths ∷ k.Let ∷ k.Like ∷ k.Limit ∷ k.None ∷ k.Not ∷ k.Null ∷ k.Or ∷ k.Outbound
-    ∷ k.Remove ∷ k.Replace ∷ k.Return ∷ k.ShortestPath ∷ k.Sort ∷ k.True ∷ k.Update ∷ k.Upsert
-    ∷ k.Window ∷ k.With ∷ []
-
-unfoldable pub keyword_of : List ℕ → Option Keyword
-keyword_of text = find (λ keyword. bytes_eq (map to_ascii_lowercase (name_of keyword)) text) every_keyword
-
-keyword_of-name : (keyword : Keyword) → keyword_of (map to_ascii_lowercase (name_of keyword)) ≡ Some keyword
-unfolding name_of every_keyword keyword_of
-keyword_of-name k.Aggregate = refl
-keyword_of-name _ = refl
-
-unfoldable pub every_symbol : List Symbol
-every_symbol =
-    s.Equal ∷ s.NotEqual ∷ s.LessOrEqual ∷ s.GreaterOrEqual ∷ s.Range ∷ s.And ∷ s.Or ∷ s.DoubleColon
-    ∷ s.Less ∷ s.Greater ∷ s.Assign ∷ s.Dot ∷ s.Plus ∷ s.Minus ∷ s.Star ∷ s.Slash ∷ s.Percent ∷ s.Not
-    ∷ s.Question ∷ s.Colon ∷ s.Comma ∷ s.OpenParen ∷ s.CloseParen ∷ s.OpenBracket ∷ s.CloseBracket
-    ∷ s.OpenBrace ∷ s.CloseBrace ∷ []
-
-unfoldable pub symbol_of : List ℕ → Option Symbol
-symbol_of text = find (λ symbol. bytes_eq (spelling_of symbol) text) every_symbol
-
-symbol_of-spelling : (symbol : Symbol) → symbol_of (spelling_of symbol) ≡ Some symbol
-unfolding spelling_of every_symbol symbol_of
-symbol_of-spelling s.Equal = refl
-symbol_of-spelling _ = refl
 
 is_short : (symbol : Symbol) → nat_le (length (spelling_of symbol)) 2 ≡ true
 unfolding spelling_of
@@ -134,11 +103,6 @@ begins_front p (x ∷ xs) ys h = h
 word_begins : (w : List ℕ) → is_word w ≡ true → begins is_letter w ≡ true
 word_begins [] h = absurd (cc)
 word_begins (b ∷ more) h = and_left (is_letter b) _ h
-
-word_parts : (w : List ℕ) → is_word w ≡ true → list_all is_word_part w ≡ true
-word_parts [] h = absurd (cc)
-word_parts (b ∷ more) h =
-    and_both (is_word_part b) _ (rw (and_left (is_letter b) _ h) refl) (and_right (is_letter b) _ h)
 
 word_run : (w rest : List ℕ) → is_word w ≡ true → not (begins is_word_part rest) ≡ true
     → IsRun is_word_part (w ++ rest) w rest

@@ -7,8 +7,9 @@ use Rattle.aql_lex.specs.declared.vocabulary.Keyword.TheVariants as k
 use Rattle.aql_lex.specs.declared.vocabulary.Symbol.TheVariants as s
 use Rattle.aql_lex.specs.Reading.{Lexes}
 use Rattle.aql_lex.specs.Vocabulary.{name_of, spelling_of}
+use Rattle.aql_lex.specs.laws.Spellings.{every_keyword, keyword_of, every_symbol, symbol_of}
 use Rattle.aql_options.specs.Generated.{query}
-use Rattle.aql_top.proofs.made.Pieces.{every_keyword, keyword_of, every_symbol, symbol_of, Piece, blank, word, keyword, number, symbol, spelled, tokens_of, are_whole, pieces_lex}
+use Rattle.aql_top.proofs.made.Pieces.{Piece, blank, word, keyword, number, symbol, spelled, tokens_of, are_whole, pieces_lex}
 
 abbrev space : Piece
 space = blank 32

@@ -48,7 +48,7 @@ attribute_at k [] i d lt h s = absurd (omega arith)
 attribute_at k (m ∷ es) zero d lt h s = rw (equal k m.name s) refl
 attribute_at k (m ∷ es) (suc i) d lt h s = rw (above k m.name h.0) (attribute_at k es i d (omega arith) h.1 s)
 
-below_later : (k l : List ℕ) (fs : Fields) → BytesBelow k l → IsBelowNames l fs → IsBelowNames k fs
+pub below_later : (k l : List ℕ) (fs : Fields) → BytesBelow k l → IsBelowNames l fs → IsBelowNames k fs
 below_later k l no_fields b h = tt
 below_later k l (field m t fs) b h = (nat_list_cmp_total.trans k l m b h.0, below_later k l fs b h.1)
 

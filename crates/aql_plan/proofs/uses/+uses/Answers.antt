@@ -4,9 +4,10 @@ use Rattle.std.proofs.lemmas.List.{map-append, append-nil}
 use Rattle.std.proofs.lemmas.Result.{on_ok_weaker}
 use Rattle.aql_tree.specs.Tree.{access}
 use Rattle.aql_tree.specs.View.{tree, maybe, steps, step_part}
+use Rattle.aql_tree.specs.laws.Parts.{access_form, ternary_form}
 use Rattle.aql_meaning.specs.Uses.{uses, maybe_uses, step_uses}
 use Rattle.aql_plan.specs.Used.{use_tree, uses_tree, attribute_used}
-use Rattle.aql_plan.proofs.AccessUses.{used_whole, used_part, access_form, ternary_form, three_appended}
+use Rattle.aql_plan.proofs.AccessUses.{used_whole, used_part, three_appended}
 use Rattle.aql_plan.proofs.uses.+uses.Goals as goal
 use Rattle.aql_plan.proofs.uses.+uses.Goals.{add_uses-in-Some+in_ok-push-in-Some, add_uses-in-None+in_ok-add_uses-in-None}
 use Rattle.aql_plan.proofs.uses.+uses.Goals.{add_uses-in-Some-yes+in_ok-add_uses-in-Some-yes, add_uses-in-None-yes}

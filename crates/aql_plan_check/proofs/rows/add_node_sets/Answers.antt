@@ -1,13 +1,13 @@
 -- Each of the three lists of a Collect has numbers alone.
 use Rattle.std.proofs.Common.{sym, subst, List, map, ◌++◌}
 use Rattle.std.specs.Prelude.{option_map, option_to_list}
+use Rattle.aql_value.specs.laws.Alls.{all_parts}
 use Rattle.aql_tree.specs.declared.syntax.AggregateItem.{AggregateItem}
 use Rattle.aql_tree.specs.View.{let_part, aggregate_part, aggregates as aggregate_trees, into_part, into_tree}
 use Rattle.aql_meaning.specs.Visible.{aggregate_vars, into_var}
 use Rattle.aql_plan.specs.declared.plan.Node.{Node}
 use Rattle.aql_plan.specs.Needs.{sets}
 use Rattle.aql_plan.specs.View.{node_tree}
-use Rattle.aql_plan_laws.specs.laws.Carried.{all_parts}
 use Rattle.aql_plan_check.specs.inner.Rows.{AreNumbers, IsNum}
 use Rattle.aql_plan_check.proofs.rows.add_node_sets.Goals as goal
 
