@@ -4,6 +4,8 @@ pub mod IndexOrder
 pub mod Spans
 pub mod Groups
 pub mod Found
+pub mod Usable
+pub mod Guess
 pub mod Theorems
 pub mod laws
 pub mod inner

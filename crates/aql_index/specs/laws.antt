@@ -6,3 +6,4 @@ pub mod InOrder
 pub mod Passing
 pub mod Found
 pub mod Widths
+pub mod Counted

@@ -4,12 +4,14 @@
 mod bounds;
 mod entries;
 mod groups;
+mod guesses;
 pub mod laws;
 mod lookup;
 mod sorted_index;
 mod spans;
 
 pub use bounds::{Bound, Span};
+pub use guesses::{documents_in, guess, literal_elements};
 pub use lookup::Lookup;
 pub use sorted_index::{SortedIndex, spans_of};
 pub use spans::Spans;
