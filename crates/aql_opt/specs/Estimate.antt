@@ -1,34 +1,22 @@
 -- The estimate of a plan (Execution and performance, the query optimizer: cost-based): how many rows it gives
 -- and what these cost, a line for each node. Sums and products end at the greatest number of 64 bits, and
 -- halves are rounded up.
-use Rattle.std.specs.Prelude.{ℕ, zero, suc, ◌+◌, ◌-◌, ◌*◌, ◌^◌, min, ℤ, List, [], ◌∷◌, cond, Option, Some, None, nat_le, unwrap_or, option_map, slice_get}
-use Rattle.std.specs.Int.{div_ceil}
+use Rattle.std.specs.Prelude.{ℕ, zero, suc, ◌+◌, ◌-◌, ◌*◌, ◌^◌, min, ℤ, List, [], ◌∷◌, cond, Option, Some, None, nat_le}
 use Rattle.aql_value.specs.Datum.{number}
 use Rattle.aql_func.specs.Operators.{range_length}
 use Rattle.aql_tree.specs.declared.syntax.Ident.{Ident}
 use Rattle.aql_tree.specs.Tree.{ExprTree, literal, array_literal, range_of, MaybeExpr, no_expr, one_expr}
-use Rattle.aql_meaning.specs.Documents.{Last, no_last, one_of, between}
 use Rattle.aql_plan.specs.declared.facts.Facts.{Facts}
-use Rattle.aql_plan.specs.declared.facts.CollFact.{CollFact}
-use Rattle.aql_plan.specs.declared.facts.IndexFact.{IndexFact}
-use Rattle.aql_plan.specs.Facts.{shards_in, indexes_in}
+use Rattle.aql_plan.specs.Facts.{shards_in}
 use Rattle.aql_plan.specs.Fits.{exprs_in}
 use Rattle.aql_plan.specs.Plan.{Plan, Singleton, Over, Node, EnumerateCollection, Index, EnumerateList, Traversal, Calculation, Subquery, Filter, Sort, Limit, Collect, Return, NoResults, Scatter, Distribute, Remote, Gather}
+use Rattle.aql_index.specs.Guess.{greatest, times, half, documents_in, guess}
 use Rattle.aql_opt.specs.declared.estimates.Cost.{Cost}
 
 -- ---- numbers
 
-abbrev pub greatest : ℕ
-greatest = 18446744073709551615
-
 abbrev pub plus : ℕ → ℕ → ℕ
 plus a b = min (a + b) greatest
-
-abbrev pub times : ℕ → ℕ → ℕ
-times a b = min (a * b) greatest
-
-abbrev pub half : ℕ → ℕ
-half n = div_ceil n 2
 
 -- how many powers of two, of those below 2 ^ k, are at most n
 abbrev pub digits_upto : ℕ → ℕ → ℕ
@@ -39,17 +27,7 @@ digits_upto (suc k) n = cond (nat_le (2 ^ k) n) (suc k) (digits_upto k n)
 unfoldable pub binary_digits : ℕ → ℕ
 binary_digits n = digits_upto 64 n
 
--- ---- what is known
-
-abbrev pub documents_in : Facts → ℕ → ℕ
-documents_in facts coll =
-    unwrap_or (option_map (λ (c : CollFact). c.documents) (slice_get facts.collections coll)) 0
-
--- the largest group of documents that are equal in so many first attributes of an index
-abbrev pub widest : Facts → ℕ → ℕ → ℕ → ℕ
-widest facts coll index attributes =
-    unwrap_or (slice_get (unwrap_or (option_map (λ (i : IndexFact). i.widths)
-    (slice_get (indexes_in facts coll) index)) []) attributes) 0
+-- ---- elements
 
 -- the elements of a range, of which there are none where they are too many
 abbrev pub range_size : ℤ → ℤ → ℕ
@@ -60,21 +38,6 @@ abbrev pub elements_in : ℕ → ExprTree → ℕ
 elements_in other (array_literal es) = exprs_in es
 elements_in other (range_of (literal (number a)) (literal (number b))) = range_size a b
 elements_in other e = other
-
--- an array of which only a literal's elements are counted
-abbrev pub literal_elements : ℕ → ExprTree → ℕ
-literal_elements other (array_literal es) = exprs_in es
-literal_elements other e = other
-
--- how many documents an index finds for each row, by its equal attributes and the bound of the next one
-abbrev pub guess : Facts → ℕ → ℕ → ℕ → Last ExprTree → ℕ
-guess facts coll index zero no_last = documents_in facts coll
-guess facts coll index equal no_last = widest facts coll index equal
-guess facts coll index equal (one_of e) =
-    min (documents_in facts coll) (times (widest facts coll index (equal + 1)) (literal_elements 10 e))
-guess facts coll index equal (between None None) = widest facts coll index equal
-guess facts coll index equal (between (Some low) (Some high)) = div_ceil (widest facts coll index equal) 4
-guess facts coll index equal (between low high) = half (widest facts coll index equal)
 
 -- ---- nodes
 

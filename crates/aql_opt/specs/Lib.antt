@@ -1,4 +1,3 @@
-pub mod Theorem
 pub mod Estimate
 pub mod Worked
 pub mod Passes

@@ -4,14 +4,12 @@ ghost use Rattle.std.specs.Prelude.{◌≡◌, ◌≤◌, ◌+◌, ◌-◌, ◌*
 ghost use Rattle.std.specs.Int.{div_ceil};
 ghost use Rattle.aql_tree.specs.Tree.{range_of};
 ghost use Rattle.aql_tree.specs.View.{tree, maybe};
-ghost use Rattle.aql_meaning.specs.View.{last_tree};
-ghost use Rattle.aql_plan.specs.Fits.{exprs_in};
-ghost use Rattle.aql_plan.specs.View.{node_tree, plan_tree, expr_trees};
-ghost use Rattle.aql_opt.specs.Estimate.{times, binary_digits, documents_in, widest, range_size};
-ghost use Rattle.aql_opt.specs.Estimate.{elements_in, literal_elements, guess, filtered, at_most};
+ghost use Rattle.aql_plan.specs.View.{node_tree, plan_tree};
+ghost use Rattle.aql_index.specs.Guess.{times};
+ghost use Rattle.aql_opt.specs.Estimate.{binary_digits, range_size, elements_in, filtered, at_most};
 ghost use Rattle.aql_opt.specs.Estimate.{shards_reached, gives, estimate, node_estimate};
 
-use aql_meaning::Last;
+use aql_index::{documents_in, guess, literal_elements};
 use aql_plan::{Facts, Node, Plan};
 use aql_tree::Expr;
 use aql_value::{CollNo, Value};
@@ -37,15 +35,6 @@ fn binary_digits(n: u64) -> u64
     if n == 0 { 0 } else { u64::from(n.ilog2()) + 1 }
 }
 
-fn documents(coll: CollNo, facts: &Facts) -> u64
-    ensures { result ≡ documents_in facts.now coll.0 }
-{
-    match facts.collections.get(coll.0 as usize) {
-        Some(collection) => collection.documents,
-        None => 0,
-    }
-}
-
 fn shards(coll: CollNo, only: Option<u32>, facts: &Facts) -> u64
     ensures { result ≡ shards_reached facts.now coll.0 only }
 {
@@ -58,21 +47,6 @@ fn shards(coll: CollNo, only: Option<u32>, facts: &Facts) -> u64
     }
 }
 
-fn largest_group(coll: CollNo, index: u32, attributes: usize, facts: &Facts) -> u64
-    ensures { result ≡ widest facts.now coll.0 index attributes }
-{
-    let Some(collection) = facts.collections.get(coll.0 as usize) else {
-        return 0;
-    };
-    let Some(known) = collection.indexes.get(index as usize) else {
-        return 0;
-    };
-    match known.widths.get(attributes) {
-        Some(width) => *width,
-        None => 0,
-    }
-}
-
 fn range_size(low: i64, high: i64) -> u64
     ensures { result ≡ range_size low high }
 {
@@ -80,22 +54,13 @@ fn range_size(low: i64, high: i64) -> u64
     if size < 1_000_000 { size + 1 } else { 0 }
 }
 
-// How many expressions there are.
-#[tactic(auto, using(crate::proofs::Counted::counted))]
-fn count(exprs: &[Expr]) -> u64
-    ensures { result ≡ exprs_in (expr_trees exprs.now) }
-{
-    exprs.len() as u64
-}
-
 // The elements of an array literal, or of a range of two numbers; else the number given.
 fn elements(expr: &Expr, other: u64) -> u64
     ensures { result ≡ elements_in other (tree expr.now) }
 {
     match expr {
-        Expr::List(items) => count(items.as_slice()),
         Expr::Range { low, high } => range_elements(low, high, other),
-        _ => other,
+        _ => literal_elements(expr, other),
     }
 }
 
@@ -109,50 +74,6 @@ fn range_elements(low: &Expr, high: &Expr, other: u64) -> u64
         },
         _ => other,
     }
-}
-
-// The elements of an array literal, else the number given.
-fn literal_elements(expr: &Expr, other: u64) -> u64
-    ensures { result ≡ literal_elements other (tree expr.now) }
-{
-    match expr {
-        Expr::List(items) => count(items.as_slice()),
-        _ => other,
-    }
-}
-
-// How many documents an index finds for each row; `next` is one more than the equal attributes.
-fn guess(coll: CollNo, index: u32, equal: usize, next: usize, last: &Last, facts: &Facts) -> u64
-    requires { next ≡ equal + 1 }
-    ensures { result ≡ guess facts.now coll.0 index equal (last_tree last.now) }
-{
-    let found = largest_group(coll, index, equal, facts);
-    match last {
-        Last::None => {
-            if equal == 0 {
-                documents(coll, facts)
-            } else {
-                found
-            }
-        }
-        Last::OneOf(list) => {
-            let next_group = largest_group(coll, index, next, facts);
-            let all = next_group.saturating_mul(literal_elements(list, 10));
-            documents(coll, facts).min(all)
-        }
-        Last::Range { low, high } => match (low.is_some(), high.is_some()) {
-            (false, false) => found,
-            (true, true) => found.div_ceil(4),
-            _ => half(found),
-        },
-    }
-}
-
-fn guess_for(coll: CollNo, index: u32, equal: &[Expr], last: &Last, facts: &Facts) -> u64
-    ensures { result ≡ guess facts.now coll.0 index (exprs_in (expr_trees equal.now))
-        (last_tree last.now) }
-{
-    guess(coll, index, equal.len(), equal.len() + 1, last, facts)
 }
 
 // So many rows, which cost so much beside the input.
@@ -208,7 +129,7 @@ fn node_estimate(node: &Node, input: Cost, facts: &Facts) -> Cost
     let rows = input.rows;
     match node {
         Node::EnumerateCollection { coll, filter, .. } => {
-            let read = rows.saturating_mul(documents(*coll, facts));
+            let read = rows.saturating_mul(documents_in(*coll, facts));
             cost_after(input, rows_after_filter(filter, read), read)
         }
         Node::Index {
@@ -219,7 +140,7 @@ fn node_estimate(node: &Node, input: Cost, facts: &Facts) -> Cost
             last,
             ..
         } => {
-            let found = guess_for(*coll, *index, equal.as_slice(), last, facts);
+            let found = guess(*coll, *index, equal.as_slice(), last, facts);
             let read = rows.saturating_mul(found);
             let more = rows.saturating_mul(found.saturating_add(1));
             cost_after(input, rows_after_filter(filter, read), more)

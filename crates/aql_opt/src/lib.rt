@@ -1,14 +1,10 @@
-//! What is known when a query is planned.
 //! The optimiser: the passes of the rules, one after another.
 #![tactic(auto)]
 
 mod driver;
 mod estimates;
-mod known;
-pub mod laws;
 mod passes;
 pub mod worked;
 
 pub use driver::{Optimised, optimise};
 pub use estimates::{Cost, estimate};
-pub use known::facts;

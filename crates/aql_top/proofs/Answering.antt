@@ -22,7 +22,6 @@ use Rattle.aql_plan.specs.Refines.{dataset, Refines, Answers as PlanAnswers}
 use Rattle.aql_plan.specs.Runs.{Dataset}
 use Rattle.aql_plan.specs.WellFormed.{IsWellFormed}
 use Rattle.aql_plan_laws.specs.laws.FirstAnswers.{first_answers}
-use Rattle.aql_engine.specs.Runnable.{HasExecutors}
 use Rattle.aql_shard.specs.Holding.{Holding}
 use Rattle.aql_shard.specs.Datasets.{stock, nothing_counted}
 use Rattle.aql_shard.specs.Known.{facts_of}
@@ -30,10 +29,10 @@ use Rattle.aql_build.specs.Resolved.{IsResolved}
 use Rattle.aql_build.specs.Theorem.{ScopingGivesIt}
 use Rattle.aql_build.specs.TextLimits.{TextLimitsEnd}
 use Rattle.aql_plan.specs.declared.rule_sets.Rules.{Rules}
-use Rattle.aql_opt.specs.Theorem.{FactsFit}
+use Rattle.aql_shard.specs.Theorem.{FactsFit}
 use Rattle.aql_opt.specs.Chosen.{Chosen}
 use Rattle.aql_engine.specs.declared.engine.Ran.{Ran}
-use Rattle.aql_engine.specs.Engine.{CanRun, Adds}
+use Rattle.aql_engine.specs.Engine.{Adds}
 use Rattle.aql_top.specs.declared.query_faults.QueryFault.{QueryFault}
 use Rattle.aql_top.specs.declared.query_faults.QueryFault.TheVariants.{TooLong, Lexical, TooDeep, TooManyClauses, NotInGrammar, TraversalTooDeep, Scope, Memory}
 use Rattle.aql_top.specs.Reading.{IsWritten, IsScoped, Refuses}
@@ -41,11 +40,10 @@ use Rattle.aql_show.specs.PlanText.{plan_text}
 use Rattle.aql_scope.specs.Lifting.{scope_query}
 use Rattle.aql_options.specs.declared.settings.Settings.{Settings}
 use Rattle.aql_top.specs.Forms.{HasQuery}
-use Rattle.aql_top.specs.Entries.{known, stored, IsChosenFor, IsPlanned, IsReady, IsRunOf}
+use Rattle.aql_top.specs.Entries.{known, holding, stored, IsChosenFor, IsPlanned, IsReady, IsRunOf}
 use Rattle.aql_top.specs.declared.planning.Planned.{Planned}
 use Rattle.aql_top.specs.Output.{run_text, IsOutput, IsPlanText, IsRunText}
 use Rattle.aql_top.specs.Faults.{of_query, HasNoLines}
-use Rattle.aql_top.proofs.Executors.{first_has}
 
 pub is_lifted : (held : List Held) (text : List ℕ) (tree : QueryTree) (names : List (List ℕ))
     → IsScoped held text tree names → IsLifted tree
@@ -61,9 +59,6 @@ module _ (loaded : Loaded) (tree : QueryTree) (names : List (List ℕ))
     is_written = s.is_written;
     no_fault = s.no_fault;
   }
-
-  pub executors : HasExecutors plan
-  executors = subst HasExecutors (sym first) (first_has facts tree)
 
   abbrev KeepsAnswers : Type 0
   KeepsAnswers = (q : QueryTree) → IsWritten loaded.query q → (db : Database) (out : List value.Datum)
@@ -119,16 +114,6 @@ resolved scoping limits fit loaded tree names s within facts are =
 
 -- ---- the run
 
--- the servers hold the documents of the catalog, with the facts by which the plan was made
-pub can_run : (held : List Held) (servers : Holding) (plan : Plan)
-    → servers ≡ record { held = held; servers = 0; counts = nothing_counted }
-    → IsWellFormed (facts_of 0 held) [] (plan_tree plan) → HasExecutors (plan_tree plan)
-    → CanRun (stock servers) plan
-can_run held servers plan holds well has = record {
-  well_formed = subst (λ (h : Holding). IsWellFormed (stock h).facts [] (plan_tree plan)) (sym holds) well;
-  executors = has;
-}
-
 at_end : (before : List Ran) (ran : Ran) → slice_get (before ++ ran ∷ []) (length before) ≡ Some ran
 at_end [] ran = refl
 at_end (other ∷ before) ran = at_end before ran
@@ -144,26 +129,15 @@ module _ (w : Dataset) (plan : Plan) (batch : ℕ) (before after : List Ran)
         ∙ ap (λ n. slice_get (before ++ a.ran ∷ []) n) (here ∙ ap length is)
         ∙ at_end before a.ran
 
--- the entry is over the documents of the script, and its text is what is printed
-pub entry_prints : (loaded : Loaded) (servers : Holding)
-    → servers ≡ record { held = loaded.catalog; servers = 0; counts = nothing_counted }
-    → (settings : Settings) (plan : Plan) (batch : ℕ) (before after : List Ran)
-    → (a : Adds (stock servers) plan batch before after) (ran : Ran) → ran ≡ a.ran
+-- the text of the entry that is found is that of the entry that was added
+pub entry_prints : (w : Dataset) (settings : Settings) (plan : Plan) (batch : ℕ) (before after : List Ran)
+    → (a : Adds w plan batch before after) (ran : Ran) → ran ≡ a.ran
     → {V E : Type 0} (bytes : V → List ℕ) (r : Result V E) → IfOk r (λ text. bytes text ≡ run_text settings ran)
-    → IfOk r (λ text. (added : Adds (stored loaded) plan batch before after)
+    → IfOk r (λ text. (added : Adds w plan batch before after)
     × (bytes text ≡ run_text settings added.ran))
-entry_prints loaded servers holds settings plan batch before after a ran same bytes (Err e) is = tt
-entry_prints loaded servers holds settings plan batch before after a ran same bytes (Ok text) is =
-    subst (λ (h : Holding). (b : Adds (stock h) plan batch before after)
-    × (bytes text ≡ run_text settings b.ran))
-    holds (a, is ∙ ap (run_text settings) same)
-
-pub adds_stored : (loaded : Loaded) (servers : Holding)
-    → servers ≡ record { held = loaded.catalog; servers = 0; counts = nothing_counted }
-    → (plan : Plan) (batch : ℕ) (before after : List Ran)
-    → Adds (stock servers) plan batch before after → Adds (stored loaded) plan batch before after
-adds_stored loaded servers holds plan batch before after a =
-    subst (λ (h : Holding). Adds (stock h) plan batch before after) holds a
+entry_prints w settings plan batch before after a ran same bytes (Err e) is = tt
+entry_prints w settings plan batch before after a ran same bytes (Ok text) is =
+    (a, is ∙ ap (run_text settings) same)
 
 -- ---- what is printed
 

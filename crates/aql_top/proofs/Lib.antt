@@ -1,6 +1,4 @@
 pub mod Loading
-pub mod Executors
-pub mod ChosenExecutors
 pub mod Answering
 pub mod Ends
 pub mod Once

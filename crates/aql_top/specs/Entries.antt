@@ -14,11 +14,11 @@ use Rattle.aql_plan.specs.View.{plan_tree}
 use Rattle.aql_plan.specs.FirstPlan.{first_plan}
 use Rattle.aql_plan.specs.Runs.{Dataset}
 use Rattle.aql_plan.specs.Refines.{dataset, Answers as PlanAnswers}
-use Rattle.aql_plan.specs.WellFormed.{IsWellFormed}
 use Rattle.aql_value.specs.Datum.{Datum}
-use Rattle.aql_engine.specs.Runnable.{HasExecutors}
+use Rattle.aql_engine.specs.Engine.{CanRun}
 use Rattle.aql_top.specs.Reading.{IsWritten}
 use Rattle.aql_top.specs.declared.planning.Planned.{Planned}
+use Rattle.aql_shard.specs.Holding.{Holding}
 use Rattle.aql_shard.specs.Known.{facts_of}
 use Rattle.aql_shard.specs.Datasets.{stock, nothing_counted}
 use Rattle.aql_plan.specs.declared.rule_sets.Rules.{Rules}
@@ -30,6 +30,13 @@ use Rattle.aql_top.specs.Forms.{HasQuery}
 -- what is known of the script's collections, which all are in one place
 abbrev pub known : Loaded → Facts
 known loaded = facts_of 0 loaded.catalog
+
+-- the documents of the script, in one place, before anything is read
+abbrev pub holding : Loaded → Holding
+holding loaded = record { held = loaded.catalog; servers = 0; counts = nothing_counted }
+
+abbrev pub stored : Loaded → Dataset
+stored loaded = stock (holding loaded)
 
 -- the plan that is chosen, by these rules and by what is known of the collections, for a query, whose first
 -- plan has a node for each clause; and the names of the rules that changed it
@@ -50,17 +57,13 @@ pub record IsReady (rules : Rules) (loaded : Loaded) (p : Planned) : Type 0 wher
   pub planned : IsPlanned rules loaded p.names (plan_tree p.chosen.plan) p.chosen.applied
   pub known_facts : p.facts ≡ known loaded
   pub cost : p.chosen.cost ≡ cost_of (known loaded) (plan_tree p.chosen.plan)
-  pub executors : HasExecutors (plan_tree p.chosen.plan)
-  pub well_formed : IsWellFormed (known loaded) [] (plan_tree p.chosen.plan)
+  pub servers_are : p.servers ≡ holding loaded
+  pub can_run : CanRun (stored loaded) p.chosen.plan
   pub answers : (values : List Datum)
       → PlanAnswers (plan_tree p.chosen.plan)
       (dataset (known loaded) (database loaded.catalog)) empty_row values
       → (query : QueryTree) → IsWritten loaded.query query
       → IsAnswer (database loaded.catalog) query empty_row values
-
--- the documents of the script, in one place
-abbrev pub stored : Loaded → Dataset
-stored loaded = stock (record { held = loaded.catalog; servers = 0; counts = nothing_counted })
 
 -- an entry of the script's query: its plan is the one chosen by the rules of the settings, its batch is that
 -- of the settings, and its values are an answer that the meaning allows for the query as it is written

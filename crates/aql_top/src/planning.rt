@@ -10,7 +10,6 @@ ghost use Rattle.aql_plan.specs.Refines.{dataset, Answers as PlanAnswers};
 ghost use Rattle.aql_plan.specs.View.{plan_tree};
 ghost use Rattle.aql_plan.specs.WellFormed.{IsWellFormed};
 ghost use Rattle.aql_opt.specs.Chosen.{cost_of};
-ghost use Rattle.aql_engine.specs.Runnable.{HasExecutors};
 ghost use Rattle.aql_top.specs.Reading.{IsWritten};
 ghost use Rattle.aql_top.specs.Forms.{HasQuery};
 ghost use Rattle.aql_top.specs.Entries.{IsReady};
@@ -21,32 +20,36 @@ use crate::read_query;
 use aql_build::initial_plan;
 use aql_build::laws::scoping_gives_it;
 use aql_build::limits::text_limits_end;
-use aql_opt::laws::facts_fit;
-use aql_opt::{Optimised, facts, optimise};
+use aql_opt::{Optimised, optimise};
 use aql_plan::{Facts, Rules};
 use aql_script::Loaded;
+use aql_shard::laws::facts_fit;
+use aql_shard::{Servers, split};
 use aql_value::Names;
 use std::alloc::Global;
 
-/// The plan that is chosen for a query, with the names of its variables and what is known of the
-/// collections.
+/// The plan that is chosen for a query, with the names of its variables, what is known of the
+/// collections, and the servers that hold their documents.
 #[derive(Drop)]
 pub(crate) struct Planned {
     pub(crate) chosen: Optimised,
     pub(crate) names: Names,
     pub(crate) facts: Facts,
+    pub(crate) servers: Servers,
 }
 
-/// Plans the query of a script.
+/// Plans the query of a script, whose documents the servers take.
 #[tactic(auto, using(crate::proofs::Answering::refused))]
-pub(crate) fn plan_query(alloc: Global, script: &Loaded, rules: &Rules) -> Result<Planned, RunFault>
-    ensures query { OnOk result (HasQuery script.now) }
-    ensures ready { IfOk result (IsReady rules.now script.now) }
-    ensures none { IfErr result (λ fault. HasNoLines script.now fault) }
+pub(crate) fn plan_query(alloc: Global, script: Loaded, rules: &Rules) -> Result<Planned, RunFault>
+    ensures query { OnOk result (HasQuery script) }
+    ensures ready { IfOk result (IsReady rules.now script) }
+    ensures none { IfErr result (λ fault. HasNoLines script fault) }
 {
     let scoped = read_query(alloc, script.query.as_str(), &script.catalog)?;
-    let facts = facts(alloc, &script.catalog, 0)?;
     script.catalog.recall_limits();
+    let Loaded { catalog, query: _ } = script;
+    let servers = split(alloc, catalog, 0)?;
+    let facts = servers.facts(alloc)?;
     facts_fit();
     scoping_gives_it();
     text_limits_end();
@@ -56,5 +59,6 @@ pub(crate) fn plan_query(alloc: Global, script: &Loaded, rules: &Rules) -> Resul
         chosen,
         names: scoped.names,
         facts,
+        servers,
     })
 }

@@ -1,6 +1,7 @@
-use Rattle.std.proofs.Common.{◌≡◌}
+use Rattle.std.proofs.Common.{◌≡◌, ◌∙◌, ap}
+use Rattle.aql_top.specs.Output.{run_text}
 use Rattle.aql_top.proofs.Answering.{found_entry, entry_prints}
-use Rattle.aql_top.proofs.output.run_script.Goals as goal
+use Rattle.aql_top.proofs.output.run_on.Goals as goal
 
 pub unreachable-requires : goal.unreachable-requires
 unreachable-requires g c =
@@ -14,5 +15,5 @@ returns-clause-added g c =
     let found = found_entry _ _ _ _ _ added c.held.result.now c.held-2.result.now
     c.len-before.result c.held.ensures c.len-before.ensures c.held-2.ensures _ c.in-Some.ensures in
     let same : c.in-Some.ran.now ≡ added.ran = cc in
-    entry_prints c.args.script c.in_ok-servers.servers c.in_ok-servers.ensures c.args.settings.now c.args.plan
-    _ _ _ added c.in-Some.ran.now same (λ text. text.items) c.run_text.result c.run_text.ensures
+    entry_prints _ c.args.settings.now c.args.plan _ _ _ added c.in-Some.ran.now same (λ text. text.items)
+    c.run_text.result c.run_text.ensures

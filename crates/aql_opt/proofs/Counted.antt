@@ -1,9 +1,0 @@
--- How many expressions there are.
-use Rattle.std.proofs.Common.{◌≡◌, ◌∙◌, suc, ◌+◌, List, [], ◌∷◌, length, refl, ap, arith}
-use Rattle.aql_tree.specs.declared.syntax.Expr.{Expr}
-use Rattle.aql_plan.specs.Fits.{exprs_in}
-use Rattle.aql_plan.specs.View.{expr_trees}
-
-pub counted : (es : List Expr) → length es ≡ exprs_in (expr_trees es)
-counted [] = refl
-counted (e ∷ es) = let rest = counted es in omega (arith, rest)
