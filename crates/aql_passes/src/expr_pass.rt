@@ -1,7 +1,8 @@
 //! The pass of a rule on expressions: the plan from its lowest node up, each node's expressions one
-//! after another, and a body with its node. No node is copied.
+//! after another, and a body with its node. No node is copied, and an expression without a place
+//! isn't either, unless one after another it stands beside one that changes.
 
-ghost use Rattle.std.specs.Prelude.{false, IfOk, OnOk, map};
+ghost use Rattle.std.specs.Prelude.{false, IfOk, OnOk, map, option_map, unwrap_or};
 ghost use Rattle.aql_tree.specs.View.{tree};
 ghost use Rattle.aql_plan.specs.Refines.{Refines};
 ghost use Rattle.aql_plan.specs.Shapes.{HasNoFragment};
@@ -21,15 +22,17 @@ use aql_value::OutOfMemory;
 use std::alloc::Global;
 use std::collections::VecDeque;
 
-// A node's expressions with the rule applied until they have no place.
+// A node's expressions with the rule applied until they have no place; `None` where they stay as
+// they are.
 fn ended_exprs<R: ExprRule>(
     alloc: Global,
     rule: &R,
     node: &Node,
     changed: &mut bool,
-) -> Result<VecDeque<Expr>, OutOfMemory>
-    ensures { IfOk result (λ out. AllEnd (R.rewrites rule.now) (node_exprs (node_tree node.now))
-        (map tree out.items) changed.old changed.new) }
+) -> Result<Option<VecDeque<Expr>>, OutOfMemory>
+    ensures { IfOk result (λ new. AllEnd (R.rewrites rule.now) (node_exprs (node_tree node.now))
+        (unwrap_or (option_map (λ q. map tree q.items) new) (node_exprs (node_tree node.now)))
+        changed.old changed.new) }
 {
     let all = exprs_of(alloc, node)?;
     all_to_end(alloc, rule, &all, changed)
@@ -47,9 +50,13 @@ fn exprs_to_end<R: ExprRule>(
     ensures { OnOk result (ExprsEnd (R.rewrites rule.now) (node_tree node.old)
         (node_tree node.new) changed.old changed.new) }
 {
-    let mut queue = ended_exprs(alloc, rule, node, changed)?;
-    set_exprs(node, &mut queue);
-    Ok(())
+    match ended_exprs(alloc, rule, node, changed)? {
+        Some(mut queue) => {
+            set_exprs(node, &mut queue);
+            Ok(())
+        }
+        None => Ok(()),
+    }
 }
 
 // Applies the rule until the plan has no place.

@@ -6,6 +6,7 @@ pub mod PartsBack
 pub mod Own
 pub mod PartVariables
 pub mod PartSizes
+pub mod LentExprs
 pub mod FirstKept
 pub mod Constants
 pub mod Sameness

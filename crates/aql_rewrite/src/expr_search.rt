@@ -1,7 +1,7 @@
 //! The search for the first place of a rule: through the children in the order of the text, and
 //! after them the whole.
 
-ghost use Rattle.std.specs.Prelude.{◌≡◌, ◌<◌, ◌+◌, ◌++◌, ◌∷◌, IfOk, IfSome, OnOk, MatchOption};
+ghost use Rattle.std.specs.Prelude.{◌≡◌, ◌<◌, ◌+◌, ◌++◌, ◌∷◌, IfOk, IfSome, MatchOption};
 ghost use Rattle.std.specs.Prelude.{length, map, take, drop};
 ghost use Rattle.std.specs.List.{AllZip};
 ghost use Rattle.aql_tree.specs.View.{tree};
@@ -12,20 +12,11 @@ ghost use Rattle.aql_rewrite.specs.ExprView.{lent};
 
 use crate::expr_rule::ExprRule;
 use crate::looking::children;
-use crate::rebuilding::over_children;
-use aql_tree::{Expr, copy_expr};
+use crate::rebuilding::{add_copies, over_children};
+use aql_tree::Expr;
 use aql_value::OutOfMemory;
 use std::alloc::Global;
 use std::collections::VecDeque;
-
-fn add_copies(alloc: Global, all: &[&Expr], to: &mut VecDeque<Expr>) -> Result<(), OutOfMemory>
-    ensures { OnOk result (map tree to.new.items ≡ map tree to.old.items ++ map lent all.now) }
-{
-    for expr in all {
-        to.push_back(copy_expr(alloc, expr)?)?;
-    }
-    Ok(())
-}
 
 // Copies of all but the one at a place, where the new one stands.
 fn with_new(

@@ -35,7 +35,7 @@ pub use looking::{add_maybe, children};
 pub use nodes::{gives_new_rows, is_collect, uses_of};
 pub use part::PartRule;
 pub use pass::{first_place, run_pass};
-pub use rebuilding::{next_child, over_children, over_maybe};
+pub use rebuilding::{add_new, over_children};
 pub use removing::RemovingRule;
 pub use renaming::rename_top;
 pub use rule::Rule;

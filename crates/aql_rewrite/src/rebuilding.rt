@@ -1,11 +1,11 @@
 //! Expressions over other children. New children wait in a queue, in the order of the text; where
 //! it is empty the old child is copied.
 
-ghost use Rattle.std.specs.Prelude.{◌≡◌, OnOk, IfOk, map, option_map};
+ghost use Rattle.std.specs.Prelude.{◌≡◌, [], ◌∷◌, ◌++◌, OnOk, IfOk, map, option_map, unwrap_or};
 ghost use Rattle.aql_tree.specs.View.{tree, step_part, member_part, link_part};
 ghost use Rattle.aql_rewrite.specs.OverChildren.{first_or, after_first};
 ghost use Rattle.aql_rewrite.specs.OverChildren.{over_children as spec_over_children};
-ghost use Rattle.aql_rewrite.specs.ExprView.{each_over, option_over, after_option};
+ghost use Rattle.aql_rewrite.specs.ExprView.{lent, each_over, option_over, after_option};
 ghost use Rattle.aql_rewrite.specs.ExprView.{member_over, after_member, members_over};
 ghost use Rattle.aql_rewrite.specs.ExprView.{step_over, after_step, steps_over, links_over};
 
@@ -14,12 +14,8 @@ use aql_value::{OutOfMemory, Seq};
 use std::alloc::Global;
 use std::collections::VecDeque;
 
-/// The next child of the queue; where it is empty, a copy of the old one.
-pub fn next_child(
-    alloc: Global,
-    queue: &mut VecDeque<Expr>,
-    old: &Expr,
-) -> Result<Expr, OutOfMemory>
+// The next child of the queue; where it is empty, a copy of the old one.
+fn next_child(alloc: Global, queue: &mut VecDeque<Expr>, old: &Expr) -> Result<Expr, OutOfMemory>
     ensures part { IfOk result (λ e. tree e ≡ first_or (tree old.now) (map tree queue.old.items)) }
     ensures left { map tree queue.new.items ≡ after_first (map tree queue.old.items) }
 {
@@ -29,8 +25,8 @@ pub fn next_child(
     }
 }
 
-/// The next child of the queue, or a copy of the old one, where there is an old one.
-pub fn over_maybe(
+// The next child of the queue, or a copy of the old one, where there is an old one.
+fn over_maybe(
     alloc: Global,
     queue: &mut VecDeque<Expr>,
     old: &Option<Expr>,
@@ -214,4 +210,61 @@ pub fn over_children(alloc: Global, expr: &Expr, new: VecDeque<Expr>) -> Result<
 {
     let mut queue = new;
     over_queue(alloc, expr, &mut queue)
+}
+
+/// Puts copies of expressions at the end of a queue.
+pub(crate) fn add_copies(
+    alloc: Global,
+    all: &[&Expr],
+    to: &mut VecDeque<Expr>,
+) -> Result<(), OutOfMemory>
+    ensures { OnOk result (map tree to.new.items ≡ map tree to.old.items ++ map lent all.now) }
+{
+    for expr in all {
+        to.push_back(copy_expr(alloc, expr)?)?;
+    }
+    Ok(())
+}
+
+// A new expression; where there is none, a copy of the old one.
+fn new_or_copy(alloc: Global, new: Option<Expr>, old: &Expr) -> Result<Expr, OutOfMemory>
+    ensures { IfOk result (λ e. tree e ≡ unwrap_or (option_map tree new) (tree old.now)) }
+{
+    match new {
+        Some(new) => Ok(new),
+        None => copy_expr(alloc, old),
+    }
+}
+
+/// One more expression after those that come in the places of others: `new` in the place of `old`,
+/// or where it is `None` the old one. As long as all stay as they are, `out` is `None`, and none is
+/// copied.
+pub fn add_new(
+    alloc: Global,
+    before: &[&Expr],
+    old: &Expr,
+    new: Option<Expr>,
+    out: &mut Option<VecDeque<Expr>>,
+) -> Result<(), OutOfMemory>
+    ensures { OnOk result (unwrap_or (option_map (λ q. map tree q.items) out.new)
+        (map lent before.now ++ tree old.now ∷ [])
+        ≡ unwrap_or (option_map (λ q. map tree q.items) out.old) (map lent before.now)
+        ++ unwrap_or (option_map tree new) (tree old.now) ∷ []) }
+{
+    match out {
+        Some(queue) => {
+            queue.push_back(new_or_copy(alloc, new, old)?)?;
+            Ok(())
+        }
+        None => match new {
+            Some(new) => {
+                let mut queue = VecDeque::new(alloc);
+                add_copies(alloc, before, &mut queue)?;
+                queue.push_back(new)?;
+                *out = Some(queue);
+                Ok(())
+            }
+            None => Ok(()),
+        },
+    }
 }

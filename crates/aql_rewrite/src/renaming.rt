@@ -1,7 +1,8 @@
 //! Variables renamed in the expressions and the bodies of nodes: a variable goes by the first of
 //! the renamings, what that gives by the next, and so on.
 
-ghost use Rattle.std.specs.Prelude.{◌≡◌, IfOk, OnOk, MatchOption, Some, None, map};
+ghost use Rattle.std.specs.Prelude.{◌≡◌, IfOk, OnOk, MatchOption, Some, None, map, option_map};
+ghost use Rattle.std.specs.Prelude.{unwrap_or};
 ghost use Rattle.std.specs.List.{AllByRecursion};
 ghost use Rattle.aql_tree.specs.declared.syntax.Ident.TheVariants.{Num};
 ghost use Rattle.aql_tree.specs.Tree.{variable};
@@ -18,9 +19,9 @@ ghost use Rattle.aql_rewrite.specs.Renames.{renaming, put_each, top_each};
 
 use crate::exprs::{exprs_of, set_exprs};
 use crate::swap::Rename;
-use crate::{children, over_children};
+use crate::{add_new, children, over_children};
 use aql_plan::{Node, Plan};
-use aql_tree::{Expr, Ident, copy_ident};
+use aql_tree::{Expr, Ident};
 use aql_value::OutOfMemory;
 use std::alloc::Global;
 use std::collections::VecDeque;
@@ -55,61 +56,74 @@ fn renamed_number(number: u32, renames: &[Rename]) -> u32
     name
 }
 
-fn copied_variable(alloc: Global, var: &Ident) -> Result<Expr, OutOfMemory>
-    ensures { IfOk result (λ e. tree e ≡ variable var.now) }
-{
-    Ok(Expr::Var(copy_ident(alloc, var)?))
-}
-
-fn renamed_variable(alloc: Global, var: &Ident, renames: &[Rename]) -> Result<Expr, OutOfMemory>
-    ensures { IfOk result (λ e. tree e ≡ put_each renames.now (variable var.now)) }
+// A variable by its new name; `None` where it keeps its name.
+fn renamed_variable(var: &Ident, renames: &[Rename]) -> Option<Expr>
+    ensures { unwrap_or (option_map tree result) (variable var.now)
+        ≡ put_each renames.now (variable var.now) }
 {
     match var {
-        Ident::Num(n) => Ok(Expr::Var(Ident::Num(renamed_number(*n, renames)))),
-        Ident::Name(_) => copied_variable(alloc, var),
+        Ident::Num(n) => {
+            let number = renamed_number(*n, renames);
+            if number == *n {
+                return None;
+            }
+            Some(Expr::Var(Ident::Num(number)))
+        }
+        Ident::Name(_) => None,
     }
 }
 
+// An expression with its variables renamed; `None` where it stays as it is.
 #[cycle(exprs)]
-fn renamed_expr(alloc: Global, expr: &Expr, renames: &[Rename]) -> Result<Expr, OutOfMemory>
+fn renamed_expr(alloc: Global, expr: &Expr, renames: &[Rename]) -> Result<Option<Expr>, OutOfMemory>
     requires { IsPlain (tree expr.now) }
-    ensures { IfOk result (λ e. tree e ≡ put_each renames.now (tree expr.now)) }
+    ensures { IfOk result (λ new. unwrap_or (option_map tree new) (tree expr.now)
+        ≡ put_each renames.now (tree expr.now)) }
 {
     match variable_of(expr) {
-        Some(var) => renamed_variable(alloc, var, renames),
+        Some(var) => Ok(renamed_variable(var, renames)),
         None => {
             let all = children(alloc, expr)?;
-            let new = renamed_exprs(alloc, &all, renames)?;
-            over_children(alloc, expr, new)
+            match renamed_exprs(alloc, &all, renames)? {
+                Some(new) => {
+                    let whole = over_children(alloc, expr, new)?;
+                    Ok(Some(whole))
+                }
+                None => Ok(None),
+            }
         }
     }
 }
 
+// The same of expressions one after another.
 #[cycle(exprs)]
 fn renamed_exprs(
     alloc: Global,
     all: &[&Expr],
     renames: &[Rename],
-) -> Result<VecDeque<Expr>, OutOfMemory>
+) -> Result<Option<VecDeque<Expr>>, OutOfMemory>
     requires { AllByRecursion IsPlain (map lent all.now) }
-    ensures { IfOk result (λ out. map tree out.items
+    ensures { IfOk result
+        (λ new. unwrap_or (option_map (λ q. map tree q.items) new) (map lent all.now)
         ≡ map (put_each renames.now) (map lent all.now)) }
 {
-    let mut out = VecDeque::new(alloc);
-    for expr in all {
-        out.push_back(renamed_expr(alloc, expr, renames)?)?;
+    let mut out = None;
+    for (at, expr) in all.iter().enumerate() {
+        let new = renamed_expr(alloc, expr, renames)?;
+        add_new(alloc, &all[..at], expr, new, &mut out)?;
     }
     Ok(out)
 }
 
-// The expressions of a node, renamed.
+// The same of the expressions of a node.
 fn renamed_exprs_of(
     alloc: Global,
     node: &Node,
     renames: &[Rename],
-) -> Result<VecDeque<Expr>, OutOfMemory>
+) -> Result<Option<VecDeque<Expr>>, OutOfMemory>
     requires { NodePlain (node_tree node.now) }
-    ensures { IfOk result (λ out. map tree out.items
+    ensures { IfOk result (λ new. unwrap_or (option_map (λ q. map tree q.items) new)
+        (node_exprs (node_tree node.now))
         ≡ map (put_each renames.now) (node_exprs (node_tree node.now))) }
 {
     let all = exprs_of(alloc, node)?;
@@ -121,9 +135,13 @@ fn rename_node(alloc: Global, node: &mut Node, renames: &[Rename]) -> Result<(),
     ensures { OnOk result (node_tree node.new
         ≡ map_node (put_each renames.now) (node_tree node.old)) }
 {
-    let mut queue = renamed_exprs_of(alloc, node, renames)?;
-    set_exprs(node, &mut queue);
-    Ok(())
+    match renamed_exprs_of(alloc, node, renames)? {
+        Some(mut queue) => {
+            set_exprs(node, &mut queue);
+            Ok(())
+        }
+        None => Ok(()),
+    }
 }
 
 fn rename_plan(alloc: Global, plan: &mut Plan, renames: &[Rename]) -> Result<(), OutOfMemory>

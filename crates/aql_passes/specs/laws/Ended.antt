@@ -85,28 +85,35 @@ module _ (R : ExprTree → ExprTree → Type 0) where
         (parts_again e ms ps ∙ ap (over_children e) (first_longer f))
         (in_child (subst (λ (cs : List ExprTree). FirstOf R cs ps) (sym (new_parts k)) f)))
 
+  -- by its parts
   module _ (e whole : ExprTree) (es ps : List ExprTree) (x y : Bool) (of : es ≡ children e)
       (all : AllEnd R es ps x y) (made : whole ≡ over_children e ps) where
     reached : Applications ExprTree (FirstIn R) e whole x y
     reached = subst (λ (d : ExprTree). Applications ExprTree (FirstIn R) e d x y) (sym made)
         (in_whole e es of all.reached)
 
-    no_part : NoneInAll R (children whole)
+    pub no_part : NoneInAll R (children whole)
     no_part = subst (λ (cs : List ExprTree). NoneInAll R cs)
         (sym (ap children made ∙ new_parts e es of all.reached)) all.ended
 
-    pub at_end : Stays R whole → Ends R e whole x y
-    at_end s = record { reached = reached; ended = none_in no_part s }
+    pub whole_ends : (d : ExprTree) (z : Bool) → Ends R whole d y z → Ends R e d x z
+    whole_ends d z h = record { reached = joined ExprTree (FirstIn R) reached h.reached; ended = h.ended }
 
-    pub goes_on : (q d : ExprTree) (z : Bool) → R whole q → Ends R q d true z → Ends R e d x z
+    pub no_larger : ((p q : ExprTree) → R p q → size q < size p) → size whole ≤ size e
+    no_larger falls = keeps_on ExprTree (FirstIn R) (λ d. size d ≤ size e)
+        (λ c d f l. (let m = first_in_smaller R falls f in omega (arith, l, m))) reached (omega arith)
+
+  -- by itself, where no part has a place
+  module _ (e : ExprTree) (x : Bool) (no_part : NoneInAll R (children e)) where
+    pub at_end : Stays R e → Ends R e e x x
+    at_end s = record { reached = at_once; ended = none_in no_part s }
+
+    pub goes_on : (q d : ExprTree) (z : Bool) → R e q → Ends R q d true z → Ends R e d x z
     goes_on q d z r h = record {
-      reached = joined ExprTree (FirstIn R) (next reached (at_whole no_part r)) h.reached;
+      reached = joined ExprTree (FirstIn R) (next at_once (at_whole no_part r)) h.reached;
       ended = h.ended;
     }
 
-    pub smaller : ((p q : ExprTree) → R p q → size q < size p) → (q : ExprTree) → R whole q → size q < size e
-    smaller falls q r =
-        let k : size whole ≤ size e = keeps_on ExprTree (FirstIn R) (λ d. size d ≤ size e)
-        (λ c d f l. (let m = first_in_smaller R falls f in omega (arith, l, m))) reached (omega arith) in
-        let l = falls whole q r in
-        omega (arith, k, l)
+-- where the parts stay as they are
+pub made_of_own : (e : ExprTree) (es : List ExprTree) → es ≡ children e → e ≡ over_children e es
+made_of_own e es of = sym (ap (over_children e) of ∙ parts_own e)

@@ -2,6 +2,7 @@
 -- a variable is called in the end.
 use Rattle.std.proofs.Common.{◌≡◌, ◌∙◌, ℕ, List, [], ◌∷◌, ◌++◌, map, refl, ap, ap₂, sym, subst}
 use Rattle.std.specs.Prelude.{Option, Some, None}
+use Rattle.std.proofs.lemmas.List.{map-id}
 use Rattle.aql_tree.specs.declared.syntax.Ident.{Ident}
 use Rattle.aql_tree.specs.declared.syntax.Ident.TheVariants.{Num, Name}
 use Rattle.aql_tree.specs.Tree.{ExprTree, literal, variable, current, array_literal, object_literal, access}
@@ -124,6 +125,13 @@ module _ (rs : List Rename) where
       (λ r a b c. refl) rs test middle other)
   whole_each (range_of a b) h n = sym (through_two renaming renaming renaming range_of (λ r c d. refl) rs a b)
   whole_each (subquery s) h n = absurd h
+
+-- where the parts stay as they are, so does the whole
+pub whole_stays : (rs : List Rename) (e : ExprTree) → IsPlain e → variable_in e ≡ None
+    → children e ≡ map (put_each rs) (children e) → e ≡ put_each rs e
+whole_stays rs e h n k =
+    sym (ap (over_children e) (sym (map-id (children e))) ∙ whole_each [] e h n)
+    ∙ ap (over_children e) k ∙ whole_each rs e h n
 
 -- a name is no number
 pub name_stays : (rs : List Rename) (s : List ℕ) → put_each rs (variable (Name s)) ≡ variable (Name s)

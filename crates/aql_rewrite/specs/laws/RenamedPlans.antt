@@ -2,6 +2,7 @@
 use Rattle.std.proofs.Common.{◌≡◌, ◌∙◌, List, [], ◌∷◌, map, Bool, true, false, true≢false, cond, refl, ap, ap₂, sym, subst}
 use Rattle.std.specs.Prelude.{Option, Some, None}
 use Rattle.std.specs.List.{AllByRecursion}
+use Rattle.std.proofs.lemmas.List.{map-id}
 use Rattle.aql_tree.specs.declared.syntax.Ident.{Ident}
 use Rattle.aql_tree.specs.declared.syntax.Ident.TheVariants.{Num}
 use Rattle.aql_tree.specs.Tree.{ExprTree, variable}
@@ -15,6 +16,7 @@ use Rattle.aql_plan.specs.Exprs.{map_node}
 use Rattle.aql_plan.specs.Nodes.{over, body_in}
 use Rattle.aql_plan.specs.Plan.{Plan, Singleton, Over, Node, Subquery, top}
 use Rattle.aql_plan.specs.View.{node_tree}
+use Rattle.aql_plan_laws.specs.laws.Mapped.{node_same}
 use Rattle.aql_rewrite.specs.declared.swap.Rename.{Rename}
 use Rattle.aql_rewrite.specs.Nodes.{over_renamed}
 use Rattle.aql_rewrite.specs.Renames.{put_each, over_each, top_each}
@@ -57,6 +59,13 @@ no_body (Gather-code keys) = refl
 pub node_renamed : (rs : List Rename) (n : Node) (es : List ExprTree) → body_in n ≡ None
     → es ≡ map (put_each rs) (node_exprs n) → over_exprs n es ≡ map_node (put_each rs) n
 node_renamed rs n es e h = ap (over_exprs n) h ∙ node_over (put_each rs) n e
+
+-- where the expressions stay as they are, so does the node
+pub node_stays : (rs : List Rename) (n : Node) → body_in n ≡ None
+    → node_exprs n ≡ map (put_each rs) (node_exprs n) → n ≡ map_node (put_each rs) n
+node_stays rs n e h =
+    sym (ap (over_exprs n) (sym (map-id (node_exprs n))) ∙ node_over (λ d. d) n e ∙ node_same n)
+    ∙ node_renamed rs n (node_exprs n) e h
 
 -- ---- the node at the top
 

@@ -6,7 +6,8 @@ use Rattle.aql_rewrite.specs.Constant.{IsConstant, AreConstant, no_more}
 use Rattle.aql_rewrite.specs.Size.{size, size_all}
 use Rattle.aql_rewrite.specs.ExprView.{lent}
 use Rattle.aql_rewrite.specs.laws.PartSizes.{parts_smaller}
-use Rattle.aql_rewrite.proofs.Steps.{is_smaller, constant_next, constant_at, whole_constant, if_ok}
+use Rattle.aql_rewrite.specs.laws.LentExprs.{is_smaller}
+use Rattle.aql_rewrite.proofs.Steps.{constant_next, constant_at, whole_constant, if_ok}
 use Rattle.aql_rewrite.proofs.constants.+constant.Goals as goal
 
 pub are_closed-loop-expr-init : goal.are_closed-loop-expr-init

@@ -5,7 +5,8 @@ use Rattle.aql_rewrite.specs.FirstInExpr.{none_left}
 use Rattle.aql_rewrite.specs.Size.{size, size_all}
 use Rattle.aql_rewrite.specs.ExprView.{lent}
 use Rattle.aql_rewrite.specs.laws.PartSizes.{parts_smaller}
-use Rattle.aql_rewrite.proofs.Steps.{is_smaller, none_next, found_next, found_in, found_whole}
+use Rattle.aql_rewrite.specs.laws.LentExprs.{is_smaller}
+use Rattle.aql_rewrite.proofs.Steps.{none_next, found_next, found_in, found_whole}
 use Rattle.aql_rewrite.proofs.Steps.{none_whole}
 use Rattle.aql_rewrite.proofs.expr_search.+first.Goals as goal
 

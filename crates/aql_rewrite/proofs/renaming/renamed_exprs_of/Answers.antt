@@ -1,8 +1,9 @@
 -- The expressions of a node are plain ones.
-use Rattle.std.proofs.Common.{◌∙◌, List, map, ap, sym, subst}
+use Rattle.std.proofs.Common.{◌≡◌, ◌∙◌, List, map, option_map, unwrap_or, ap, sym, subst}
 use Rattle.std.proofs.lemmas.Result.{IfOk-weaker}
 use Rattle.std.specs.List.{AllByRecursion}
 use Rattle.aql_tree.specs.Tree.{ExprTree}
+use Rattle.aql_tree.specs.View.{tree}
 use Rattle.aql_meaning.specs.Plain.{IsPlain}
 use Rattle.aql_plan.specs.View.{node_tree}
 use Rattle.aql_rewrite.specs.ExprView.{lent}
@@ -19,5 +20,6 @@ renamed_exprs-requires c =
 pub returns : goal.returns
 returns c =
     IfOk-weaker c.renamed_exprs.result _ _
-    (λ out h. h ∙ ap (map (put_each c.args.renames.now))
-    (ap (map lent) c.deref.ensures.value ∙ c.in_ok-all.ensures)) c.renamed_exprs.ensures
+    (λ new h. subst (λ (es : List ExprTree). unwrap_or (option_map (λ q. map tree q.items) new) es
+    ≡ map (put_each c.args.renames.now) es) (ap (map lent) c.deref.ensures.value ∙ c.in_ok-all.ensures) h)
+    c.renamed_exprs.ensures
