@@ -7,3 +7,4 @@ pub mod Passing
 pub mod Found
 pub mod Widths
 pub mod Counted
+pub mod Lookups

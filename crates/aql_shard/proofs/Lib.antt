@@ -1,1 +1,4 @@
 pub mod Found
+pub mod KnownFits
+pub mod Collected
+pub mod Searched

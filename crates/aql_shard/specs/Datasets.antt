@@ -22,6 +22,6 @@ nothing_counted = record { scanned_full = 0; scanned_index = 0; filtered = 0 }
 abbrev pub one_read : Tally → Tally
 one_read t = record t { scanned_full = min (t.scanned_full + 1) (2 ^ 64 - 1) }
 
--- so many more were found by lookups; the count stays at the largest number of 64 bits
-abbrev pub more_found : ℕ → Tally → Tally
-more_found n t = record t { scanned_index = min (t.scanned_index + n) (2 ^ 64 - 1) }
+-- one more was found by an index; the count stays at the largest number of 64 bits
+abbrev pub one_found : Tally → Tally
+one_found t = record t { scanned_index = min (t.scanned_index + 1) (2 ^ 64 - 1) }

@@ -1,25 +1,39 @@
-ghost use Rattle.std.specs.Prelude.{◌≡◌, ◌<◌, length, option_map, slice_get, Some, IfOk, IfSome};
+ghost use Rattle.std.specs.Prelude.{◌≡◌, ◌<◌, length, filter, flat_map, option_map, slice_get, Some, IfOk, IfSome};
 ghost use Rattle.std.specs.Borrow.{sem};
 ghost use Rattle.std.specs.Io.BufRead.{Rests};
 ghost use Rattle.aql_value.specs.View.{datum_of};
 ghost use Rattle.aql_doc.specs.Declarations.{collection_index};
+ghost use Rattle.aql_meaning.specs.Documents.{in_bounds, one_of};
+ghost use Rattle.aql_plan.specs.Facts.{attributes_in, Meets};
 ghost use Rattle.aql_plan.specs.Fits.{IsShard};
-ghost use Rattle.aql_shard.specs.Datasets.{stock, nothing_counted, one_read, more_found, documents_read};
-ghost use Rattle.aql_shard.specs.Known.{facts_of, shards_of};
+ghost use Rattle.aql_plan.specs.Runs.{Outside};
+ghost use Rattle.aql_index.specs.Bounds.{range_of};
+ghost use Rattle.aql_index.specs.Found.{in_order_of};
+ghost use Rattle.aql_index.specs.Spans.{spanned, IsSpan, AreApart};
+ghost use Rattle.aql_index.specs.Usable.{IsIndexFor, IsSearched, IsSearchedForEach};
+ghost use Rattle.aql_shard.specs.Datasets.{stock, nothing_counted, one_read, one_found, documents_read};
+ghost use Rattle.aql_shard.specs.Known.{shards_of};
 ghost use Rattle.aql_shard.specs.contracts.servers.Servers.{the_row};
 
+use crate::indexes::{AllIndexes, build_all, index_at};
+use crate::known::collect_facts;
 use aql_block::Tally;
 use aql_doc::Catalog;
-use aql_value::{CollNo, OutOfMemory, Value};
+use aql_index::{Bound, Span, Spans, spans_of};
+use aql_plan::Facts;
+use aql_value::{CollNo, Items, OutOfMemory, Value};
 use std::alloc::Global;
 use std::marker::Model;
 
-/// The documents of a catalog, as the servers hold them, and what the servers have counted.
-/// Contracts see what the catalog held, the number of servers and the counts; `stock` gives the
-/// documents with what is known of them, as plans see both.
+/// The documents of a catalog with their indexes, as the servers hold them, and what the servers
+/// have counted. Contracts see what the catalog held, the number of servers and the counts; `stock`
+/// gives the documents with what is known of them, as plans see both. The indexes of a collection
+/// are lookups by `_key` and by `_id`, of an edge collection also by `_from` and by `_to`, and then
+/// its sorted indexes as they were declared.
 pub struct Servers {
     catalog: Catalog,
     servers: u32,
+    indexes: AllIndexes,
     counts: Tally,
 }
 
@@ -28,14 +42,16 @@ impl Drop for Servers {
         let Servers {
             catalog: _,
             servers: _,
+            indexes: _,
             counts: _,
         } = self;
     }
 }
 
 impl Model for Servers {
-    ghost use Rattle.std.specs.Prelude.{◌≡◌};
+    ghost use Rattle.std.specs.Prelude.{◌≡◌, map};
     ghost use Rattle.aql_shard.specs.Holding.{Holding, coded_holding};
+    ghost use Rattle.aql_shard.specs.Indexes.{indexes_of};
 
     ghost Value = { Holding };
 
@@ -44,19 +60,21 @@ impl Model for Servers {
     ghost view = { λ s.
         record { held = s.catalog; servers = s.servers; counts = s.counts } };
 
-    ghost invariant = { λ s. s.servers ≡ 0 };
+    ghost invariant = { λ s. (s.servers ≡ 0) × (s.indexes ≡ map indexes_of s.catalog) };
 }
 
-/// The documents of a catalog on so many servers. With 0, every collection is one shard, and all
-/// are in one place.
-pub fn split(_alloc: Global, catalog: Catalog, servers: u32) -> Result<Servers, OutOfMemory>
+/// The documents of a catalog on so many servers, with their indexes. With 0, every collection is
+/// one shard, and all are in one place. Only want of memory is refused.
+pub fn split(alloc: Global, catalog: Catalog, servers: u32) -> Result<Servers, OutOfMemory>
     requires { servers ≡ 0 }
     ensures { IfOk result (λ s.
         s ≡ record { held = catalog; servers = servers; counts = nothing_counted }) }
 {
+    let indexes = build_all(alloc, &catalog)?;
     Ok(Servers {
         catalog,
         servers,
+        indexes,
         counts: Tally::new(),
     })
 }
@@ -67,6 +85,24 @@ impl Servers {
         ensures { result ≡ self.now.counts }
     {
         self.counts
+    }
+
+    /// What is known of the collections: names, kinds, numbers of documents, shards, shard keys and
+    /// indexes. With 0 servers each collection is one shard, in one place. Only want of memory is
+    /// refused.
+    pub fn facts(&self, alloc: Global) -> Result<Facts, OutOfMemory>
+        ensures known { IfOk result (λ facts. facts ≡ (stock self.now).facts) }
+        ensures meets { IfOk result (λ facts. Meets facts (stock self.now).db) }
+    {
+        let facts = collect_facts(alloc, self.servers, &self.catalog, &self.indexes)?;
+        Ok(facts)
+    }
+
+    /// How many collections there are.
+    pub fn collections(&self) -> u32
+        ensures { result ≡ length self.now.held }
+    {
+        self.catalog.len() as u32
     }
 
     /// The number of the collection with a name; `None` exactly where there is none.
@@ -95,22 +131,53 @@ impl Servers {
         self.catalog.count(coll)
     }
 
-    /// What the servers hold, for a lookup to look through: nothing is counted here. It counts what
-    /// it finds by `count_found`.
-    pub fn catalog(&self) -> &Catalog
-        ensures { result.now ≡ self.now.held }
+    /// The span of the documents in these bounds, in the order of an index, which is searched as
+    /// its kind allows: a lookup by one value, a sorted index by values of its first attributes and
+    /// a range of the next. Nothing is counted, and no memory taken.
+    pub fn span(
+        &self,
+        coll: CollNo,
+        shard: Option<u32>,
+        index: u32,
+        equal: &Items,
+        low: &Bound,
+        high: &Bound,
+    ) -> Span
+        requires { IsSearched (stock self.now).facts coll.0 shard index (length equal.now)
+            (range_of low.now high.now) }
+        ensures within { IsSpan
+            (length (in_order_of (stock self.now) Outside coll.0 shard index)) result }
+        ensures exactly { spanned (in_order_of (stock self.now) Outside coll.0 shard index) result
+            ≡ filter (in_bounds (attributes_in (stock self.now).facts coll.0 index) equal.now
+            (range_of low.now high.now))
+            (in_order_of (stock self.now) Outside coll.0 shard index) }
     {
-        &self.catalog
+        index_at(&self.indexes, coll, index).range(equal, low, high)
     }
 
-    /// Counts documents that a lookup found, both in the tally and in the servers' own counts.
-    pub fn count_found(&mut self, found: u64, tally: &mut Tally)
-        ensures tally { tally.new ≡ more_found found tally.old }
-        ensures counts { self.new ≡
-            record self.old { counts = more_found found self.old.counts } }
+    /// The spans of the documents that have the equal values and then an element of the array, none
+    /// where it is no array. No document is in two of them. Nothing is counted. Only want of memory
+    /// is refused.
+    pub fn spans(
+        &self,
+        alloc: Global,
+        coll: CollNo,
+        shard: Option<u32>,
+        index: u32,
+        equal: &Items,
+        list: &Value,
+    ) -> Result<Spans, OutOfMemory>
+        requires { IsSearchedForEach (stock self.now).facts coll.0 shard index (length equal.now) }
+        ensures apart { IfOk result (λ spans. AreApart 0 spans
+            (length (in_order_of (stock self.now) Outside coll.0 shard index))) }
+        ensures exactly { IfOk result (λ spans.
+            flat_map (spanned (in_order_of (stock self.now) Outside coll.0 shard index)) spans
+            ≡ filter (in_bounds (attributes_in (stock self.now).facts coll.0 index) equal.now
+            (one_of (datum_of list.now)))
+            (in_order_of (stock self.now) Outside coll.0 shard index)) }
     {
-        tally.add_indexed(found);
-        self.counts.add_indexed(found);
+        let spans = spans_of(alloc, index_at(&self.indexes, coll, index), equal, list)?;
+        Ok(spans)
     }
 
     /// The document at a place of a collection, or of one shard of it. It is handed out and
@@ -136,6 +203,40 @@ impl Servers {
             unreachable!()
         };
         let Some(document) = documents.get(place as usize) else {
+            unreachable!()
+        };
+        document
+    }
+
+    /// The document at a place in the order of an index. It is handed out and counted as one that
+    /// an index found, both in the tally and in the servers' own counts.
+    pub fn indexed(
+        &mut self,
+        coll: CollNo,
+        shard: Option<u32>,
+        index: u32,
+        place: u64,
+        tally: &mut Tally,
+    ) -> &Value
+        requires index { IsIndexFor (stock self.old).facts coll.0 shard index (λ i. Unit {0}) }
+        requires place { place
+            < length (in_order_of (stock self.old) Outside coll.0 shard index) }
+        ensures document { slice_get (in_order_of (stock self.old) Outside coll.0 shard index) place
+            ≡ Some (datum_of result.now) }
+        ensures tally { tally.new ≡ one_found tally.old }
+        ensures* counts { sem 𝓛 (Rests the_row self.entry
+            (λ after. after ≡ record self.old { counts = one_found self.old.counts })) }
+    {
+        tally.add_indexed(1);
+        self.counts.add_indexed(1);
+        self.catalog.recall_limits();
+        let Some(found) = index_at(&self.indexes, coll, index).doc_at(place as u32) else {
+            unreachable!()
+        };
+        let Some(documents) = self.catalog.documents(coll) else {
+            unreachable!()
+        };
+        let Some(document) = documents.get(found as usize) else {
             unreachable!()
         };
         document

@@ -1,5 +1,5 @@
 -- What is known of a catalog is true of its documents, and in one place a reader finds all of them.
-use Rattle.std.proofs.Common.{◌≡◌, ℕ, zero, suc, List, [], ◌∷◌, map, cond, refl, ap₂, sym, subst, ◌∙◌, arith}
+use Rattle.std.proofs.Common.{◌≡◌, ℕ, zero, suc, List, [], ◌∷◌, map, cond, refl, ap, ap₂, sym, subst, ◌∙◌, arith}
 use Rattle.std.specs.Prelude.{◌==◌, ◌<◌, Option, Some, None}
 use Rattle.std.proofs.Math.Nat.{mod-one}
 use Rattle.aql_value.specs.Datum.{Datum}
@@ -8,16 +8,25 @@ use Rattle.aql_value.specs.Json.{json_text}
 use Rattle.aql_value.specs.Database.{documents_of}
 use Rattle.aql_value.specs.Shards.{fnv, shard_of, documents_on}
 use Rattle.aql_doc.specs.Held.{Held, database, documents_at}
-use Rattle.aql_plan.specs.Facts.{Meets, shards_in, keys_in}
+use Rattle.aql_plan.specs.declared.facts.IndexFact.{IndexFact}
+use Rattle.aql_plan.specs.Facts.{Meets, shards_in, keys_in, widths_of}
 use Rattle.aql_plan.specs.Fits.{IsShard}
-use Rattle.aql_shard.specs.Known.{facts_of}
+use Rattle.aql_shard.specs.declared.shapes.Shape.{Shape}
+use Rattle.aql_shard.specs.Known.{shapes, index_fact, facts_of}
 use Rattle.aql_shard.specs.Datasets.{documents_read}
 
 -- ---- what is known is true
 
+same_widths : (documents : List Datum) (all : List Shape)
+    → map (λ (i : IndexFact). i.widths) (map (index_fact documents) all)
+    ≡ map (λ (i : IndexFact). widths_of i.attributes documents) (map (index_fact documents) all)
+same_widths documents [] = refl
+same_widths documents (s ∷ all) = ap (λ ws. widths_of s.attributes documents ∷ ws) (same_widths documents all)
+
 pub split_meets : (servers : ℕ) (held : List Held) → Meets (facts_of servers held) (database held)
 split_meets servers [] = tt
-split_meets servers (h ∷ held) = ((refl, refl, refl, refl), split_meets servers held)
+split_meets servers (h ∷ held) =
+    ((refl, refl, refl, same_widths h.documents (shapes h.info)), split_meets servers held)
 
 -- ---- the documents of a collection
 

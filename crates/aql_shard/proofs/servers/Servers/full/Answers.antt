@@ -14,7 +14,7 @@ unreachable-requires-in_default-get c =
     let me = c.args.self.now in
     let coll = c.args.coll.0 in
     let here = reads_here me.servers me.held coll c.args.shard
-    (sym (ap (λ (h : Holding). h.servers) c.self.view_is) ∙ c.self.invariant) c.requires.shard in
+    (sym (ap (λ (h : Holding). h.servers) c.self.view_is) ∙ c.self.invariant.0) c.requires.shard in
     let all = here ∙ sym (ap (λ (h : Holding). documents_at h.held coll) c.self.view_is)
     ∙ documents_found c.self.inside.catalog coll c.in-Some.documents.now c.in-Some.ensures in
     not_missing c.in-Some.documents.now c.args.place c.in_default-get.ensures
@@ -26,7 +26,7 @@ returns c =
     let me = c.args.self.now in
     let coll = c.args.coll.0 in
     let here = reads_here me.servers me.held coll c.args.shard
-    (sym (ap (λ (h : Holding). h.servers) c.self.view_is) ∙ c.self.invariant) c.requires.shard in
+    (sym (ap (λ (h : Holding). h.servers) c.self.view_is) ∙ c.self.invariant.0) c.requires.shard in
     let all = here ∙ sym (ap (λ (h : Holding). documents_at h.held coll) c.self.view_is)
     ∙ documents_found c.self.inside.catalog coll c.in-Some.documents.now c.in-Some.ensures in (
       (

@@ -8,6 +8,6 @@ pub returns : goal.returns
 returns c =
     let me = c.args.self.now in
     let here = reads_here me.servers me.held c.args.coll.0 c.args.shard
-    (sym (ap (λ (h : Holding). h.servers) c.self.view_is) ∙ c.self.invariant) c.requires in
+    (sym (ap (λ (h : Holding). h.servers) c.self.view_is) ∙ c.self.invariant.0) c.requires in
     c.count.ensures ∙ ap length (ap (λ (h : Holding). documents_at h.held c.args.coll.0) c.self.view_is
     ∙ sym here)
