@@ -1,5 +1,11 @@
 pub mod Projected
+pub mod ReadSteps
+pub mod ReadLoops
 pub mod ListSteps
 pub mod ListLoops
 pub mod ScanSteps
 pub mod ScanLoops
+pub mod PlaceSteps
+pub mod SearchSteps
+pub mod IndexSteps
+pub mod IndexLoops

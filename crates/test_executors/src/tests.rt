@@ -1,5 +1,6 @@
 mod collects;
 mod driving;
+mod indexes;
 mod leaves;
 mod lists;
 mod memory;

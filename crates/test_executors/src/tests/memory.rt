@@ -2,7 +2,7 @@
 // with the right rows.
 
 use crate::tests::rows::{expect, is_right};
-use crate::tests::{collects, leaves, lists, scans, sorts, streams, subqueries};
+use crate::tests::{collects, indexes, leaves, lists, scans, sorts, streams, subqueries};
 
 #[test]
 fn of_start_row(rt: HostRuntime) {
@@ -76,6 +76,17 @@ fn of_collection(rt: HostRuntime) {
         "FOR over a collection",
         2,
     );
+}
+
+#[test]
+fn of_index(rt: HostRuntime) {
+    let alloc = rt.alloc();
+    let case = &indexes::SKIPPED[2];
+    let found = match indexes::gives(alloc, false, case, 2, true) {
+        Ok((ran, _)) => Ok(ran),
+        Err(e) => Err(e),
+    };
+    expect(&rt, is_right(alloc, found, case.4), "an index", 2);
 }
 
 #[test]

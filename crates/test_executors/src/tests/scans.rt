@@ -20,18 +20,20 @@ use std::alloc::Global;
 use std::process::Abort;
 
 // An object with these attributes `n` and `t`.
-fn document(alloc: Global, n: i64, t: &str) -> Result<Value, OutOfMemory> {
+pub fn document(alloc: Global, n: i64, t: &str) -> Result<Value, OutOfMemory> {
     let mut members = Members::new(alloc);
     members.set(Text::new(alloc, "n")?, Value::Num(n))?;
     members.set(Text::new(alloc, "t")?, Value::Text(Text::new(alloc, t)?))?;
     Ok(Value::Object(members))
 }
 
-fn documents(alloc: Global) -> Result<Items, OutOfMemory> {
+fn documents(alloc: Global) -> Result<Items, OutOfMemory>
+    ensures { IfOk result (λ documents. length documents ≤ 3) }
+{
     let mut documents = Items::new(alloc);
-    for (n, t) in [(1, "a"), (2, "b"), (3, "c")] {
-        documents.push(document(alloc, n, t)?)?;
-    }
+    documents.push(document(alloc, 1, "a")?)?;
+    documents.push(document(alloc, 2, "b")?)?;
+    documents.push(document(alloc, 3, "c")?)?;
     Ok(documents)
 }
 
@@ -47,7 +49,7 @@ fn is_more(alloc: Global) -> Result<Expr, OutOfMemory>
     Expr::chain(alloc, n, rest)
 }
 
-fn filter(alloc: Global, filters: bool) -> Result<Option<Expr>, OutOfMemory>
+pub fn filter(alloc: Global, filters: bool) -> Result<Option<Expr>, OutOfMemory>
     ensures { IfOk result (λ filter. MaybePlain (maybe_tree filter)) }
 {
     if !filters {
