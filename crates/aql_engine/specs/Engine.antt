@@ -12,13 +12,13 @@ use Rattle.aql_exec.specs.Rising.{Rose, TallyRose}
 use Rattle.aql_exec.specs.Reads.{reads_little}
 use Rattle.aql_exec.specs.Operators.{Produces, exact_tree}
 use Rattle.aql_engine.specs.OperatorsOf.{operators_of}
-use Rattle.aql_engine.specs.Runnable.{HasExecutors}
+use Rattle.aql_plan.specs.Shapes.{HasNoFragment}
 use Rattle.aql_engine.specs.declared.engine.Ran.{Ran}
 
--- a plan that can be run over these documents: it is well formed, and each of its nodes has an executor
+-- a plan that can be run over these documents: it is well formed and has no fragment
 pub record CanRun (w : Dataset) (plan : Plan) : Type 0 where
   pub well_formed : IsWellFormed w.facts [] (plan_tree plan)
-  pub executors : HasExecutors (plan_tree plan)
+  pub without_fragments : HasNoFragment (plan_tree plan)
 
 abbrev pub no_tally : Tally
 no_tally = record { scanned_full = 0; scanned_index = 0; filtered = 0 }

@@ -1,7 +1,6 @@
 pub mod Engine
 pub mod OperatorsOf
 pub mod EachFits
-pub mod Runnable
 pub mod Theorems
 pub mod laws
 pub mod Tree

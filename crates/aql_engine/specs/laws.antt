@@ -7,4 +7,3 @@ pub mod Exactness
 pub mod TreesKept
 pub mod Unlinked
 pub mod Choices
-pub mod Fragments

@@ -7,11 +7,9 @@ mod deliveries;
 mod engine;
 pub mod laws;
 mod run;
-mod runnable;
 mod tree;
 
 pub use choice::Choice;
 pub use engine::{Engine, Ran, Rans};
 pub use run::{deliver_one, run_feed};
-pub use runnable::has_executors;
 pub use tree::Tree;

@@ -17,9 +17,8 @@ use Rattle.aql_engine.specs.Engine.{no_tally, Tallied, OwnCounted}
 use Rattle.aql_exec.specs.Operators.{IsTree}
 use Rattle.aql_engine.specs.EachFits.{EachFits, BodyFits}
 use Rattle.aql_engine.specs.OperatorsOf.{operators_of}
-use Rattle.aql_engine.specs.Runnable.{HasExecutors, HasExecutor}
+use Rattle.aql_plan.specs.Shapes.{HasNoFragment, IsNoFragment}
 use Rattle.aql_engine.specs.laws.Trees.{plain_tree}
-use Rattle.aql_engine.specs.laws.Fragments.{no_fragment}
 use Rattle.aql_local.specs.Building.{SetsNumbers, NodeSetsNumbers}
 
 -- ---- each node fits
@@ -66,20 +65,20 @@ shaped_fits facts p s (returning {b = b} f h) = (shaped_fits facts b _ h, f, tt)
 
 -- ---- the operators are a tree
 
-pub runs_tree : (facts : Facts) (p : Plan) (s : Shape) → Shaped facts p s → HasExecutors p
+pub runs_tree : (facts : Facts) (p : Plan) (s : Shape) → Shaped facts p s → HasNoFragment p
     → IsTree facts (operators_of facts p)
-runs_tree facts p s h e = plain_tree facts p (no_fragment p e) (shaped_fits facts p s h)
+runs_tree facts p s h e = plain_tree facts p e (shaped_fits facts p s h)
 
 -- ---- what a COLLECT sets are numbers
 
 mutual
-  pub sets_numbers : (p : Plan) → HasExecutors p → AllByRecursion IsNumber (vars_set p) → SetsNumbers p
+  pub sets_numbers : (p : Plan) → HasNoFragment p → AllByRecursion IsNumber (vars_set p) → SetsNumbers p
   sets_numbers Singleton h a = tt
   sets_numbers (Over b n) h a =
       let both = all_parts IsNumber (set_once n) (vars_set b) a in
       (sets_numbers b h.0 both.1, node_sets_numbers n h.1 both.0)
 
-  node_sets_numbers : (n : Node) → HasExecutor n → AllByRecursion IsNumber (set_once n) → NodeSetsNumbers n
+  node_sets_numbers : (n : Node) → IsNoFragment n → AllByRecursion IsNumber (set_once n) → NodeSetsNumbers n
   node_sets_numbers (Subquery x body) h a = sets_numbers body h a.1
   node_sets_numbers (Collect xs es gs i stage.Whole) h a = a
   node_sets_numbers (Collect xs es gs i stage.Partial) h a = absurd h

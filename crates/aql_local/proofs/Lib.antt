@@ -2,6 +2,6 @@ pub mod Returned
 pub mod CanRun
 pub mod Trees
 pub mod Flying
-pub mod Firsts
-pub mod Searched
-pub mod Counts
+pub mod Looked
+pub mod Places
+pub mod Ways

@@ -2,19 +2,18 @@
 use Rattle.std.proofs.Common.{◌≡◌, ◌≤◌, ◌+◌, Some, None, false, refl, ap, subst, arith}
 use Rattle.aql_plan.specs.declared.facts.Facts.{Facts}
 use Rattle.aql_plan.specs.Nodes.{weight, weight_in, body_in}
-use Rattle.aql_plan.specs.Plan.{Plan, Singleton, Over, Node, Subquery, NoResults, Index, Scatter, Distribute, Remote, Gather, top}
+use Rattle.aql_plan.specs.Plan.{Plan, Singleton, Over, Node, Subquery, NoResults, Scatter, Distribute, Remote, Gather, top}
 use Rattle.aql_exec.specs.Operators.{NoRows, leaf, within}
 use Rattle.aql_engine.specs.EachFits.{EachFits, BodyFits}
 use Rattle.aql_engine.specs.OperatorsOf.{operators_of}
-use Rattle.aql_engine.specs.Runnable.{HasExecutors, HasExecutor}
+use Rattle.aql_plan.specs.Shapes.{HasNoFragment, IsNoFragment}
 use Rattle.aql_local.specs.Building.{operator_of, body_operators, gives_none, SetsNumbers, NodeSetsNumbers}
 
 -- ---- operators
 
-pub node_operators : (facts : Facts) (b : Plan) (n : Node) → HasExecutor n → gives_none (Over b n) ≡ false
+pub node_operators : (facts : Facts) (b : Plan) (n : Node) → IsNoFragment n → gives_none (Over b n) ≡ false
     → within (operator_of n) (operators_of facts b) (body_operators facts n) ≡ operators_of facts (Over b n)
 node_operators facts b NoResults h e = absurd (cc)
-node_operators facts b (Index x index equal last ordered) h e = absurd h
 node_operators facts b (Scatter coll only) h e = absurd h
 node_operators facts b (Distribute coll es) h e = absurd h
 node_operators facts b Remote h e = absurd h
@@ -32,9 +31,9 @@ no_body facts n e = refl
 
 -- ---- bodies
 
-pub body_executors : (n : Node) (s : Plan) → body_in n ≡ Some s → HasExecutor n → HasExecutors s
-body_executors (Subquery x t) s e h = let k : t ≡ s = cc in subst HasExecutors k h
-body_executors n s e h = absurd (cc)
+pub body_without_fragments : (n : Node) (s : Plan) → body_in n ≡ Some s → IsNoFragment n → HasNoFragment s
+body_without_fragments (Subquery x t) s e h = let k : t ≡ s = cc in subst HasNoFragment k h
+body_without_fragments n s e h = absurd (cc)
 
 pub body_fits : (facts : Facts) (n : Node) (s : Plan) → body_in n ≡ Some s → BodyFits facts n → EachFits facts s
 body_fits facts (Subquery x t) s e h = let k : t ≡ s = cc in subst (EachFits facts) k h

@@ -4,7 +4,7 @@ use Rattle.std.specs.Prelude.{Bool, true, false}
 use Rattle.std.specs.List.{AllByRecursion}
 use Rattle.aql_meaning.specs.Numbered.{IsNumber}
 use Rattle.aql_plan.specs.declared.facts.Facts.{Facts}
-use Rattle.aql_plan.specs.Plan.{Plan, Singleton, Over, Node, Traversal, Subquery, Collect, NoResults}
+use Rattle.aql_plan.specs.Plan.{Plan, Singleton, Over, Node, Index, Traversal, Subquery, Collect, NoResults}
 use Rattle.aql_plan.specs.Needs.{sets}
 use Rattle.aql_exec.specs.Operators.{Operator, NoRows, OnRows, WithBody, OperatorTree, leaf}
 use Rattle.aql_engine.specs.OperatorsOf.{operators_of}
@@ -28,6 +28,10 @@ node_gives_none n = false
 abbrev pub gives_none : Plan → Bool
 gives_none Singleton = false
 gives_none (Over b n) = node_gives_none n
+
+abbrev pub IsIndexNode : Node → Type 0
+IsIndexNode (Index x index equal last ordered) = Unit {0}
+IsIndexNode n = ⊥
 
 abbrev pub IsTraversal : Node → Type 0
 IsTraversal (Traversal shape e colls prune keep) = Unit {0}

@@ -1,4 +1,3 @@
 pub mod Building
 pub mod Messages
-pub mod laws
 pub mod inner

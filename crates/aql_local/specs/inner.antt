@@ -1,1 +1,2 @@
 pub mod EdgeSteps
+pub mod Lookups

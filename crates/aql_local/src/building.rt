@@ -1,22 +1,25 @@
 //! The tree of executors of a plan.
 
 ghost use Rattle.std.specs.Prelude.{◌≡◌, IfOk};
+ghost use Rattle.aql_tree.specs.declared.syntax.Ident.TheVariants.{Num};
 ghost use Rattle.aql_plan.specs.declared.facts.Facts.{Facts};
 ghost use Rattle.aql_plan.specs.Plan as spec;
 ghost use Rattle.aql_plan.specs.Fits.{Fits};
-ghost use Rattle.aql_plan.specs.View.{node_tree, plan_tree};
-ghost use Rattle.aql_exec.specs.Operators.{StartRow, NoRows, within};
+ghost use Rattle.aql_plan.specs.View.{maybe_tree, node_tree, plan_tree};
+ghost use Rattle.aql_exec.specs.Operators.{StartRow, NoRows, OnRows, within};
+ghost use Rattle.aql_exec_scan.specs.Kept as scans;
 ghost use Rattle.aql_exec_graph.specs.Searches as graph;
 ghost use Rattle.aql_engine.specs.EachFits.{EachFits, BodyFits};
 ghost use Rattle.aql_engine.specs.OperatorsOf.{operators_of};
-ghost use Rattle.aql_engine.specs.Runnable.{HasExecutors, HasExecutor};
+ghost use Rattle.aql_plan.specs.Shapes.{HasNoFragment, IsNoFragment};
 ghost use Rattle.aql_local.specs.Building.{operator_of, body_operators, gives_none, node_gives_none};
-ghost use Rattle.aql_local.specs.Building.{IsTraversal, SetsNumbers, NodeSetsNumbers};
+ghost use Rattle.aql_local.specs.Building.{IsIndexNode, IsTraversal, SetsNumbers, NodeSetsNumbers};
 
 use crate::World;
+use crate::bounds::copy_last;
 use crate::nodes::{
     NodeExecutor, calculation, collect, distinct_results, enumerate_collection, enumerate_list,
-    filter, limit, no_results, results, sort, start_row, subquery, traversal,
+    filter, index, limit, no_results, results, sort, start_row, subquery, traversal,
 };
 use aql_engine::Tree;
 use aql_exec::{Executor, Feed, Wired};
@@ -24,10 +27,10 @@ use aql_exec_graph::Search;
 use aql_exec_scan::Reading;
 use aql_plan::{Node, Plan};
 use aql_tree::{
-    copy_aggregates, copy_colls, copy_expr, copy_into, copy_keys, copy_lets, copy_maybe,
-    copy_maybe_texts,
+    Expr, copy_aggregates, copy_colls, copy_expr, copy_exprs, copy_into, copy_keys, copy_lets,
+    copy_maybe, copy_maybe_texts,
 };
-use aql_value::OutOfMemory;
+use aql_value::{CollNo, Names, OutOfMemory};
 use std::alloc::Global;
 
 /// Executors of which the tree of a plan is made. The tree is made of any such type, so its proof
@@ -43,7 +46,7 @@ pub trait PlanExecutor: Wired<World> + Drop {
 
     /// The executor of the node at the top of a plan.
     fn of_node(alloc: Global, plan: &Plan) -> Result<Self, OutOfMemory>
-        requires executor { HasExecutor (spec.top (plan_tree plan.now)) }
+        requires no_fragment { IsNoFragment (spec.top (plan_tree plan.now)) }
         requires fits { (facts : Facts) × Fits facts (spec.top (plan_tree plan.now)) }
         requires numbers { NodeSetsNumbers (spec.top (plan_tree plan.now)) }
         ensures { IfOk result (λ x. Self.node x ≡ operator_of (spec.top (plan_tree plan.now))) };
@@ -66,7 +69,7 @@ impl PlanExecutor for NodeExecutor {
 /// The executors of a plan as one tree.
 #[cycle(tree)]
 pub fn tree_of<X: PlanExecutor>(alloc: Global, plan: &Plan) -> Result<Tree<X>, OutOfMemory>
-    requires executors { HasExecutors (plan_tree plan.now) }
+    requires no_fragment { HasNoFragment (plan_tree plan.now) }
     requires fits { (facts : Facts) × EachFits facts (plan_tree plan.now) }
     requires numbers { SetsNumbers (plan_tree plan.now) }
     ensures { IfOk result (λ t. (facts : Facts) → ⟦<Tree<X> as Feed<World>>⟧.plan t
@@ -89,7 +92,7 @@ pub fn tree_of<X: PlanExecutor>(alloc: Global, plan: &Plan) -> Result<Tree<X>, O
 // The tree of the body of a plan's top node. Where it has none, this is a leaf that never begins.
 #[cycle(tree)]
 fn body_of<X: PlanExecutor>(alloc: Global, plan: &Plan) -> Result<Tree<X>, OutOfMemory>
-    requires executors { HasExecutor (spec.top (plan_tree plan.now)) }
+    requires no_fragment { IsNoFragment (spec.top (plan_tree plan.now)) }
     requires fits { (facts : Facts) × BodyFits facts (spec.top (plan_tree plan.now)) }
     requires numbers { NodeSetsNumbers (spec.top (plan_tree plan.now)) }
     ensures { IfOk result (λ t. (facts : Facts) → ⟦<Tree<X> as Feed<World>>⟧.plan t
@@ -132,7 +135,7 @@ fn with_body<X: PlanExecutor>(
 
 // The executor of the node at the top of a plan.
 fn top_executor(alloc: Global, plan: &Plan) -> Result<NodeExecutor, OutOfMemory>
-    requires executor { HasExecutor (spec.top (plan_tree plan.now)) }
+    requires no_fragment { IsNoFragment (spec.top (plan_tree plan.now)) }
     requires fits { (facts : Facts) × Fits facts (spec.top (plan_tree plan.now)) }
     requires numbers { NodeSetsNumbers (spec.top (plan_tree plan.now)) }
     ensures { IfOk result (λ x. ⟦<NodeExecutor as Executor<World>>⟧.node x
@@ -147,7 +150,7 @@ fn top_executor(alloc: Global, plan: &Plan) -> Result<NodeExecutor, OutOfMemory>
 
 // The executor of a node without a body.
 fn executor_of(alloc: Global, node: &Node) -> Result<NodeExecutor, OutOfMemory>
-    requires executor { HasExecutor (node_tree node.now) }
+    requires no_fragment { IsNoFragment (node_tree node.now) }
     requires fits { (facts : Facts) × Fits facts (node_tree node.now) }
     requires numbers { NodeSetsNumbers (node_tree node.now) }
     ensures { IfOk result (λ x. ⟦<NodeExecutor as Executor<World>>⟧.node x
@@ -162,15 +165,10 @@ fn executor_of(alloc: Global, node: &Node) -> Result<NodeExecutor, OutOfMemory>
             attrs,
             shard,
         } => {
-            let reading = Reading {
-                var: *var,
-                coll: *coll,
-                filter: copy_maybe(alloc, filter)?,
-                attrs: copy_maybe_texts(alloc, attrs)?,
-                shard: *shard,
-            };
+            let reading = reading_of(alloc, *var, *coll, filter, attrs, *shard)?;
             Ok(enumerate_collection(alloc, reading))
         }
+        Node::Index { .. } => Ok(index_of(alloc, node)?),
         Node::EnumerateList { var, list, .. } => {
             Ok(enumerate_list(alloc, *var, copy_expr(alloc, list)?))
         }
@@ -199,6 +197,59 @@ fn executor_of(alloc: Global, node: &Node) -> Result<NodeExecutor, OutOfMemory>
                 return Ok(distinct_results(alloc, expr));
             }
             Ok(results(alloc, expr))
+        }
+        _ => unreachable!(),
+    }
+}
+
+// How documents are read.
+fn reading_of(
+    alloc: Global,
+    var: u32,
+    coll: CollNo,
+    filter: &Option<Expr>,
+    attrs: &Option<Names>,
+    shard: Option<u32>,
+) -> Result<Reading, OutOfMemory>
+    ensures { IfOk result (λ r. scans.reading r ≡ record {
+      var = Num var;
+      coll = coll.0;
+      filter = maybe_tree filter.now;
+      attrs = attrs.now;
+      shard = shard;
+    }) }
+{
+    Ok(Reading {
+        var,
+        coll,
+        filter: copy_maybe(alloc, filter)?,
+        attrs: copy_maybe_texts(alloc, attrs)?,
+        shard,
+    })
+}
+
+// FOR over a collection by an index.
+fn index_of(alloc: Global, node: &Node) -> Result<NodeExecutor, OutOfMemory>
+    requires index { IsIndexNode (node_tree node.now) }
+    ensures { IfOk result (λ x. ⟦<NodeExecutor as Executor<World>>⟧.node x
+        ≡ OnRows (node_tree node.now)) }
+{
+    match node {
+        Node::Index {
+            var,
+            coll,
+            filter,
+            attrs,
+            shard,
+            index: number,
+            equal,
+            last,
+            ordered,
+        } => {
+            let reading = reading_of(alloc, *var, *coll, filter, attrs, *shard)?;
+            let equal = copy_exprs(alloc, equal.as_slice())?;
+            let last = copy_last(alloc, last)?;
+            Ok(index(alloc, reading, *number, equal, last, *ordered))
         }
         _ => unreachable!(),
     }

@@ -7,11 +7,12 @@ ghost use Rattle.aql_tree.specs.View.{tree};
 ghost use Rattle.aql_meaning.specs.Numbered.{IsNumber};
 ghost use Rattle.aql_plan.specs.Needs.{sets};
 ghost use Rattle.aql_plan.specs.Plan as plan;
-ghost use Rattle.aql_plan.specs.View.{directions, key_trees};
+ghost use Rattle.aql_meaning.specs.View.{last_tree};
+ghost use Rattle.aql_plan.specs.View.{directions, expr_trees, key_trees};
 ghost use Rattle.aql_exec.specs.Operators.{StartRow, NoRows, OnRows, WithBody};
 ghost use Rattle.aql_exec_rows.specs.Settings.{node_of};
 ghost use Rattle.aql_exec_graph.specs.Searches as graph;
-ghost use Rattle.aql_exec_scan.specs.Scans as scans;
+ghost use Rattle.aql_exec_scan.specs.Kept as scans;
 
 use crate::World;
 use aql_engine::Choice;
@@ -21,8 +22,11 @@ use aql_exec::{
 };
 use aql_exec_graph::{Paths, Search, Traversal};
 use aql_exec_rows::{Collect, Order, Sort, Subquery};
-use aql_exec_scan::{Documents, Elements, EnumerateCollection, EnumerateList, Reading};
-use aql_tree::{Aggregates, Expr, Into, Keys, Lets};
+use aql_exec_scan::{
+    Documents, Elements, EnumerateCollection, EnumerateList, Found, Index, Reading,
+};
+use aql_plan::Last;
+use aql_tree::{Aggregates, Expr, Exprs, Into, Keys, Lets};
 use std::alloc::Global;
 
 /// The executors without an input.
@@ -32,7 +36,7 @@ type Leaf = Choice<Singleton, NoResults>;
 type RowWise = Choice<Choice<Calculation, Return>, Choice<Filter, Limit>>;
 
 /// Those that give several rows for one.
-type Enumeration = Choice<Choice<EnumerateList, EnumerateCollection>, Traversal>;
+type Enumeration = Choice<Choice<EnumerateList, EnumerateCollection>, Choice<Index, Traversal>>;
 
 /// Those that hold rows, or what they need of them.
 type Holder = Choice<Choice<Sort, Subquery>, Choice<Collect, ReturnDistinct>>;
@@ -129,11 +133,29 @@ pub fn enumerate_collection(alloc: Global, reading: Reading) -> NodeExecutor
     enumeration(Choice::First(Choice::Second(executor)))
 }
 
+/// FOR over a collection by an index.
+pub fn index(
+    alloc: Global,
+    reading: Reading,
+    index: u32,
+    equal: Exprs,
+    last: Last,
+    ordered: Option<bool>,
+) -> NodeExecutor
+    ensures { ⟦<NodeExecutor as Executor<World>>⟧.node result
+        ≡ OnRows (plan.Index (scans.reading reading) index (expr_trees equal) (last_tree last)
+        ordered) }
+{
+    let executor = Stream::new(Found::new(alloc, reading, index, equal, last, ordered));
+    enumeration(Choice::Second(Choice::First(executor)))
+}
+
 /// A traversal.
 pub fn traversal(alloc: Global, search: Search) -> NodeExecutor
     ensures { ⟦<NodeExecutor as Executor<World>>⟧.node result ≡ OnRows (graph.node_of search) }
 {
-    enumeration(Choice::Second(Stream::new(Paths::new(alloc, search))))
+    let executor = Stream::new(Paths::new(alloc, search));
+    enumeration(Choice::Second(Choice::Second(executor)))
 }
 
 /// SORT.

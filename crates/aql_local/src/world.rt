@@ -5,14 +5,16 @@ ghost use Rattle.aql_exec.specs.Links.{TakenAt};
 ghost use Rattle.aql_shard.specs.Datasets as datasets;
 ghost use Rattle.aql_local.specs.Messages.{line_on, queue_of, picks_of, TakesOn};
 
+use crate::lookups::recall_counts;
 use crate::{document_of, edges_at};
 use aql_block::Tally;
 use aql_exec::{Delivered, Mail, Message, Surroundings};
 use aql_exec_graph::{EdgeList, Neighbours};
 use aql_exec_scan::Shelf;
+use aql_index::{Bound, Span, Spans};
 use aql_shard::Servers;
 use aql_tree::Direction;
-use aql_value::{CollNo, CollNos, OutOfMemory, Text, Value};
+use aql_value::{CollNo, CollNos, Items, OutOfMemory, Text, Value};
 use std::alloc::Global;
 
 /// A message on its link.
@@ -141,16 +143,6 @@ impl Mail for World {
     ghost some_flies = { λ s l. some_on l s.net.flying.items };
 }
 
-// The counts of servers are numbers of 64 bits.
-fn recall_counts(servers: &Servers)
-    ensures full { servers.now.counts.scanned_full ≤ 18446744073709551615 }
-    ensures index { servers.now.counts.scanned_index ≤ 18446744073709551615 }
-{
-    let counts = servers.counts();
-    let _full = counts.scanned_full;
-    let _index = counts.scanned_index;
-}
-
 impl Shelf for World {
     fn length(&self, coll: CollNo, shard: Option<u32>) -> u64 {
         self.servers.length(coll, shard)
@@ -159,6 +151,43 @@ impl Shelf for World {
     fn full(&mut self, coll: CollNo, shard: Option<u32>, place: u64, tally: &mut Tally) -> &Value {
         recall_counts(&self.servers);
         self.servers.full(coll, shard, place, tally)
+    }
+
+    fn span(
+        &self,
+        coll: CollNo,
+        shard: Option<u32>,
+        index: u32,
+        equal: &Items,
+        low: &Bound,
+        high: &Bound,
+    ) -> Span {
+        self.servers.span(coll, shard, index, equal, low, high)
+    }
+
+    fn spans(
+        &self,
+        alloc: Global,
+        coll: CollNo,
+        shard: Option<u32>,
+        index: u32,
+        equal: &Items,
+        list: &Value,
+    ) -> Result<Spans, OutOfMemory> {
+        let spans = self.servers.spans(alloc, coll, shard, index, equal, list)?;
+        Ok(spans)
+    }
+
+    fn indexed(
+        &mut self,
+        coll: CollNo,
+        shard: Option<u32>,
+        index: u32,
+        place: u64,
+        tally: &mut Tally,
+    ) -> &Value {
+        recall_counts(&self.servers);
+        self.servers.indexed(coll, shard, index, place, tally)
     }
 }
 

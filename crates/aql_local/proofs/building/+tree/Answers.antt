@@ -4,9 +4,9 @@ use Rattle.aql_plan.specs.Nodes.{weight}
 use Rattle.aql_plan.specs.Plan.{top}
 use Rattle.aql_plan.specs.View.{plan_tree}
 use Rattle.aql_engine.specs.OperatorsOf.{operators_of}
-use Rattle.aql_engine.specs.Runnable.{HasExecutors}
+use Rattle.aql_plan.specs.Shapes.{HasNoFragment}
 use Rattle.aql_local.proofs.Returned.{if_map, within_is}
-use Rattle.aql_local.proofs.Trees.{node_operators, body_is, body_executors, body_fits, body_numbers, body_lighter}
+use Rattle.aql_local.proofs.Trees.{node_operators, body_is, body_without_fragments, body_fits, body_numbers, body_lighter}
 use Rattle.aql_local.proofs.building.+tree.Goals as goal
 
 pub body_of-tree_of-requires : goal.body_of-tree_of-requires
@@ -19,7 +19,7 @@ body_of-tree_of-requires g t c κs within =
       (
         search rules,
         (
-          body_executors (top p) s is c.requires.executors,
+          body_without_fragments (top p) s is c.requires.no_fragment,
           (
             (c.requires.fits.0, body_fits c.requires.fits.0 (top p) s is c.requires.fits.1),
             body_numbers (top p) s is c.requires.numbers,
@@ -37,7 +37,7 @@ tree_of-returns-in_ok-body-in-Some g t c =
     let p = plan_tree c.args.plan.now in
     let b = plan_tree c.in-Some.below.now in
     let is = c.in-Some.ensures in
-    let has = subst HasExecutors is c.requires.executors in
+    let has = subst HasNoFragment is c.requires.no_fragment in
     if_map c.with_body.result c.with_body.ensures (λ x h facts.
     h ∙ within_is c.in_ok-executor-in-Some.ensures (c.in_ok-below-in-Some.ensures facts)
     (c.in_ok-body-in-Some.ensures facts)

@@ -19,7 +19,7 @@ pub run_feed-requires-clause-plan : goal.run_feed-requires-clause-plan
 run_feed-requires-clause-plan g c =
     let facts = (stock c.args.world.now.servers).facts in
     subst (λ (t : OperatorTree). IsTree facts t) (sym c.requires.feed)
-    (runs_tree facts (plan_tree c.args.plan) Result c.requires.plan.well_formed.1 c.requires.plan.executors)
+    (runs_tree facts (plan_tree c.args.plan) Result c.requires.plan.well_formed.1 c.requires.plan.without_fragments)
 
 pub returns-clause-run : goal.returns-clause-run
 returns-clause-run g c =

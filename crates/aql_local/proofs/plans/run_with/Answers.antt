@@ -11,4 +11,4 @@ tree_of-requires-clause-fits g c =
 
 pub tree_of-requires-clause-numbers : goal.tree_of-requires-clause-numbers
 tree_of-requires-clause-numbers g c =
-    sets_numbers (plan_tree c.args.plan) c.requires.plan.executors c.requires.plan.well_formed.4
+    sets_numbers (plan_tree c.args.plan) c.requires.plan.without_fragments c.requires.plan.well_formed.4
