@@ -1,4 +1,5 @@
-//! Rules on filters: each stands in the file of the name that plans print.
+//! Rules on filters: each stands in the file of the name that plans print. And what other rules see
+//! of a Filter.
 #![tactic(auto)]
 
 mod conditions;
@@ -14,4 +15,5 @@ pub use fuse_filters::FuseFilters;
 pub use move_filters_into_enumerate::MoveFiltersIntoEnumerate;
 pub use move_filters_up::MoveFiltersUp;
 pub use optimize_traversals::OptimizeTraversals;
+pub use readers::{filter_of, take_filter};
 pub use remove_unnecessary_filters::RemoveUnnecessaryFilters;

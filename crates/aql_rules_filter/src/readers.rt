@@ -29,7 +29,7 @@ fn cond_of(node: &Node) -> Option<&Expr>
 }
 
 /// The input and the condition of a Filter; `None` exactly at every other node.
-pub(crate) fn filter_of(plan: &Plan) -> Option<(&Plan, &Expr)>
+pub fn filter_of(plan: &Plan) -> Option<(&Plan, &Expr)>
     ensures { MatchOption result (filter_in (plan_tree plan.now) ≡ None)
         (λ f. plan_tree plan.now ≡ spec.Over (plan_tree f.0.now) (spec.Filter (tree f.1.now))) }
 {
@@ -66,7 +66,7 @@ fn take_cond(node: &mut Node) -> Option<Expr>
 
 /// Takes a Filter from the top of a plan, of which its input is left, and gives its condition;
 /// `None` exactly where there is none, and then the plan stays as it is.
-pub(crate) fn take_filter(plan: &mut Plan) -> Option<Expr>
+pub fn take_filter(plan: &mut Plan) -> Option<Expr>
     ensures { MatchOption result ((filter_in (plan_tree plan.old) ≡ None)
         × (plan_tree plan.new ≡ plan_tree plan.old))
         (λ c. plan_tree plan.old ≡ spec.Over (plan_tree plan.new) (spec.Filter (tree c))) }

@@ -105,8 +105,8 @@ fn is_calculation(node: &Node) -> bool
     matches!(node, Node::Calculation { .. })
 }
 
-// The start row alone, with values that are set in it.
-fn is_single(plan: &Plan) -> bool
+/// Whether a plan gives its start row alone, with values that are set in it.
+pub fn is_single(plan: &Plan) -> bool
     ensures { result ≡ spec_is_single (plan_tree plan.now) }
 {
     match plan {

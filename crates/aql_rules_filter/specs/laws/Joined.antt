@@ -76,7 +76,7 @@ sides_back : (es : List ExprTree) → right_sides (and_links es) ≡ es
 sides_back [] = refl
 sides_back (e ∷ es) = ap (λ (ds : List ExprTree). e ∷ ds) (sides_back es)
 
-all_hold : (row : Row) (es : List ExprTree) → holds (all_of es) row ≡ list_all (λ d. holds d row) es
+pub all_hold : (row : Row) (es : List ExprTree) → holds (all_of es) row ≡ list_all (λ d. holds d row) es
 all_hold row [] = refl
 all_hold row (e ∷ []) = sym (and_one (holds e row))
 all_hold row (e ∷ f ∷ fs) =
@@ -131,13 +131,20 @@ and_plain : (es : List ExprTree) → AllByRecursion IsPlain es → LinksPlain (a
 and_plain [] h = tt
 and_plain (e ∷ es) h = (h.0, and_plain es h.1)
 
-split_plain : (e : ExprTree) (ls : LinkTrees) → IsPlain (chain e ls)
+pub split_plain : (e : ExprTree) (ls : LinkTrees) → IsPlain (chain e ls)
     → IsPlain e × AllByRecursion IsPlain (right_sides ls)
 split_plain e ls h = (h.0, links_plain ls h.1)
 
 join_plain : (e : ExprTree) (es : List ExprTree) → IsPlain e → AllByRecursion IsPlain es
     → IsPlain (chain e (and_links es))
 join_plain e es h k = (h, and_plain es k)
+
+-- an item is plain where its condition is, and a condition of plain items is plain
+pub parts_plain : (e : ExprTree) → IsPlain e → AllByRecursion IsPlain (conjuncts e)
+parts_plain e h = parts_have IsPlain split_plain join_plain tt e h
+
+pub all_plain : (es : List ExprTree) → AllByRecursion IsPlain es → IsPlain (all_of es)
+all_plain es h = all_has IsPlain split_plain join_plain tt es h
 
 pub joined_plain : (first : MaybeExpr) (second : ExprTree) → MaybePlain first → IsPlain second
     → IsPlain (joined first second)
@@ -147,7 +154,7 @@ joined_plain (one_expr first) second h k = one_has IsPlain split_plain join_plai
 -- variables that are there
 
 module _ (xs : List Ident) where
-  abbrev IsFound : ExprTree → Type 0
+  abbrev pub IsFound : ExprTree → Type 0
   IsFound e = are_among (uses e) xs ≡ true
 
   links_found : (ls : LinkTrees) → are_among (link_uses ls) xs ≡ true
@@ -161,13 +168,20 @@ module _ (xs : List Ident) where
   and_found [] h = refl
   and_found (e ∷ es) h = among_join (uses e) (link_uses (and_links es)) xs h.0 (and_found es h.1)
 
-  split_found : (e : ExprTree) (ls : LinkTrees) → IsFound (chain e ls)
+  pub split_found : (e : ExprTree) (ls : LinkTrees) → IsFound (chain e ls)
       → IsFound e × AllByRecursion IsFound (right_sides ls)
   split_found e ls h = let k = among_split (uses e) (link_uses ls) xs h in (k.0, links_found ls k.1)
 
   join_found : (e : ExprTree) (es : List ExprTree) → IsFound e → AllByRecursion IsFound es
       → IsFound (chain e (and_links es))
   join_found e es h k = among_join (uses e) (link_uses (and_links es)) xs h (and_found es k)
+
+  -- the variables of an item are there where those of its condition are, and back
+  pub parts_found : (e : ExprTree) → IsFound e → AllByRecursion IsFound (conjuncts e)
+  parts_found e h = parts_have IsFound split_found join_found refl e h
+
+  pub all_found : (es : List ExprTree) → AllByRecursion IsFound es → IsFound (all_of es)
+  all_found es h = all_has IsFound split_found join_found refl es h
 
   pub joined_found : (first : MaybeExpr) (second : ExprTree) → are_among (maybe_uses first) xs ≡ true
       → are_among (uses second) xs ≡ true → are_among (uses (joined first second)) xs ≡ true

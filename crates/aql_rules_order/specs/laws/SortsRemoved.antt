@@ -149,7 +149,7 @@ sort_off facts b directions es s o (other_reading i f h) = absurd i
 sort_off facts b directions es s o (passing i f h) = absurd i
 sort_off facts b directions es s o (sorting f h) = absurd (true≢false o)
 
-frame_without : (facts : Facts) (outer : List Ident) {p c : Plan} → WithoutSort p c
+pub frame_without : (facts : Facts) (outer : List Ident) {p c : Plan} → WithoutSort p c
     → SameFrame facts outer p c
 frame_without facts outer (here {b = b} {directions = directions} {es = es}) = record {
   suits = λ k. k.0;

@@ -54,7 +54,7 @@ one_of G r [] h = absurd h
 one_of G r (y ∷ []) h = (y, refl)
 one_of G r (y ∷ z ∷ out) h = absurd h.1
 
-single_row : (p : Plan) → is_single p ≡ true → (w : Dataset) (start : Row) (rows : List Row)
+pub single_row : (p : Plan) → is_single p ≡ true → (w : Dataset) (start : Row) (rows : List Row)
     → Runs p w Outside start rows → (r : Row) × (rows ≡ r ∷ [])
 single_row Singleton h w start rows g = (start, g)
 single_row (Over b (Calculation x e)) h w start rows g =

@@ -1,0 +1,3 @@
+pub mod ItemsFound
+pub mod BoundsFound
+pub mod Used

@@ -1,0 +1,9 @@
+pub mod Choice
+pub mod Tests
+pub mod UseIndexes
+pub mod RemoveFilterCoveredByIndex
+pub mod UseIndexForSort
+pub mod Measures
+pub mod Theorems
+pub mod inner
+pub mod laws

@@ -1,0 +1,13 @@
+pub mod Items
+pub mod Implied
+pub mod Rows
+pub mod Rules
+pub mod Chosen
+pub mod Covered
+pub mod Ordered
+pub mod SortedByIndex
+pub mod Shrinking
+pub mod BoundsFit
+pub mod Nameless
+pub mod IndexUsed
+pub mod LeastGuess
