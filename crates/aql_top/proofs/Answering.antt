@@ -40,7 +40,8 @@ use Rattle.aql_show.specs.PlanText.{plan_text}
 use Rattle.aql_scope.specs.Lifting.{scope_query}
 use Rattle.aql_options.specs.declared.settings.Settings.{Settings}
 use Rattle.aql_top.specs.Forms.{HasQuery}
-use Rattle.aql_top.specs.Entries.{known, holding, stored, IsChosenFor, IsPlanned, IsReady, IsRunOf}
+use Rattle.aql_top.specs.Entries.{known, holding, stored, IsChosenFor, IsPlanned, IsRunOf}
+use Rattle.aql_top.specs.inner.Ready.{IsReady}
 use Rattle.aql_top.specs.declared.planning.Planned.{Planned}
 use Rattle.aql_top.specs.Output.{run_text, IsOutput, IsPlanText, IsRunText}
 use Rattle.aql_top.specs.Faults.{of_query, HasNoLines}
@@ -158,13 +159,24 @@ module _ (loaded : Loaded) (settings : Settings) (p : Planned) (ready : IsReady 
         ready.planned.has_query.query ready.planned.has_query.is_written;
   }
 
-  pub run_output : settings.explain ≡ false → (before after : List Ran)
-      (a : Adds (stored loaded) p.chosen.plan settings.batch before after)
-      → (text : List ℕ) → text ≡ run_text settings a.ran → IsOutput settings loaded before after text
-  run_output off before after a text is =
+  -- what is printed of an entry that was added over the servers of the plan
+  pub run_output : settings.explain ≡ false → (before after : List Ran) (text : List ℕ)
+      → (a : Adds (stock p.servers) p.chosen.plan settings.batch before after)
+      × (text ≡ run_text settings a.ran)
+      → IsOutput settings loaded before after text
+  run_output off before after text h =
+      let over_script = subst
+      (λ (s : Holding). (a : Adds (stock s) p.chosen.plan settings.batch before after)
+      × (text ≡ run_text settings a.ran))
+      ready.servers_are h in
       subst (λ on. MatchBool on ((after ≡ before) × IsPlanText settings.rules loaded text)
       (IsRunText settings loaded before after text)) (sym off)
-      (record { ran = a.ran; added = a.added; of = run_of before after a; is = is })
+      (record {
+        ran = over_script.0.ran;
+        added = over_script.0.added;
+        of = run_of before after over_script.0;
+        is = over_script.1;
+      })
 
   pub plan_output : settings.explain ≡ true → (entries : List Ran) (text : List ℕ)
       → text ≡ plan_text p.names p.facts (plan_tree p.chosen.plan) p.chosen.applied p.chosen.cost
@@ -183,27 +195,12 @@ module _ (loaded : Loaded) (settings : Settings) (p : Planned) (ready : IsReady 
         },
       )
 
-  -- as the answers of a call
-  pub plan_prints : settings.explain ≡ true → (entries : List Ran) {V E : Type 0} (bytes : V → List ℕ)
-      (r : Result V E) → IfOk r (λ text. bytes text
-      ≡ plan_text p.names p.facts (plan_tree p.chosen.plan) p.chosen.applied p.chosen.cost)
-      → IfOk r (λ text. IsOutput settings loaded entries entries (bytes text))
-  plan_prints on entries bytes (Ok text) is = plan_output on entries (bytes text) is
-  plan_prints on entries bytes (Err e) is = tt
-
-  pub run_prints : settings.explain ≡ false → (before after : List Ran) {V E : Type 0} (bytes : V → List ℕ)
-      (r : Result V E) → IfOk r (λ text. (a : Adds (stored loaded) p.chosen.plan settings.batch before after)
-      × (bytes text ≡ run_text settings a.ran))
-      → IfOk r (λ text. IsOutput settings loaded before after (bytes text))
-  run_prints off before after bytes (Ok text) h = run_output off before after h.0 (bytes text) h.1
-  run_prints off before after bytes (Err e) h = tt
-
   pub run_at_most : settings.explain ≡ false → (before after : List Ran)
-      → (after ≡ before) ⊎ Adds (stored loaded) p.chosen.plan settings.batch before after
+      → (after ≡ before) ⊎ Adds (stock p.servers) p.chosen.plan settings.batch before after
       → (after ≡ before) ⊎ ((text : List ℕ) × IsOutput settings loaded before after text)
   run_at_most off before after (inl same) = inl same
   run_at_most off before after (inr a) =
-      inr (run_text settings a.ran, run_output off before after a (run_text settings a.ran) refl)
+      inr (run_text settings a.ran, run_output off before after (run_text settings a.ran) (a, refl))
 
 -- ---- a query that is refused
 

@@ -13,16 +13,11 @@ use Rattle.aql_plan.specs.Plan.{Plan}
 use Rattle.aql_plan.specs.View.{plan_tree}
 use Rattle.aql_plan.specs.FirstPlan.{first_plan}
 use Rattle.aql_plan.specs.Runs.{Dataset}
-use Rattle.aql_plan.specs.Refines.{dataset, Answers as PlanAnswers}
-use Rattle.aql_value.specs.Datum.{Datum}
-use Rattle.aql_engine.specs.Engine.{CanRun}
-use Rattle.aql_top.specs.Reading.{IsWritten}
-use Rattle.aql_top.specs.declared.planning.Planned.{Planned}
 use Rattle.aql_shard.specs.Holding.{Holding}
 use Rattle.aql_shard.specs.Known.{facts_of}
 use Rattle.aql_shard.specs.Datasets.{stock, nothing_counted}
 use Rattle.aql_plan.specs.declared.rule_sets.Rules.{Rules}
-use Rattle.aql_opt.specs.Chosen.{Chosen, cost_of}
+use Rattle.aql_opt.specs.Chosen.{Chosen}
 use Rattle.aql_options.specs.declared.settings.Settings.{Settings}
 use Rattle.aql_engine.specs.declared.engine.Ran.{Ran}
 use Rattle.aql_top.specs.Forms.{HasQuery}
@@ -51,19 +46,6 @@ pub record IsPlanned (rules : Rules) (loaded : Loaded) (names : List (List ℕ))
   pub has_query : HasQuery loaded
   pub names_are : names ≡ (scope_query [] 1 has_query.query).said
   pub chosen : IsChosenFor rules loaded has_query.query plan applied
-
--- a plan that is ready to be run or printed
-pub record IsReady (rules : Rules) (loaded : Loaded) (p : Planned) : Type 0 where
-  pub planned : IsPlanned rules loaded p.names (plan_tree p.chosen.plan) p.chosen.applied
-  pub known_facts : p.facts ≡ known loaded
-  pub cost : p.chosen.cost ≡ cost_of (known loaded) (plan_tree p.chosen.plan)
-  pub servers_are : p.servers ≡ holding loaded
-  pub can_run : CanRun (stored loaded) p.chosen.plan
-  pub answers : (values : List Datum)
-      → PlanAnswers (plan_tree p.chosen.plan)
-      (dataset (known loaded) (database loaded.catalog)) empty_row values
-      → (query : QueryTree) → IsWritten loaded.query query
-      → IsAnswer (database loaded.catalog) query empty_row values
 
 -- an entry of the script's query: its plan is the one chosen by the rules of the settings, its batch is that
 -- of the settings, and its values are an answer that the meaning allows for the query as it is written

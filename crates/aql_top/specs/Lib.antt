@@ -6,3 +6,4 @@ pub mod Reasons
 pub mod Causes
 pub mod Reading
 pub mod Texts
+pub mod inner

@@ -47,7 +47,9 @@ pub(crate) fn output<G: Engine>(
         return Ok(explain(alloc, &planned)?);
     }
     let Planned {
-        chosen, servers, ..
+        chosen,
+        servers,
+        ..
     } = planned;
     let Optimised { plan, .. } = chosen;
     Ok(run_on(alloc, servers, plan, settings, engine)?)

@@ -1,18 +1,8 @@
 //! The plan that is chosen for the query of a script.
 
-ghost use Rattle.std.specs.Prelude.{◌≡◌, [], IfOk, OnOk, IfErr, List};
-ghost use Rattle.aql_value.specs.Datum.{Datum};
-ghost use Rattle.aql_doc.specs.Held.{database};
-ghost use Rattle.aql_tree.specs.Tree.{QueryTree};
-ghost use Rattle.aql_meaning.specs.Row.{empty_row};
-ghost use Rattle.aql_meaning.specs.Meaning.{IsAnswer};
-ghost use Rattle.aql_plan.specs.Refines.{dataset, Answers as PlanAnswers};
-ghost use Rattle.aql_plan.specs.View.{plan_tree};
-ghost use Rattle.aql_plan.specs.WellFormed.{IsWellFormed};
-ghost use Rattle.aql_opt.specs.Chosen.{cost_of};
-ghost use Rattle.aql_top.specs.Reading.{IsWritten};
+ghost use Rattle.std.specs.Prelude.{IfOk, OnOk, IfErr};
 ghost use Rattle.aql_top.specs.Forms.{HasQuery};
-ghost use Rattle.aql_top.specs.Entries.{IsReady};
+ghost use Rattle.aql_top.specs.inner.Ready.{IsReady};
 ghost use Rattle.aql_top.specs.Faults.{HasNoLines};
 
 use crate::faults::RunFault;

@@ -1,4 +1,4 @@
-use Rattle.std.proofs.Common.{[], ◌∙◌, ap, sym, subst}
+use Rattle.std.proofs.Common.{[], ◌∙◌, false, ap, sym, subst}
 use Rattle.aql_tree.specs.View.{query_tree}
 use Rattle.aql_plan.specs.Facts.{Meets}
 use Rattle.aql_plan.specs.View.{plan_tree}
