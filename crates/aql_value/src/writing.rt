@@ -42,7 +42,7 @@ fn write_value(v: &Value, out: &mut Vec<u8>) -> Result<(), OutOfMemory>
 }
 
 #[cycle(writing)]
-fn write_items(list: &Items, out: &mut Vec<u8>) -> Result<(), OutOfMemory>
+pub(crate) fn write_items(list: &Items, out: &mut Vec<u8>) -> Result<(), OutOfMemory>
     ensures { Writes result out.old.items out.new.items (json_text (array (array_of list.now))) }
 {
     put(b"[", out)?;
