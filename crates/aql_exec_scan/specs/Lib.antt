@@ -1,7 +1,7 @@
 pub mod Shelves
-pub mod Kept
-pub mod Progress
 pub mod Scans
+pub mod Progress
+pub mod CollectionScans
 pub mod Lists
 pub mod Places
 pub mod IndexScans

@@ -7,7 +7,7 @@ ghost use Rattle.aql_plan.specs.Plan as spec;
 ghost use Rattle.aql_plan.specs.Fits.{Fits};
 ghost use Rattle.aql_plan.specs.View.{maybe_tree, node_tree, plan_tree};
 ghost use Rattle.aql_exec.specs.Operators.{StartRow, NoRows, OnRows, within};
-ghost use Rattle.aql_exec_scan.specs.Kept as scans;
+ghost use Rattle.aql_exec_scan.specs.Scans as scans;
 ghost use Rattle.aql_exec_graph.specs.Searches as graph;
 ghost use Rattle.aql_engine.specs.EachFits.{EachFits, BodyFits};
 ghost use Rattle.aql_engine.specs.OperatorsOf.{operators_of};

@@ -12,7 +12,7 @@ ghost use Rattle.aql_plan.specs.View.{directions, expr_trees, key_trees};
 ghost use Rattle.aql_exec.specs.Operators.{StartRow, NoRows, OnRows, WithBody};
 ghost use Rattle.aql_exec_rows.specs.Settings.{node_of};
 ghost use Rattle.aql_exec_graph.specs.Searches as graph;
-ghost use Rattle.aql_exec_scan.specs.Kept as scans;
+ghost use Rattle.aql_exec_scan.specs.Scans as scans;
 
 use crate::World;
 use aql_engine::Choice;

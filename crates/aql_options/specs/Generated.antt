@@ -17,8 +17,8 @@ edge n i = codes "{\"_key\":\"e" ++ (decimal i ++ (codes "\",\"_from\":\"users/u
     ++ (codes "\",\"_to\":\"users/u" ++ (decimal (3 * i % n + 1) ++ codes "\"}\n")))))
 
 abbrev pub query : List ℕ
-query =
-    codes "FOR u IN users FILTER u.g < 3 FOR v IN 1..2 OUTBOUND u knows COLLECT g = u.g AGGREGATE c = COUNT(v), s = SUM(v.n) RETURN [g, c, s]\n"
+query = codes "FOR u IN users FILTER u.g < 3 FOR v IN 1..2 OUTBOUND u knows "
+    ++ codes "COLLECT g = u.g AGGREGATE c = COUNT(v), s = SUM(v.n) RETURN [g, c, s]\n"
 
 abbrev pub generated : ℕ → List ℕ
 generated n = codes "%document users shards=4\n" ++ (flat_map user (up_to n)

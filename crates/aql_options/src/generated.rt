@@ -6,8 +6,9 @@ ghost use Rattle.aql_options.specs.Generated.{generated, user, edge, up_to};
 use aql_value::OutOfMemory;
 use std::alloc::Global;
 
-const QUERY: &[u8] =
-    b"FOR u IN users FILTER u.g < 3 FOR v IN 1..2 OUTBOUND u knows COLLECT g = u.g AGGREGATE c = COUNT(v), s = SUM(v.n) RETURN [g, c, s]\n";
+const LOOPS: &[u8] = b"FOR u IN users FILTER u.g < 3 FOR v IN 1..2 OUTBOUND u knows ";
+
+const GROUPS: &[u8] = b"COLLECT g = u.g AGGREGATE c = COUNT(v), s = SUM(v.n) RETURN [g, c, s]\n";
 
 /// The script of n users, each of whom knows one, and of a query over them.
 pub fn generate(alloc: Global, n: u32) -> Result<Vec<u8>, OutOfMemory>
@@ -20,7 +21,8 @@ pub fn generate(alloc: Global, n: u32) -> Result<Vec<u8>, OutOfMemory>
     script.extend_from_slice(b"%edge knows shards=4\n")?;
     add_edges(alloc, n, &mut script)?;
     script.extend_from_slice(b"%index users g\n%query\n")?;
-    script.extend_from_slice(QUERY)?;
+    script.extend_from_slice(LOOPS)?;
+    script.extend_from_slice(GROUPS)?;
     Ok(script)
 }
 

@@ -1,6 +1,6 @@
 //! The pass of a rule on expressions: the plan from its lowest node up, each node's expressions one
 //! after another, and a body with its node. No node is copied, and an expression without a place
-//! isn't either, unless one after another it stands beside one that changes.
+//! only where it stands beside one that changes.
 
 ghost use Rattle.std.specs.Prelude.{false, IfOk, OnOk, map, option_map, unwrap_or};
 ghost use Rattle.aql_tree.specs.View.{tree};

@@ -1,5 +1,6 @@
 //! Expressions with a rule applied until it has no place: each part to its end, in the order of the
-//! text, and then the whole. Where the whole is rewritten, it goes on with the new expression.
+//! text, and then the whole. Where the whole is rewritten, it goes on with the new expression. What
+//! stays as it is is not copied, unless it stands beside what changes.
 
 ghost use Rattle.std.specs.Prelude.{IfOk, map, option_map, unwrap_or};
 ghost use Rattle.aql_tree.specs.View.{tree};

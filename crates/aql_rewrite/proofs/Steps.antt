@@ -10,30 +10,22 @@ use Rattle.aql_tree.specs.Tree.{ExprTree}
 use Rattle.aql_tree.specs.View.{tree}
 use Rattle.aql_rewrite.specs.Children.{children}
 use Rattle.aql_rewrite.specs.OverChildren.{over_children}
-use Rattle.aql_rewrite.specs.FirstInExpr.{Stays, NoneIn, none_in, NoneInAll, none_left, none_then}
-use Rattle.aql_rewrite.specs.FirstInExpr.{FirstIn, in_child, at_whole, FirstOf, first, later}
+use Rattle.aql_rewrite.specs.FirstInExpr.{Stays, NoneIn, none_in, NoneInAll}
+use Rattle.aql_rewrite.specs.FirstInExpr.{FirstIn, in_child, at_whole, FirstOf}
 use Rattle.aql_rewrite.specs.Constant.{is_open, IsConstant, constant, AreConstant, no_more}
 use Rattle.aql_rewrite.specs.Constant.{constant_then}
 use Rattle.aql_rewrite.specs.ExprView.{lent}
 use Rattle.aql_rewrite.specs.laws.LentExprs.{trees_next, trees_split}
+use Rattle.aql_rewrite.specs.laws.OneAfter.{none_more, first_after}
 
 -- ---- rules
 
 module _ (R : ExprTree → ExprTree → Type 0) where
-  none_more : {es : List ExprTree} {e : ExprTree} → NoneInAll R es → NoneIn R e → NoneInAll R (es ++ e ∷ [])
-  none_more none_left n = none_then n none_left
-  none_more (none_then m h) n = none_then m (none_more h n)
-
-  first_after : {before : List ExprTree} {e d : ExprTree} (es : List ExprTree) → NoneInAll R before
-      → FirstIn R e d → FirstOf R (before ++ e ∷ es) (before ++ d ∷ es)
-  first_after es none_left f = first f
-  first_after es (none_then n h) f = later n (first_after es h f)
-
   -- one more without a place
   pub none_next : (all : List (Bor Expr)) (i : ℕ) (e : Bor Expr) → i < length all → e ≡ get_or all i e
       → NoneInAll R (map lent (take i all)) → NoneIn R (lent e) → NoneInAll R (map lent (take (i + 1) all))
   none_next all i e within here h n =
-      subst (λ (es : List ExprTree). NoneInAll R es) (sym (trees_next all i e within here)) (none_more h n)
+      subst (λ (es : List ExprTree). NoneInAll R es) (sym (trees_next all i e within here)) (none_more R h n)
 
   -- the first place is in the next one
   pub found_next : (all : List (Bor Expr)) (i : ℕ) (e : Bor Expr) → i < length all → e ≡ get_or all i e
@@ -41,7 +33,7 @@ module _ (R : ExprTree → ExprTree → Type 0) where
       → new ≡ map lent (take i all) ++ d ∷ map lent (drop (i + 1) all) → FirstOf R (map lent all) new
   found_next all i e within here d new h f k =
       subst₂ (λ (es ds : List ExprTree). FirstOf R es ds) (sym (trees_split all i e within here)) (sym k)
-      (first_after (map lent (drop (i + 1) all)) h f)
+      (first_after R (map lent (drop (i + 1) all)) h f)
 
   pub found_in : (ps new : List ExprTree) (e q : ExprTree) → ps ≡ children e → FirstOf R ps new
       → q ≡ over_children e new → FirstIn R e q

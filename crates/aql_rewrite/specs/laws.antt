@@ -7,6 +7,7 @@ pub mod Own
 pub mod PartVariables
 pub mod PartSizes
 pub mod LentExprs
+pub mod OneAfter
 pub mod FirstKept
 pub mod Constants
 pub mod Sameness

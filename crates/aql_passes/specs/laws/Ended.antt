@@ -1,13 +1,14 @@
 -- Each part to its end, in order, and then the whole, is a way of applications each at the first place.
 use Rattle.std.proofs.Common.{◌≡◌, ◌∙◌, ◌<◌, ◌≤◌, Bool, true, List, [], ◌∷◌, ◌++◌, length, refl, ap, sym, subst, arith}
 use Rattle.aql_tree.specs.Tree.{ExprTree}
-use Rattle.aql_rewrite.specs.FirstInExpr.{Stays, NoneIn, none_in, NoneInAll, none_left, none_then}
+use Rattle.aql_rewrite.specs.FirstInExpr.{Stays, none_in, NoneInAll, none_left}
 use Rattle.aql_rewrite.specs.FirstInExpr.{FirstIn, in_child, at_whole, FirstOf, first, later}
 use Rattle.aql_rewrite.specs.OverChildren.{over_children}
 use Rattle.aql_rewrite.specs.Children.{children}
 use Rattle.aql_rewrite.specs.Size.{size}
 use Rattle.aql_rewrite.specs.ExprView.{each_over}
 use Rattle.aql_rewrite.specs.laws.FirstKept.{first_in_smaller}
+use Rattle.aql_rewrite.specs.laws.OneAfter.{none_more, first_after}
 use Rattle.aql_rewrite.specs.laws.PartsBack.{parts_back}
 use Rattle.aql_rewrite.specs.inner.Applications.{Applications, at_once, next}
 use Rattle.aql_passes.specs.inner.Ends.{Ends, AllEnd}
@@ -33,15 +34,6 @@ module _ (R : ExprTree → ExprTree → Type 0) where
   first_before more (first h) = first h
   first_before more (later n h) = later n (first_before more h)
 
-  first_after : {es : List ExprTree} {e d : ExprTree} → NoneInAll R es → FirstIn R e d
-      → FirstOf R (es ++ e ∷ []) (es ++ d ∷ [])
-  first_after none_left h = first h
-  first_after (none_then n m) h = later n (first_after m h)
-
-  none_after : {es : List ExprTree} {e : ExprTree} → NoneInAll R es → NoneIn R e → NoneInAll R (es ++ e ∷ [])
-  none_after none_left n = none_then n none_left
-  none_after (none_then m h) n = none_then m (none_after h n)
-
   pub none_yet : (x : Bool) → AllEnd R [] [] x x
   none_yet x = record { reached = at_once; ended = none_left }
 
@@ -52,8 +44,8 @@ module _ (R : ExprTree → ExprTree → Type 0) where
         (along (List ExprTree) (List ExprTree) (FirstOf R) (FirstOf R) (λ cs. cs ++ e ∷ [])
         (λ bs cs f. first_before (e ∷ []) f) h.reached)
         (along ExprTree (List ExprTree) (FirstIn R) (FirstOf R) (λ c. ds ++ c ∷ [])
-        (λ b c f. first_after h.ended f) k.reached);
-    ended = none_after h.ended k.ended;
+        (λ b c f. first_after R [] h.ended f) k.reached);
+    ended = none_more R h.ended k.ended;
   }
 
   -- ---- in the whole

@@ -11,6 +11,7 @@ use Rattle.aql_plan.specs.Plan.{Reading, Node, EnumerateCollection, Index, Enume
 use Rattle.aql_rewrite.specs.Children.{list_children, maybe_children}
 use Rattle.aql_rewrite.specs.OverChildren.{after_first, over_list, over_maybe, after_maybe}
 use Rattle.aql_rewrite.specs.NodeExprs.{last_exprs, aggregate_exprs, into_exprs, node_exprs, after_list, over_end, after_end, over_last, after_last, over_aggregates, after_aggregates, over_into, over_exprs}
+use Rattle.aql_rewrite.specs.laws.OverNodes.{with_filter}
 use Rattle.aql_passes.specs.laws.PartsAgain.{list_own as list_alone, longer, first_again, rest_again, maybe_again}
 
 -- ---- its own expressions, with those that come later
@@ -51,9 +52,6 @@ maybe_alone (one_expr e) = refl
 into_alone : (i : IntoTree) → over_into i (into_exprs i) ≡ i
 into_alone no_into = refl
 into_alone (into x what keep) = ap (λ m. into x m keep) (maybe_alone what)
-
-abbrev with_filter : Reading → MaybeExpr → Reading
-with_filter x e = record { var = x.var; coll = x.coll; filter = e; attrs = x.attrs; shard = x.shard }
 
 index_own : (x : Reading) (index : ℕ) (es : ExprTrees) (l : Last ExprTree) (ordered : Option Bool)
     → over_exprs (Index x index es l ordered) (node_exprs (Index x index es l ordered))

@@ -8,6 +8,7 @@ use Rattle.aql_plan.specs.Plan.{Node, EnumerateCollection, Index, EnumerateList,
 use Rattle.aql_rewrite.specs.Children.{list_children, maybe_children}
 use Rattle.aql_rewrite.specs.OverChildren.{first_or, after_first, over_list, over_maybe, after_maybe}
 use Rattle.aql_rewrite.specs.ExprView.{each_over}
+use Rattle.aql_rewrite.specs.laws.PartsBack.{list_back as list_alone, maybe_back}
 use Rattle.aql_rewrite.specs.NodeExprs.{end_exprs, last_exprs, aggregate_exprs, into_exprs, node_exprs, after_list, over_end, after_end, over_last, after_last, over_aggregates, after_aggregates, over_into, over_exprs}
 
 -- ---- the expressions of a part over others, with those that come later
@@ -20,11 +21,6 @@ list_back : (es : ExprTrees) (fs ds ps : List ExprTree) → ds ≡ each_over fs 
     → list_children (over_list es ps) ++ ds ≡ each_over (list_children es ++ fs) ps
 list_back no_exprs fs ds ps h = h
 list_back (expr_then e es) fs ds ps h = ap (λ xs. first_or e ps ∷ xs) (list_back es fs ds (after_first ps) h)
-
-maybe_back : (e : MaybeExpr) (fs ds ps : List ExprTree) → ds ≡ each_over fs (after_maybe e ps)
-    → maybe_children (over_maybe e ps) ++ ds ≡ each_over (maybe_children e ++ fs) ps
-maybe_back no_expr fs ds ps h = h
-maybe_back (one_expr e) fs ds ps h = ap (λ xs. first_or e ps ∷ xs) h
 
 end_back : (e : Option (End ExprTree)) (fs ds ps : List ExprTree) → ds ≡ each_over fs (after_end e ps)
     → end_exprs (over_end e ps) ++ ds ≡ each_over (end_exprs e ++ fs) ps
@@ -54,11 +50,6 @@ aggregates_back (aggregate_then x name e rest) fs ds ps h =
     ∙ sym (each_append (maybe_children e) (aggregate_exprs rest) fs ps)
 
 -- where none come later
-list_alone : (es : ExprTrees) (ps : List ExprTree)
-    → list_children (over_list es ps) ≡ each_over (list_children es) ps
-list_alone no_exprs ps = refl
-list_alone (expr_then e es) ps = ap (λ xs. first_or e ps ∷ xs) (list_alone es (after_first ps))
-
 maybe_alone : (e : MaybeExpr) (ps : List ExprTree)
     → maybe_children (over_maybe e ps) ≡ each_over (maybe_children e) ps
 maybe_alone no_expr ps = refl

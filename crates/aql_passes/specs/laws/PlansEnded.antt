@@ -8,7 +8,7 @@ use Rattle.aql_meaning.specs.Uses.{Uses}
 use Rattle.aql_plan.specs.Above.{input_inside}
 use Rattle.aql_plan.specs.Needs.{under, result_uses}
 use Rattle.aql_plan.specs.Nodes.{body_in}
-use Rattle.aql_plan.specs.Plan.{Plan, Singleton, Over, Node, Subquery, Scatter, Distribute, Gather}
+use Rattle.aql_plan.specs.Plan.{Plan, Singleton, Over, Node, Subquery}
 use Rattle.aql_plan.specs.Shapes.{HasNoFragment, IsNoFragment}
 use Rattle.aql_rewrite.specs.FirstInExpr.{none_left, FirstOf}
 use Rattle.aql_rewrite.specs.NodeExprs.{node_exprs, over_exprs}
@@ -21,15 +21,8 @@ use Rattle.aql_passes.specs.laws.ExprsAgain.{exprs_own, exprs_again}
 use Rattle.aql_passes.specs.laws.ExprsBack.{exprs_back}
 use Rattle.aql_passes.specs.laws.NoneFirst.{stays_at_node}
 use Rattle.aql_passes.specs.laws.SameShape.{still_plain}
+use Rattle.aql_rewrite.specs.laws.Standing.{outside}
 use Rattle.aql_rewrite.specs.laws.StepByStep.{joined, along}
-
--- ---- a part of a plan without fragments
-
-input_outside : (n : Node) → IsNoFragment n → input_inside n false ≡ false
-input_outside (Gather directions es) h = absurd h
-input_outside (Scatter coll only) h = refl
-input_outside (Distribute coll es) h = refl
-input_outside n h = refl
 
 module _ (R : ExprTree → ExprTree → Type 0) where
   abbrev Way : Uses → Plan → Plan → Bool → Bool → Type 0
@@ -43,12 +36,12 @@ module _ (R : ExprTree → ExprTree → Type 0) where
   step_below : (n : Node) (us : Uses) (b c : Plan) → IsNoFragment n → Application (AtExprs R) (under n us) b c
       → Application (AtExprs R) us (Over b n) (Over c n)
   step_below n us b c i h = below (subst (λ (o : Bool). First (AtExprs R) o (under n us) b c None)
-      (sym (input_outside n i)) h)
+      (sym (outside n i)) h)
 
   none_below : (n : Node) (us : Uses) (b : Plan) → IsNoFragment n → Placeless b
       → NoPlace (AtExprs R) (input_inside n false) (under n us) b
   none_below n us b i h = subst (λ (o : Bool). NoPlace (AtExprs R) o (under n us) b)
-      (sym (input_outside n i)) (h (under n us))
+      (sym (outside n i)) (h (under n us))
 
   way_below : (n : Node) (us : Uses) (b c : Plan) (x y : Bool) → IsNoFragment n → Way (under n us) b c x y
       → Way us (Over b n) (Over c n) x y

@@ -25,6 +25,7 @@ use Rattle.aql_rewrite.specs.laws.Taken.{Taken}
 use Rattle.aql_rewrite.specs.laws.PassSteps.{Sound}
 use Rattle.aql_rewrite.specs.Removed.{TakesAway}
 use Rattle.aql_passes.specs.inner.Removed.{Way, at_once, next, Removes, NoPlaceUnder}
+use Rattle.aql_passes.specs.laws.Changing.{no_body}
 use Rattle.aql_passes.specs.laws.Finishing.{no_place_seen, first_seen}
 use Rattle.aql_passes.specs.laws.StaysPlaced.{placed_kept}
 
@@ -54,10 +55,6 @@ body_of Singleton s h e = absurd (true≢false (sym h))
 body_of (Over b (Subquery v r)) s h e =
     let d : r ≡ s = cc in record { input = b; var = v; was = ap (λ (o : Plan). Over b (Subquery v o)) d }
 body_of (Over b n) s h e = absurd (true≢false (sym h))
-
-no_body : (n : Node) → has_body n ≡ false → body_in n ≡ None
-no_body (Subquery v s) h = absurd (true≢false h)
-no_body n h = refl
 
 pub body_within : (k s : Plan) → BodyOf k s → (body_in (top k) ≡ Some s) × (weight s + 1 ≤ weight k)
 body_within k s d = (

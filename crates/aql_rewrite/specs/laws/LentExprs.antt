@@ -4,7 +4,6 @@ use Rattle.std.proofs.Common.{get_or, append_assoc, ap, sym, arith}
 use Rattle.std.specs.Borrow.{Bor}
 use Rattle.std.proofs.lemmas.List.{take_more, take-append-drop, map-append}
 use Rattle.aql_tree.specs.declared.syntax.Expr.{Expr}
-use Rattle.aql_tree.specs.Tree.{ExprTree}
 use Rattle.aql_rewrite.specs.Size.{size, size_all}
 use Rattle.aql_rewrite.specs.ExprView.{lent}
 use Rattle.aql_rewrite.specs.laws.PartSizes.{append_size}

@@ -2,16 +2,20 @@
 -- expressions.
 use Rattle.std.proofs.Common.{◌≡◌, ◌∙◌, ℕ, Bool, List, [], ◌∷◌, ◌++◌, map, refl, ap, ap₂, sym, subst}
 use Rattle.std.specs.Prelude.{Option, Some, None, option_map}
+use Rattle.std.proofs.lemmas.List.{map-append}
 use Rattle.aql_tree.specs.declared.syntax.Ident.{Ident}
 use Rattle.aql_tree.specs.Tree.{TraversalShape, ExprTree, ExprTrees, no_exprs, expr_then, MaybeExpr, no_expr, one_expr, AggregateTrees, no_aggregates, aggregate_then, IntoTree, no_into, into}
 use Rattle.aql_meaning.specs.Documents.{End, Last, no_last, one_of, between, last_map, end_map}
 use Rattle.aql_meaning.specs.declared.grouping.Stage.{Stage}
-use Rattle.aql_plan.specs.Plan.{Reading, Plan, Node, EnumerateCollection, Index, EnumerateList, Traversal, Calculation, Subquery, Filter, Sort, Limit, Collect, Return, NoResults, Scatter, Distribute, Remote, Gather}
+use Rattle.aql_plan.specs.Plan.{Reading, Node, EnumerateCollection, Index, EnumerateList, Traversal, Calculation, Subquery, Filter, Sort, Limit, Collect, Return, NoResults, Scatter, Distribute, Remote, Gather}
 use Rattle.aql_plan.specs.Exprs.{map_exprs, map_maybe, map_aggregates, map_into, map_reading, map_node}
 use Rattle.aql_plan.specs.Nodes.{body_in}
 use Rattle.aql_rewrite.specs.Children.{list_children, maybe_children}
-use Rattle.aql_rewrite.specs.OverChildren.{first_or, after_first, over_list, over_maybe, after_maybe}
-use Rattle.aql_rewrite.specs.NodeExprs.{end_exprs, last_exprs, aggregate_exprs, into_exprs, node_exprs, after_list, over_end, after_end, over_last, after_last, over_aggregates, after_aggregates, over_into, over_reading, over_exprs}
+use Rattle.aql_rewrite.specs.OverChildren.{over_list, over_maybe, after_maybe}
+use Rattle.aql_rewrite.specs.NodeExprs.{end_exprs, last_exprs, aggregate_exprs, into_exprs, node_exprs, after_list, over_end, after_end, over_last, after_last, over_aggregates, after_aggregates, over_into, over_exprs}
+
+abbrev pub with_filter : Reading → MaybeExpr → Reading
+with_filter x e = record { var = x.var; coll = x.coll; filter = e; attrs = x.attrs; shard = x.shard }
 
 module _ (f : ExprTree → ExprTree) where
   -- new expressions for these, and others after them
@@ -71,10 +75,6 @@ module _ (f : ExprTree → ExprTree) where
       )
 
   -- where no others come after them
-  joined : (es fs : List ExprTree) → map f (es ++ fs) ≡ Then es (map f fs)
-  joined [] fs = refl
-  joined (e ∷ es) fs = ap (λ (ds : List ExprTree). f e ∷ ds) (joined es fs)
-
   list_alone : (es : ExprTrees) → over_list es (map f (list_children es)) ≡ map_exprs f es
   list_alone no_exprs = refl
   list_alone (expr_then e es) = ap (expr_then (f e)) (list_alone es)
@@ -87,9 +87,6 @@ module _ (f : ExprTree → ExprTree) where
   into_alone no_into = refl
   into_alone (into x what keep) = ap (λ m. into x m keep) (maybe_alone what)
 
-  abbrev with_filter : Reading → MaybeExpr → Reading
-  with_filter x e = record { var = x.var; coll = x.coll; filter = e; attrs = x.attrs; shard = x.shard }
-
   -- ---- nodes
 
   index_over : (x : Reading) (index : ℕ) (equal : ExprTrees) (last : Last ExprTree) (ordered : Option Bool)
@@ -101,8 +98,8 @@ module _ (f : ExprTree → ExprTree) where
       let e = list_over equal bounds in
       let l = last_over last filters in
       ap (over_exprs (Index x index equal last ordered))
-      (joined (list_children equal) (last_exprs last ++ maybe_children x.filter)
-      ∙ ap (Then (list_children equal)) (joined (last_exprs last) (maybe_children x.filter)))
+      (map-append f (list_children equal) (last_exprs last ++ maybe_children x.filter)
+      ∙ ap (Then (list_children equal)) (map-append f (last_exprs last) (maybe_children x.filter)))
       ∙ ap₂ (λ m es. Index (with_filter x m) index es
       (over_last last (after_list equal (Then (list_children equal) bounds))) ordered)
       (ap (over_maybe x.filter) (ap (after_last last) e.1 ∙ l.1) ∙ maybe_alone x.filter) e.0
@@ -115,7 +112,7 @@ module _ (f : ExprTree → ExprTree) where
   traversal_over w e colls prune keep =
       let p = maybe_over prune (map f (maybe_children keep)) in
       ap (λ (ps : List ExprTree). over_exprs (Traversal w e colls prune keep) (f e ∷ ps))
-      (joined (maybe_children prune) (maybe_children keep))
+      (map-append f (maybe_children prune) (maybe_children keep))
       ∙ ap₂ (Traversal w (f e) colls) p.0 (ap (over_maybe keep) p.1 ∙ maybe_alone keep)
 
   collect_over : (xs : List Ident) (es : ExprTrees) (gs : AggregateTrees) (i : IntoTree) (s : Stage)
@@ -127,8 +124,8 @@ module _ (f : ExprTree → ExprTree) where
       let e = list_over es arguments in
       let g = aggregates_over gs last in
       ap (over_exprs (Collect xs es gs i s))
-      (joined (list_children es) (aggregate_exprs gs ++ into_exprs i)
-      ∙ ap (Then (list_children es)) (joined (aggregate_exprs gs) (into_exprs i)))
+      (map-append f (list_children es) (aggregate_exprs gs ++ into_exprs i)
+      ∙ ap (Then (list_children es)) (map-append f (aggregate_exprs gs) (into_exprs i)))
       ∙ ap₂ (λ m j. Collect xs (over_list es (Then (list_children es) arguments)) m j s)
       (ap (over_aggregates gs) e.1 ∙ g.0)
       (ap (over_into i) (ap (after_aggregates gs) e.1 ∙ g.1) ∙ into_alone i)

@@ -12,12 +12,12 @@ use Rattle.aql_rewrite.specs.OverChildren.{first_or, after_first, over_list, ove
 use Rattle.aql_rewrite.specs.OverChildren.{over_members, over_steps, over_links, over_children}
 use Rattle.aql_rewrite.specs.ExprView.{each_over}
 
-maybe_back : (e : MaybeExpr) (es ds ps : List ExprTree) → ds ≡ each_over es (after_maybe e ps)
+pub maybe_back : (e : MaybeExpr) (es ds ps : List ExprTree) → ds ≡ each_over es (after_maybe e ps)
     → maybe_children (over_maybe e ps) ++ ds ≡ each_over (maybe_children e ++ es) ps
 maybe_back no_expr es ds ps h = h
 maybe_back (one_expr e) es ds ps h = ap (λ (xs : List ExprTree). first_or e ps ∷ xs) h
 
-list_back : (es : ExprTrees) (ps : List ExprTree)
+pub list_back : (es : ExprTrees) (ps : List ExprTree)
     → list_children (over_list es ps) ≡ each_over (list_children es) ps
 list_back no_exprs ps = refl
 list_back (expr_then e es) ps =

@@ -1,8 +1,8 @@
 -- An expression over its renamed parts is the renamed expression, where it is no variable itself; and what
 -- a variable is called in the end.
-use Rattle.std.proofs.Common.{◌≡◌, ◌∙◌, ℕ, List, [], ◌∷◌, ◌++◌, map, refl, ap, ap₂, sym, subst}
-use Rattle.std.specs.Prelude.{Option, Some, None}
-use Rattle.std.proofs.lemmas.List.{map-id}
+use Rattle.std.proofs.Common.{◌≡◌, ◌∙◌, ℕ, List, [], ◌++◌, map, refl, ap, ap₂, sym}
+use Rattle.std.specs.Prelude.{Some, None}
+use Rattle.std.proofs.lemmas.List.{map-id, map-append}
 use Rattle.aql_tree.specs.declared.syntax.Ident.{Ident}
 use Rattle.aql_tree.specs.declared.syntax.Ident.TheVariants.{Num, Name}
 use Rattle.aql_tree.specs.Tree.{ExprTree, literal, variable, current, array_literal, object_literal, access}
@@ -12,9 +12,9 @@ use Rattle.aql_tree.specs.Tree.{MemberTrees, no_members, named_then, computed_th
 use Rattle.aql_tree.specs.Tree.{StepTrees, no_steps, name_then, at_then, inline_then}
 use Rattle.aql_tree.specs.Tree.{LinkTrees, no_links, link_then}
 use Rattle.aql_meaning.specs.Plain.{IsPlain}
-use Rattle.aql_meaning.specs.Substitution.{put, put_all, put_maybe, put_members, put_steps, put_links}
+use Rattle.aql_meaning.specs.Substitution.{put_all, put_maybe, put_members, put_steps, put_links}
 use Rattle.aql_rewrite.specs.Children.{list_children, maybe_children, member_children, step_children, link_children, children}
-use Rattle.aql_rewrite.specs.OverChildren.{first_or, after_first, over_list, over_maybe, after_maybe}
+use Rattle.aql_rewrite.specs.OverChildren.{over_list, over_maybe, after_maybe}
 use Rattle.aql_rewrite.specs.OverChildren.{over_members, over_steps, over_links, over_children}
 use Rattle.aql_rewrite.specs.declared.swap.Rename.{Rename}
 use Rattle.aql_rewrite.specs.Plain.{variable_in}
@@ -54,10 +54,6 @@ module _ (rs : List Rename) where
       ∙ sym (through_three renaming renaming members_put members_put computed_then
       (λ r a b c. refl) rs n e ms)
 
-  joined : (es fs : List ExprTree) → New (es ++ fs) ≡ New es ++ New fs
-  joined [] fs = refl
-  joined (e ∷ es) fs = ap (λ (ds : List ExprTree). put_each rs e ∷ ds) (joined es fs)
-
   maybe_over : (e : MaybeExpr) (more : List ExprTree)
       → (over_maybe e (New (maybe_children e) ++ more) ≡ each maybe_put rs e)
       × (after_maybe e (New (maybe_children e) ++ more) ≡ more)
@@ -76,9 +72,9 @@ module _ (rs : List Rename) where
       let f = maybe_over filter more in
       let g = maybe_over gives rest in
       ap (over_steps (inline_then filter gives ss))
-      (joined (maybe_children filter) (maybe_children gives ++ step_children ss)
+      (map-append (put_each rs) (maybe_children filter) (maybe_children gives ++ step_children ss)
       ∙ ap (λ (ds : List ExprTree). New (maybe_children filter) ++ ds)
-      (joined (maybe_children gives) (step_children ss)))
+      (map-append (put_each rs) (maybe_children gives) (step_children ss)))
       ∙ ap₂ (λ a b. inline_then a b (over_steps ss (after_maybe gives (after_maybe filter
       (New (maybe_children filter) ++ more))))) f.0 (ap (over_maybe gives) f.1 ∙ g.0)
       ∙ ap (inline_then (each maybe_put rs filter) (each maybe_put rs gives))

@@ -1,12 +1,9 @@
 -- The steps of renamings through a plan.
-use Rattle.std.proofs.Common.{◌≡◌, ◌∙◌, List, [], ◌∷◌, map, Bool, true, false, true≢false, cond, refl, ap, ap₂, sym, subst}
-use Rattle.std.specs.Prelude.{Option, Some, None}
+use Rattle.std.proofs.Common.{◌≡◌, ◌∙◌, List, [], ◌∷◌, map, Bool, cond, refl, ap, sym}
+use Rattle.std.specs.Prelude.{Some, None}
 use Rattle.std.specs.List.{AllByRecursion}
 use Rattle.std.proofs.lemmas.List.{map-id}
-use Rattle.aql_tree.specs.declared.syntax.Ident.{Ident}
-use Rattle.aql_tree.specs.declared.syntax.Ident.TheVariants.{Num}
-use Rattle.aql_tree.specs.Tree.{ExprTree, variable}
-use Rattle.aql_meaning.specs.Substitution.{put}
+use Rattle.aql_tree.specs.Tree.{ExprTree}
 use Rattle.aql_meaning.specs.Plain.{IsPlain}
 use Rattle.aql_meaning.specs.Uses.{Uses}
 use Rattle.aql_plan.specs.declared.facts.Facts.{Facts}
@@ -22,7 +19,7 @@ use Rattle.aql_rewrite.specs.Nodes.{over_renamed}
 use Rattle.aql_rewrite.specs.Renames.{put_each, over_each, top_each}
 use Rattle.aql_rewrite.specs.NodeExprs.{node_exprs, over_exprs}
 use Rattle.aql_rewrite.specs.Placed.{IsPlaced}
-use Rattle.aql_rewrite.specs.Plain.{PlanPlain, NodePlain}
+use Rattle.aql_rewrite.specs.Plain.{NodePlain}
 use Rattle.aql_rewrite.specs.laws.OverNodes.{node_over}
 use Rattle.aql_rewrite.specs.laws.PlainPlans.{plan_plain}
 

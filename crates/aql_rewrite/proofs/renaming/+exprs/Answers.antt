@@ -1,9 +1,7 @@
 -- An expression is renamed by its parts.
-use Rattle.std.proofs.Common.{rules, ◌∙◌, ◌<◌, ◌+◌, ◌*◌, ◌≡◌, List, map, ap, sym, subst, arith, refl, unwrap_or, option_map}
-use Rattle.std.proofs.lemmas.Result.{IfOk-weaker}
+use Rattle.std.proofs.Common.{rules, ◌∙◌, ◌<◌, ◌+◌, ◌*◌, List, map, ap, sym, subst, arith, unwrap_or, option_map}
 use Rattle.std.specs.List.{AllByRecursion}
-use Rattle.aql_tree.specs.declared.syntax.Ident.TheVariants.{Num}
-use Rattle.aql_tree.specs.Tree.{ExprTree, variable}
+use Rattle.aql_tree.specs.Tree.{ExprTree}
 use Rattle.aql_tree.specs.View.{tree}
 use Rattle.aql_meaning.specs.Plain.{IsPlain}
 use Rattle.aql_rewrite.specs.OverChildren.{over_children}
