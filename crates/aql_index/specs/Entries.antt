@@ -23,9 +23,17 @@ entries_from place names (d ∷ ds) =
 abbrev pub entries_of : List (List ℕ) → List Datum → List Entry
 entries_of names documents = entries_from 0 names documents
 
+-- the document at a place; null where there is none
+abbrev pub document_at : List Datum → ℕ → Datum
+document_at documents place = unwrap_or (slice_get documents place) null
+
+-- those at some places, in the order of the places
+abbrev pub standing_at : List Datum → List ℕ → List Datum
+standing_at documents places = map (document_at documents) places
+
 -- the documents that entries stand for
 abbrev pub document_of : List Datum → Entry → Datum
-document_of documents e = unwrap_or (slice_get documents e.place) null
+document_of documents e = document_at documents e.place
 
 abbrev pub documents_by : List Datum → List Entry → List Datum
 documents_by documents entries = map (document_of documents) entries

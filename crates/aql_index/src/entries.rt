@@ -1,25 +1,25 @@
 //! The entries of an index.
 
-ghost use Rattle.std.specs.Prelude.{◌≡◌, ◌<◌, ◌^◌, length, option_map, IfOk, IsSortedBy};
-ghost use Rattle.aql_value.specs.View.{datum_of, datums_in};
+ghost use Rattle.std.specs.Prelude.{◌≡◌, ◌<◌, ◌^◌, length, option_map, IfOk, OnOk, IsSortedBy};
+ghost use Rattle.std.specs.List.{All};
+ghost use Rattle.aql_value.specs.View.{datums_in};
 ghost use Rattle.aql_value.specs.Compare.{compare};
-ghost use Rattle.aql_value.specs.Contents.{at_name, attributes, list};
-ghost use Rattle.aql_value.specs.Attributes.{attribute as find_attribute};
-ghost use Rattle.aql_meaning.specs.Documents.{index_keys};
-ghost use Rattle.aql_index.specs.Entries.{entries_of, is_before, IsIndex};
-ghost use Rattle.aql_index.specs.IndexOrder.{index_entries};
+ghost use Rattle.aql_value.specs.Contents.{list};
+ghost use Rattle.aql_index.specs.Entries.{entries_of, is_before, standing_at, IsIndex};
+ghost use Rattle.aql_index.specs.IndexOrder.{index_entries, sort};
 ghost use Rattle.aql_index.specs.inner.Places.{Selects};
 ghost use Rattle.aql_index.specs.inner.Zones.{tail_zone, in_zone};
 
 use crate::bounds::{Span, Tail, zone};
-use aql_value::{Items, OutOfMemory, Text, Value, cmp, copy};
+use crate::keys::{Keys, keys_of};
+use aql_value::{OutOfMemory, Text, Value, cmp};
 use std::alloc::Global;
 use std::cmp::Ordering;
 
 /// The values of an index's attributes, and the place of the document that has them.
 #[derive(Drop)]
 pub struct Entry {
-    pub keys: Items,
+    pub keys: Keys,
     pub place: u32,
 }
 
@@ -40,38 +40,6 @@ pub(crate) fn compare(left: &[Value], right: &[Value]) -> Ordering
     left.len().cmp(&right.len())
 }
 
-// An attribute of an object; nothing else has any.
-fn attribute<'a>(value: &'a Value, name: &str) -> Option<&'a Value>
-    ensures { option_map (λ v. datum_of v.now) result
-        ≡ find_attribute name.now (attributes (datum_of value.now)) }
-{
-    match value {
-        Value::Object(members) => members.value(name),
-        Value::Null | Value::Bool(_) | Value::Num(_) | Value::Text(_) | Value::List(_) => None,
-    }
-}
-
-// A copy of an attribute, null where the document lacks it.
-fn key_of(alloc: Global, document: &Value, name: &str) -> Result<Value, OutOfMemory>
-    ensures { IfOk result (λ v. datum_of v ≡ at_name (datum_of document.now) name.now) }
-{
-    match attribute(document, name) {
-        Some(value) => copy(alloc, value),
-        None => Ok(Value::Null),
-    }
-}
-
-// Copies of the attributes of these names.
-fn keys_of(alloc: Global, document: &Value, names: &[Text]) -> Result<Items, OutOfMemory>
-    ensures { IfOk result (λ keys. keys ≡ index_keys names.now (datum_of document.now)) }
-{
-    let mut keys = Items::new(alloc);
-    for name in names {
-        keys.push(key_of(alloc, document, name.as_str())?)?;
-    }
-    Ok(keys)
-}
-
 // The entry of each document, in the order of the documents.
 fn unsorted(alloc: Global, documents: &[Value], names: &[Text]) -> Result<Vec<Entry>, OutOfMemory>
     requires { length documents.now < 2 ^ 32 }
@@ -89,6 +57,37 @@ fn unsorted(alloc: Global, documents: &[Value], names: &[Text]) -> Result<Vec<En
     Ok(entries)
 }
 
+// The entries of the documents that stand at these places, in the order of the places.
+fn unsorted_at(
+    alloc: Global,
+    documents: &[Value],
+    places: &[u32],
+    names: &[Text],
+) -> Result<Vec<Entry>, OutOfMemory>
+    requires places { All (λ place. place < length documents.now) places.now }
+    requires few { length places.now < 2 ^ 32 }
+    ensures { IfOk result (λ entries. entries.items
+        ≡ entries_of names.now (standing_at (datums_in documents.now) places.now)) }
+{
+    let mut entries = Vec::with_capacity(alloc, places.len())?;
+    for (at, place) in places.iter().enumerate() {
+        let keys = keys_of(alloc, &documents[*place as usize], names)?;
+        entries.push(Entry {
+            keys,
+            place: at as u32,
+        })?;
+    }
+    Ok(entries)
+}
+
+// Sorts entries by their values; those with the same ones keep their order.
+fn sort_entries(entries: &mut Vec<Entry>) -> Result<(), OutOfMemory>
+    ensures { OnOk result (entries.new.items ≡ sort is_before entries.old.items) }
+{
+    entries.sort_by(|a, b| compare(a.keys.as_slice(), b.keys.as_slice()))?;
+    Ok(())
+}
+
 /// The entries of the documents, in the order of the values of these attributes.
 pub(crate) fn sorted_entries(
     alloc: Global,
@@ -101,7 +100,25 @@ pub(crate) fn sorted_entries(
     ensures index { IfOk result (λ entries. IsIndex (length names.now) entries.items) }
 {
     let mut entries = unsorted(alloc, documents, names)?;
-    entries.sort_by(|a, b| compare(a.keys.as_slice(), b.keys.as_slice()))?;
+    sort_entries(&mut entries)?;
+    Ok(entries)
+}
+
+/// The same of the documents that stand at these places, which count as a list of their own.
+pub(crate) fn sorted_entries_at(
+    alloc: Global,
+    documents: &[Value],
+    places: &[u32],
+    names: &[Text],
+) -> Result<Vec<Entry>, OutOfMemory>
+    requires places { All (λ place. place < length documents.now) places.now }
+    requires few { length places.now < 2 ^ 32 }
+    ensures entries { IfOk result (λ entries. entries.items
+        ≡ index_entries names.now (standing_at (datums_in documents.now) places.now)) }
+    ensures index { IfOk result (λ entries. IsIndex (length names.now) entries.items) }
+{
+    let mut entries = unsorted_at(alloc, documents, places, names)?;
+    sort_entries(&mut entries)?;
     Ok(entries)
 }
 

@@ -5,6 +5,7 @@ mod bounds;
 mod entries;
 mod groups;
 mod guesses;
+mod keys;
 pub mod laws;
 mod lookup;
 mod sorted_index;

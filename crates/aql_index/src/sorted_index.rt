@@ -7,13 +7,13 @@ ghost use Rattle.aql_value.specs.Contents.{elements};
 ghost use Rattle.aql_value.specs.View.{datum_of, datums_in};
 ghost use Rattle.aql_meaning.specs.Documents.{no_last, one_of};
 ghost use Rattle.aql_index.specs.Bounds.{range_of, BoundsFit};
-ghost use Rattle.aql_index.specs.Entries.{entries_within};
+ghost use Rattle.aql_index.specs.Entries.{entries_within, standing_at};
 ghost use Rattle.aql_index.specs.IndexOrder.{index_of};
 ghost use Rattle.aql_index.specs.Spans.{spanned, IsSpan, AreApart};
 ghost use Rattle.aql_index.specs.Groups.{widest_of};
 
 use crate::bounds::{Bound, Span, tail_of};
-use crate::entries::{Entry, sorted_entries, span_of};
+use crate::entries::{Entry, sorted_entries, sorted_entries_at, span_of};
 use crate::groups::widest_of;
 use crate::spans::{Spans, find_spans};
 use aql_value::{Items, Names, OutOfMemory, Value};
@@ -62,6 +62,27 @@ impl SortedIndex {
         ensures { IfOk result (λ index. index ≡ index_of attributes.now docs.now) }
     {
         let entries = sorted_entries(alloc, docs.as_slice(), attributes.as_slice())?;
+        Ok(SortedIndex {
+            width: attributes.len(),
+            entries,
+        })
+    }
+
+    /// The index of the documents that stand at these places of a list. They count as a list of
+    /// their own, in the order of the places; all else is as for `build`.
+    pub fn build_at(
+        alloc: Global,
+        docs: &Items,
+        places: &[u32],
+        attributes: &Names,
+    ) -> Result<SortedIndex, OutOfMemory>
+        requires places { All (λ place. place < length docs.now) places.now }
+        requires few { length places.now < 2 ^ 32 }
+        ensures { IfOk result (λ index. index
+            ≡ index_of attributes.now (standing_at docs.now places.now)) }
+    {
+        let names = attributes.as_slice();
+        let entries = sorted_entries_at(alloc, docs.as_slice(), places, names)?;
         Ok(SortedIndex {
             width: attributes.len(),
             entries,

@@ -1,10 +1,8 @@
 -- A list that is made of another, item by item, and what is known of the indexes of a catalog.
-use Rattle.std.proofs.Common.{◌≡◌, ◌∙◌, ℕ, zero, suc, ◌+◌, ◌<◌, ◌≤◌, ◌^◌, List, [], ◌∷◌, ◌++◌, map, length, take, true, false, get_or, min, append_assoc, refl, ap, ap₂, sym, arith}
+use Rattle.std.proofs.Common.{◌≡◌, ◌∙◌, ℕ, zero, suc, ◌+◌, ◌<◌, ◌≤◌, ◌^◌, List, [], ◌∷◌, ◌++◌, map, length, take, true, false, get_or, min, append_assoc, Fits, w32, refl, ap, ap₂, sym, arith}
 use Rattle.std.specs.Prelude.{Bool, All, Some, option_map, slice_get, unwrap_or}
 use Rattle.std.specs.List.{AllByRecursion}
-use Rattle.std.proofs.lemmas.List.{take_all, map_push}
 use Rattle.std.proofs.lemmas.List.Elements.{All-from_recursion, recursion_from_All}
-use Rattle.std.proofs.lemmas.Option.{slice_get_read}
 use Rattle.aql_value.specs.Datum.{Datum}
 use Rattle.aql_value.specs.laws.Alls.{all_append, all_mapped}
 use Rattle.aql_doc.specs.declared.info.CollInfo.{CollInfo}
@@ -20,8 +18,8 @@ use Rattle.aql_index.specs.IndexOrder.{index_entries, index_of}
 use Rattle.aql_index.specs.laws.Widths.{widest_is_of_documents}
 use Rattle.aql_shard.specs.declared.shapes.Shape.{Shape}
 use Rattle.aql_shard.specs.Known.{sorted_by, lookups, shapes, index_fact, shard_count, coll_fact}
+use Rattle.aql_shard.specs.Parts.{indexes_by}
 use Rattle.aql_shard.specs.inner.Kept.{IsNarrow, widths_in, fact_by, facts_by}
-use Rattle.aql_shard.specs.laws.Numbers.{next_below}
 
 -- ---- one item more
 
@@ -38,17 +36,6 @@ one_more f front xs i all new y e h k =
     let next : suc i ≡ i + 1 = omega arith in
     k ∙ ap (λ ys. ys ++ y ∷ []) h ∙ append_assoc front (map f (take i xs)) (y ∷ [])
     ∙ ap (λ ys. front ++ ys) (sym (one_taken f xs i y e) ∙ ap (λ (n : ℕ). map f (take n xs)) next)
-
--- where the item of the other list is read
-pub next_more : {A B : Type 0} (f : A → B) (front : List B) (xs : List A) (i : ℕ) (all new : List B)
-    (x : A) (y : B) → i < length xs → x ≡ get_or xs i x → y ≡ f x → all ≡ front ++ map f (take i xs)
-    → new ≡ all ++ y ∷ [] → new ≡ front ++ map f (take (i + 1) xs)
-next_more f front xs i all new x y l r e h k = one_more f front xs i all new y
-    (ap (option_map f) (slice_get_read xs (length xs) i x refl l r) ∙ ap (λ z. Some z) (sym e)) h k
-
-pub all_taken : {A B : Type 0} (f : A → B) (front : List B) (xs : List A) (i : ℕ) (all : List B)
-    → all ≡ front ++ map f (take i xs) → length xs ≤ i → all ≡ front ++ map f xs
-all_taken f front xs i all e h = e ∙ ap (λ ys. front ++ map f ys) (take_all i xs h)
 
 -- ---- limits
 
@@ -72,6 +59,10 @@ few_held held coll h e w =
     let here = few_there held coll w in
     omega (arith, ap length same, here)
 
+-- a place among so many that 32 bits count them
+pub place_fits : (place count : ℕ) → place < count → count < 2 ^ 32 → Fits w32 place
+place_fits place count h few = omega (arith, h, few)
+
 lookups_narrow : (edge : Bool) → AllByRecursion IsNarrow (lookups edge)
 lookups_narrow false = (omega arith, (omega arith, tt))
 lookups_narrow true = (omega arith, (omega arith, (omega arith, (omega arith, tt))))
@@ -92,22 +83,14 @@ widths_are names documents = map_same (λ width. widest_of width (index_entries 
     (λ width. widest_is_of_documents names documents width) (numbers_below (length names + 1))
 
 pub facts_are : (documents : List Datum) (all : List Shape)
-    → facts_by all (map (λ (s : Shape). index_of s.attributes documents) all)
-    ≡ map (index_fact documents) all
+    → facts_by all (indexes_by all documents) ≡ map (index_fact documents) all
 facts_are documents [] = refl
 facts_are documents (s ∷ all) = ap₂ (λ (f : IndexFact) fs. f ∷ fs)
     (ap (λ ws. let f : IndexFact = record { kind = s.kind; attributes = s.attributes; widths = ws } in f)
     (widths_are s.attributes documents))
     (facts_are documents all)
 
--- ---- and number by number, and index by index
-
-pub width_more : (index : IndexView) (n : ℕ) (all new : List ℕ) (width : ℕ)
-    → width ≡ widest_of n index.entries → all ≡ map (λ m. widest_of m index.entries) (numbers_below n)
-    → new ≡ all ++ width ∷ [] → new ≡ map (λ m. widest_of m index.entries) (numbers_below (n + 1))
-width_more index n all new width e h k =
-    k ∙ ap₂ (λ ws w. ws ++ w ∷ []) h e ∙ sym (map_push (λ m. widest_of m index.entries) (numbers_below n) n)
-    ∙ ap (map (λ m. widest_of m index.entries)) (sym (next_below n))
+-- ---- and index by index
 
 pair_taken : (ss : List Shape) (vs : List IndexView) (i : ℕ) (s : Shape) (v : IndexView) → i < length ss
     → i < length vs → s ≡ get_or ss i s → v ≡ get_or vs i v
@@ -139,17 +122,18 @@ pairs_taken (s ∷ ss) (v ∷ vs) (suc n) e =
 
 -- ---- a collection
 
-pub one_counted : (servers : ℕ) (h : Held) (n : ℕ) → servers ≡ 0 → n ≡ 1 → n ≡ shard_count servers h
-one_counted servers h n here e = e ∙ ap (λ s. shard_count s h) (sym here)
+pub one_counted : (servers : ℕ) (info : CollInfo) (n : ℕ) → servers ≡ 0 → n ≡ 1
+    → n ≡ shard_count servers info
+one_counted servers info n here e = e ∙ ap (λ s. shard_count s info) (sym here)
 
-pub all_counted : (servers : ℕ) (h : Held) (n : ℕ) → (servers ≡ 0 → ⊥) → n ≡ h.info.shards
-    → n ≡ shard_count servers h
-all_counted zero h n some e = absurd (some refl)
-all_counted (suc servers) h n some e = e
+pub all_counted : (servers : ℕ) (info : CollInfo) (n : ℕ) → (servers ≡ 0 → ⊥) → n ≡ info.shards
+    → n ≡ shard_count servers info
+all_counted zero info n some e = absurd (some refl)
+all_counted (suc servers) info n some e = e
 
 pub fact_is : (servers : ℕ) (h : Held) (name : List ℕ) (documents shards : ℕ) (keys : List (List ℕ))
     (facts : List IndexFact) → name ≡ h.info.name → documents ≡ length h.documents
-    → shards ≡ shard_count servers h → keys ≡ h.info.keys
+    → shards ≡ shard_count servers h.info → keys ≡ h.info.keys
     → facts ≡ map (index_fact h.documents) (shapes h.info)
     → ◌≡◌ {A = CollFact} (record {
       name = name;

@@ -5,6 +5,7 @@ use Rattle.std.proofs.lemmas.List.{length-map}
 use Rattle.std.proofs.lemmas.List.Elements.{recursion_from_All}
 use Rattle.std.specs.Prelude.{take}
 use Rattle.aql_value.specs.Datum.{Datum}
+use Rattle.aql_doc.specs.declared.info.CollInfo.{CollInfo}
 use Rattle.aql_doc.specs.Held.{Held}
 use Rattle.aql_doc.specs.Limits.{IsDeclared}
 use Rattle.aql_plan.specs.declared.facts.IndexFact.{IndexFact}
@@ -28,15 +29,15 @@ all_widths : (documents : List Datum) (all : List Shape)
 all_widths documents [] = tt
 all_widths documents (s ∷ all) = (width_for_each s.attributes documents, all_widths documents all)
 
-some_shards : (servers : ℕ) (h : Held) → IsDeclared h.info → 1 ≤ shard_count servers h
-some_shards zero h d = omega arith
-some_shards (suc servers) h d = d.shards.0
+pub some_shards : (servers : ℕ) (info : CollInfo) → IsDeclared info → 1 ≤ shard_count servers info
+some_shards zero info d = omega arith
+some_shards (suc servers) info d = d.shards.0
 
 collections_fit : (servers : ℕ) (held : List Held) → AllByRecursion (λ h. IsDeclared h.info) held
     → AllByRecursion CollectionFits (map (coll_fact servers) held)
 collections_fit servers [] d = tt
 collections_fit servers (h ∷ held) d = (
-  (some_shards servers h d.0, d.0.keys.0, d.0.keys.1, all_widths h.documents (shapes h.info)),
+  (some_shards servers h.info d.0, d.0.keys.0, d.0.keys.1, all_widths h.documents (shapes h.info)),
   collections_fit servers held d.1,
 )
 

@@ -1,4 +1,5 @@
-pub mod Found
 pub mod KnownFits
 pub mod Collected
+pub mod Places
+pub mod Kept
 pub mod Searched

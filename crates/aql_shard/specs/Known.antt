@@ -43,9 +43,9 @@ index_fact documents shape = record {
 -- ---- collections
 
 -- how many shards a collection has: those of its declaration, if there are servers
-abbrev pub shard_count : ℕ → Held → ℕ
-shard_count zero h = 1
-shard_count (suc servers) h = h.info.shards
+abbrev pub shard_count : ℕ → CollInfo → ℕ
+shard_count zero info = 1
+shard_count (suc servers) info = info.shards
 
 -- what is known of a collection, on so many servers
 abbrev pub coll_fact : ℕ → Held → CollFact
@@ -53,7 +53,7 @@ coll_fact servers h = record {
   name = h.info.name;
   edge = h.info.edge;
   documents = length h.documents;
-  shards = shard_count servers h;
+  shards = shard_count servers h.info;
   keys = h.info.keys;
   indexes = map (index_fact h.documents) (shapes h.info);
 }
@@ -64,4 +64,5 @@ facts_of servers held = record { servers = servers; collections = map (coll_fact
 
 -- the shards of the collection with this number: none where it is not declared
 abbrev pub shards_of : ℕ → List Held → ℕ → ℕ
-shards_of servers held number = unwrap_or (option_map (shard_count servers) (slice_get held number)) 0
+shards_of servers held number =
+    unwrap_or (option_map (λ (h : Held). shard_count servers h.info) (slice_get held number)) 0

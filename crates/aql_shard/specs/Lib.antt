@@ -1,6 +1,7 @@
 pub mod Holding
 pub mod Known
-pub mod Indexes
+pub mod Sharding
+pub mod Parts
 pub mod Datasets
 pub mod Theorem
 pub mod inner

@@ -1,10 +1,13 @@
-//! A collection of a catalog, by its number.
+//! A collection of a catalog.
 
 ghost use Rattle.std.specs.Prelude.{◌≡◌, ◌<◌, length, slice_get, Some};
+ghost use Rattle.aql_value.specs.View.{datum_of};
+ghost use Rattle.aql_doc.specs.Held.{documents_at};
 ghost use Rattle.aql_doc.specs.Limits.{IsDeclared};
+ghost use Rattle.aql_shard.specs.Known.{shard_count};
 
 use aql_doc::{Catalog, CollInfo};
-use aql_value::{CollNo, Items};
+use aql_value::{CollNo, DocNo, Items, Value};
 
 /// How a declared collection was declared, and its documents.
 pub(crate) fn collection_at(catalog: &Catalog, coll: CollNo) -> (&CollInfo, &Items)
@@ -20,4 +23,22 @@ pub(crate) fn collection_at(catalog: &Catalog, coll: CollNo) -> (&CollInfo, &Ite
         unreachable!()
     };
     (info, documents)
+}
+
+/// How many shards a collection has: those of its declaration, if there are servers.
+pub(crate) fn shard_count(servers: u32, info: &CollInfo) -> u32
+    ensures { result ≡ shard_count servers info.now }
+{
+    if servers == 0 { 1 } else { info.shards }
+}
+
+/// The document at a place of a collection.
+pub(crate) fn document_at(catalog: &Catalog, coll: CollNo, place: u32) -> &Value
+    requires { place < length (documents_at catalog.now coll.0) }
+    ensures { slice_get (documents_at catalog.now coll.0) place ≡ Some (datum_of result.now) }
+{
+    let Some(document) = catalog.document(coll, DocNo(place)) else {
+        unreachable!()
+    };
+    document
 }

@@ -2,12 +2,12 @@
 
 ghost use Rattle.std.specs.Prelude.{◌≡◌, ◌≤◌, map, option_map, slice_get, All, IfOk, Some};
 ghost use Rattle.aql_doc.specs.Limits.{IsDeclared};
-ghost use Rattle.aql_shard.specs.Known.{coll_fact, facts_of};
-ghost use Rattle.aql_shard.specs.Indexes.{indexes_of};
+ghost use Rattle.aql_shard.specs.Known.{coll_fact, facts_of, shapes};
+ghost use Rattle.aql_shard.specs.Parts.{indexes_by, parts_of};
 ghost use Rattle.aql_shard.specs.inner.Kept.{IsNarrow, widths_in, fact_by, facts_by};
 
-use crate::collections::collection_at;
-use crate::indexes::{AllIndexes, SortedIndexes};
+use crate::collections::{collection_at, shard_count};
+use crate::parts::{AllParts, Parts, SortedIndexes};
 use crate::shapes::{Shape, shapes_of};
 use aql_doc::{Catalog, CollInfo};
 use aql_index::SortedIndex;
@@ -65,8 +65,7 @@ fn coll_fact(
     indexes: &SortedIndexes,
 ) -> Result<CollFact, OutOfMemory>
     requires declared { IsDeclared info.now }
-    requires indexes { indexes.now
-        ≡ indexes_of (record { info = info.now; documents = documents.now }) }
+    requires indexes { indexes.now ≡ indexes_by (shapes info.now) documents.now }
     ensures { IfOk result (λ fact. fact
         ≡ coll_fact servers (record { info = info.now; documents = documents.now })) }
 {
@@ -75,7 +74,7 @@ fn coll_fact(
         name: info.name.copy(alloc)?,
         edge: info.edge,
         documents: documents.len() as u64,
-        shards: if servers == 0 { 1 } else { info.shards },
+        shards: shard_count(servers, info),
         keys: copy_texts(alloc, info.keys.as_slice())?,
         indexes: index_facts(alloc, shapes.as_slice(), indexes.as_slice())?,
     })
@@ -87,31 +86,31 @@ fn fact_at(
     servers: u32,
     catalog: &Catalog,
     coll: CollNo,
-    indexes: &SortedIndexes,
+    parts: &Parts,
 ) -> Result<CollFact, OutOfMemory>
-    requires { option_map indexes_of (slice_get catalog.now coll.0) ≡ Some indexes.now }
+    requires { option_map (parts_of servers) (slice_get catalog.now coll.0) ≡ Some parts.now }
     ensures { IfOk result
         (λ fact. option_map (coll_fact servers) (slice_get catalog.now coll.0) ≡ Some fact) }
 {
     let (info, documents) = collection_at(catalog, coll);
-    let fact = coll_fact(alloc, servers, info, documents, indexes)?;
+    let fact = coll_fact(alloc, servers, info, documents, &parts.whole.indexes)?;
     Ok(fact)
 }
 
-/// What is known of all collections, which have these indexes.
+/// What is known of all collections, which are kept in these parts.
 pub(crate) fn collect_facts(
     alloc: Global,
     servers: u32,
     catalog: &Catalog,
-    lists: &AllIndexes,
+    all: &AllParts,
 ) -> Result<Facts, OutOfMemory>
-    requires { lists.now ≡ map indexes_of catalog.now }
+    requires { all.now ≡ map (parts_of servers) catalog.now }
     ensures { IfOk result (λ facts. facts ≡ facts_of servers catalog.now) }
 {
     catalog.recall_limits();
     let mut collections = Seq::new(alloc);
-    for (i, indexes) in lists.as_slice().iter().enumerate() {
-        collections.push(fact_at(alloc, servers, catalog, CollNo(i as u32), indexes)?)?;
+    for (i, parts) in all.as_slice().iter().enumerate() {
+        collections.push(fact_at(alloc, servers, catalog, CollNo(i as u32), parts)?)?;
     }
     Ok(Facts {
         servers,

@@ -2,10 +2,12 @@
 #![tactic(auto)]
 
 mod collections;
-mod indexes;
 mod known;
 pub mod laws;
+mod parts;
 mod servers;
 mod shapes;
+mod sharding;
 
 pub use servers::{Servers, split};
+pub use sharding::{server_of, shard_of};

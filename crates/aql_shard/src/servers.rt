@@ -1,4 +1,4 @@
-ghost use Rattle.std.specs.Prelude.{◌≡◌, ◌<◌, length, filter, flat_map, option_map, slice_get, Some, IfOk, IfSome};
+ghost use Rattle.std.specs.Prelude.{◌≡◌, ◌<◌, ◌≤◌, length, filter, flat_map, option_map, slice_get, Some, IfOk, IfSome};
 ghost use Rattle.std.specs.Borrow.{sem};
 ghost use Rattle.std.specs.Io.BufRead.{Rests};
 ghost use Rattle.aql_value.specs.View.{datum_of};
@@ -15,8 +15,9 @@ ghost use Rattle.aql_shard.specs.Datasets.{stock, nothing_counted, one_read, one
 ghost use Rattle.aql_shard.specs.Known.{shards_of};
 ghost use Rattle.aql_shard.specs.contracts.servers.Servers.{the_row};
 
-use crate::indexes::{AllIndexes, build_all, index_at};
+use crate::collections::{document_at, shard_count};
 use crate::known::collect_facts;
+use crate::parts::{AllParts, build_all, index_in, part_at, place_in};
 use aql_block::Tally;
 use aql_doc::Catalog;
 use aql_index::{Bound, Span, Spans, spans_of};
@@ -33,7 +34,7 @@ use std::marker::Model;
 pub struct Servers {
     catalog: Catalog,
     servers: u32,
-    indexes: AllIndexes,
+    parts: AllParts,
     counts: Tally,
 }
 
@@ -42,7 +43,7 @@ impl Drop for Servers {
         let Servers {
             catalog: _,
             servers: _,
-            indexes: _,
+            parts: _,
             counts: _,
         } = self;
     }
@@ -51,7 +52,7 @@ impl Drop for Servers {
 impl Model for Servers {
     ghost use Rattle.std.specs.Prelude.{◌≡◌, map};
     ghost use Rattle.aql_shard.specs.Holding.{Holding, coded_holding};
-    ghost use Rattle.aql_shard.specs.Indexes.{indexes_of};
+    ghost use Rattle.aql_shard.specs.Parts.{parts_of};
 
     ghost Value = { Holding };
 
@@ -60,21 +61,22 @@ impl Model for Servers {
     ghost view = { λ s.
         record { held = s.catalog; servers = s.servers; counts = s.counts } };
 
-    ghost invariant = { λ s. (s.servers ≡ 0) × (s.indexes ≡ map indexes_of s.catalog) };
+    ghost invariant = { λ s. s.parts ≡ map (parts_of s.servers) s.catalog };
 }
 
-/// The documents of a catalog on so many servers, with their indexes. With 0, every collection is
-/// one shard, and all are in one place. Only want of memory is refused.
+/// The documents of a catalog on at most 16 servers, with their indexes. With 0, every collection is
+/// one shard, and all are in one place; else each has the shards of its declaration, and each
+/// document is on the one shard of its shard keys. Only want of memory is refused.
 pub fn split(alloc: Global, catalog: Catalog, servers: u32) -> Result<Servers, OutOfMemory>
-    requires { servers ≡ 0 }
+    requires { servers ≤ 16 }
     ensures { IfOk result (λ s.
         s ≡ record { held = catalog; servers = servers; counts = nothing_counted }) }
 {
-    let indexes = build_all(alloc, &catalog)?;
+    let parts = build_all(alloc, &catalog, servers)?;
     Ok(Servers {
         catalog,
         servers,
-        indexes,
+        parts,
         counts: Tally::new(),
     })
 }
@@ -94,7 +96,7 @@ impl Servers {
         ensures known { IfOk result (λ facts. facts ≡ (stock self.now).facts) }
         ensures meets { IfOk result (λ facts. Meets facts (stock self.now).db) }
     {
-        let facts = collect_facts(alloc, self.servers, &self.catalog, &self.indexes)?;
+        let facts = collect_facts(alloc, self.servers, &self.catalog, &self.parts)?;
         Ok(facts)
     }
 
@@ -118,7 +120,7 @@ impl Servers {
         ensures { result ≡ shards_of self.now.servers self.now.held coll.0 }
     {
         match self.catalog.info(coll) {
-            Some(_) => 1,
+            Some(info) => shard_count(self.servers, info),
             None => 0,
         }
     }
@@ -128,7 +130,7 @@ impl Servers {
         requires { IsShard (stock self.now).facts coll.0 shard }
         ensures { result ≡ length (documents_read (stock self.now) coll.0 shard) }
     {
-        self.catalog.count(coll)
+        part_at(&self.parts, coll, shard).places.len() as u64
     }
 
     /// The span of the documents in these bounds, in the order of an index, which is searched as
@@ -152,7 +154,8 @@ impl Servers {
             (range_of low.now high.now))
             (in_order_of (stock self.now) Outside coll.0 shard index) }
     {
-        index_at(&self.indexes, coll, index).range(equal, low, high)
+        let part = part_at(&self.parts, coll, shard);
+        index_in(part, index).range(equal, low, high)
     }
 
     /// The spans of the documents that have the equal values and then an element of the array, none
@@ -176,7 +179,8 @@ impl Servers {
             (one_of (datum_of list.now)))
             (in_order_of (stock self.now) Outside coll.0 shard index)) }
     {
-        let spans = spans_of(alloc, index_at(&self.indexes, coll, index), equal, list)?;
+        let part = part_at(&self.parts, coll, shard);
+        let spans = spans_of(alloc, index_in(part, index), equal, list)?;
         Ok(spans)
     }
 
@@ -199,13 +203,8 @@ impl Servers {
     {
         tally.add_full(1);
         self.counts.add_full(1);
-        let Some(documents) = self.catalog.documents(coll) else {
-            unreachable!()
-        };
-        let Some(document) = documents.get(place as usize) else {
-            unreachable!()
-        };
-        document
+        let at = place_in(part_at(&self.parts, coll, shard), place as usize);
+        document_at(&self.catalog, coll, at)
     }
 
     /// The document at a place in the order of an index. It is handed out and counted as one that
@@ -230,15 +229,11 @@ impl Servers {
         tally.add_indexed(1);
         self.counts.add_indexed(1);
         self.catalog.recall_limits();
-        let Some(found) = index_at(&self.indexes, coll, index).doc_at(place as u32) else {
+        let part = part_at(&self.parts, coll, shard);
+        let Some(found) = index_in(part, index).doc_at(place as u32) else {
             unreachable!()
         };
-        let Some(documents) = self.catalog.documents(coll) else {
-            unreachable!()
-        };
-        let Some(document) = documents.get(found as usize) else {
-            unreachable!()
-        };
-        document
+        let at = place_in(part, found as usize);
+        document_at(&self.catalog, coll, at)
     }
 }

@@ -14,7 +14,7 @@ use Rattle.aql_value.specs.Contents.{list, at_name, same}
 use Rattle.aql_meaning.specs.Clauses.{keys_cmp}
 use Rattle.aql_meaning.specs.Documents.{index_keys, Last, no_last, one_of, between, in_bounds, InIndexOrder}
 use Rattle.aql_index.specs.Bounds.{keys_within}
-use Rattle.aql_index.specs.Entries.{entries_from, entries_of, document_of, documents_by, is_before, entries_within}
+use Rattle.aql_index.specs.Entries.{entries_from, entries_of, document_at, document_of, documents_by, is_before, entries_within}
 use Rattle.aql_index.specs.declared.entries.Entry.{Entry}
 use Rattle.aql_index.specs.laws.Filters.{filter_map, filter_on}
 
@@ -25,19 +25,19 @@ at_seam : {X : Type 0} (front : List X) (x : X) (rest : List X)
 at_seam [] x rest = refl
 at_seam (y ∷ front) x rest = at_seam front x rest
 
-module _ (names : List (List ℕ)) (documents : List Datum) where
-  here : (front : List Datum) (d : Datum) (ds : List Datum) (place : ℕ) → place ≡ length front
-      → documents ≡ front ++ d ∷ ds → unwrap_or (slice_get documents place) null ≡ d
-  here front d ds place p e =
-      ap (λ xs. unwrap_or (slice_get xs place) null) e
-      ∙ ap (λ n. unwrap_or (slice_get (front ++ d ∷ ds) n) null) p
-      ∙ ap (λ o. unwrap_or o null) (at_seam front d ds)
+pub stands_at : (documents front : List Datum) (d : Datum) (ds : List Datum) (place : ℕ)
+    → place ≡ length front → documents ≡ front ++ d ∷ ds → document_at documents place ≡ d
+stands_at documents front d ds place p e =
+    ap (λ xs. document_at xs place) e
+    ∙ ap (document_at (front ++ d ∷ ds)) p
+    ∙ ap (λ o. unwrap_or o null) (at_seam front d ds)
 
+module _ (names : List (List ℕ)) (documents : List Datum) where
   seen_from : (front ds : List Datum) (place : ℕ) → place ≡ length front → documents ≡ front ++ ds
       → documents_by documents (entries_from place names ds) ≡ ds
   seen_from front [] place p e = refl
   seen_from front (d ∷ ds) place p e =
-      ap₂ (λ x xs. x ∷ xs) (here front d ds place p e)
+      ap₂ (λ x xs. x ∷ xs) (stands_at documents front d ds place p e)
       (seen_from (front ++ d ∷ []) ds (place + 1) (omega (arith, p, length-append front (d ∷ [])))
       (e ∙ sym (append_assoc front (d ∷ []) ds)))
 
@@ -52,7 +52,7 @@ module _ (names : List (List ℕ)) (documents : List Datum) where
       → AllByRecursion IsOf (entries_from place names ds)
   keyed_from front [] place p e = tt
   keyed_from front (d ∷ ds) place p e = (
-    ap (index_keys names) (sym (here front d ds place p e)),
+    ap (index_keys names) (sym (stands_at documents front d ds place p e)),
     keyed_from (front ++ d ∷ []) ds (place + 1) (omega (arith, p, length-append front (d ∷ [])))
         (e ∙ sym (append_assoc front (d ∷ []) ds)),
   )

@@ -1,5 +1,5 @@
 -- What the indexes that are kept say of their documents; for private clauses.
-use Rattle.std.specs.Prelude.{ℕ, ◌≤◌, ◌+◌, List, [], map, length, Option, slice_get, unwrap_or}
+use Rattle.std.specs.Prelude.{ℕ, ◌≤◌, ◌+◌, List, map, length}
 use Rattle.std.specs.List.{zip}
 use Rattle.aql_plan.specs.declared.facts.IndexFact.{IndexFact}
 use Rattle.aql_plan.specs.Facts.{numbers_below}
@@ -26,7 +26,3 @@ fact_by shape index = record {
 -- the same, each shape with the index at its place
 abbrev pub facts_by : List Shape → List IndexView → List IndexFact
 facts_by shapes indexes = map (λ (p : Shape × IndexView). fact_by p.0 p.1) (zip shapes indexes)
-
--- the index of a collection with this number
-abbrev pub kept_at : List (List IndexView) → ℕ → ℕ → Option IndexView
-kept_at indexes coll index = slice_get (unwrap_or (slice_get indexes coll) []) index

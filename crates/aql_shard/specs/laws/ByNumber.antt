@@ -3,6 +3,7 @@ use Rattle.std.proofs.Common.{◌≡◌, ◌∙◌, ℕ, zero, suc, List, [], �
 use Rattle.std.specs.Prelude.{Bool, IfSome, IsSome, option_map, slice_get, unwrap_or}
 use Rattle.std.specs.List.{AllByRecursion}
 use Rattle.std.proofs.lemmas.Option.{slice_get-map}
+use Rattle.aql_value.specs.Datum.{Datum}
 use Rattle.aql_value.specs.laws.Alls.{all_append}
 use Rattle.aql_doc.specs.declared.info.CollInfo.{CollInfo}
 use Rattle.aql_doc.specs.Held.{Held, documents_at}
@@ -14,13 +15,13 @@ use Rattle.aql_index.specs.Entries.{IndexView}
 use Rattle.aql_index.specs.IndexOrder.{index_of}
 use Rattle.aql_shard.specs.declared.shapes.Shape.{Shape}
 use Rattle.aql_shard.specs.Known.{sorted_by, lookups, shapes, index_fact, facts_of}
-use Rattle.aql_shard.specs.Indexes.{indexes_of}
-use Rattle.aql_shard.specs.inner.Kept.{kept_at}
 
--- its kind and attributes
+-- the kinds and attributes of all indexes of a collection, and of the one with a number
+abbrev pub shapes_at : List Held → ℕ → List Shape
+shapes_at held coll = unwrap_or (option_map (λ (h : Held). shapes h.info) (slice_get held coll)) []
+
 abbrev pub shape_at : List Held → ℕ → ℕ → Option Shape
-shape_at held coll index =
-    slice_get (unwrap_or (option_map (λ (h : Held). shapes h.info) (slice_get held coll)) []) index
+shape_at held coll index = slice_get (shapes_at held coll) index
 
 -- ---- as it is known
 
@@ -44,41 +45,6 @@ attributes_at servers held coll index =
         (option_map (index_fact (documents_at held coll)) o)) [] ≡ attributes_of o
     by None = refl
     by (Some s) = refl
-
--- ---- as it is kept
-
-kept_list : (held : List Held) (coll index : ℕ) → kept_at (map indexes_of held) coll index
-    ≡ option_map (λ (s : Shape). index_of s.attributes (documents_at held coll)) (shape_at held coll index)
-kept_list [] coll index = refl
-kept_list (h ∷ held) zero index =
-    slice_get-map (λ (s : Shape). index_of s.attributes h.documents) (shapes h.info) index
-kept_list (h ∷ held) (suc coll) index = kept_list held coll index
-
--- it is that of its attributes and of the documents
-pub is_kept : (servers : ℕ) (held : List Held) (coll index : ℕ) (v : IndexView)
-    → kept_at (map indexes_of held) coll index ≡ Some v
-    → v ≡ index_of (attributes_in (facts_of servers held) coll index) (documents_at held coll)
-is_kept servers held coll index v e =
-    by (shape_at held coll index) (sym (kept_list held coll index) ∙ e)
-    ∙ ap (λ names. index_of names (documents_at held coll)) (sym (attributes_at servers held coll index))
-  where
-    by : (o : Option Shape)
-        → option_map (λ (s : Shape). index_of s.attributes (documents_at held coll)) o ≡ Some v
-        → v ≡ index_of (attributes_of o) (documents_at held coll)
-    by None h = cc
-    by (Some s) h = let same : index_of s.attributes (documents_at held coll) ≡ v = cc in sym same
-
--- each that is known is kept
-pub has_kept : (servers : ℕ) (held : List Held) (coll index : ℕ) (P : IndexFact → Type 0)
-    → MatchOption (slice_get (indexes_in (facts_of servers held) coll) index) ⊥ P
-    → IsSome (kept_at (map indexes_of held) coll index)
-has_kept servers held coll index P h = subst IsSome (sym (kept_list held coll index))
-    (by (shape_at held coll index) (subst (λ o. MatchOption o ⊥ P) (known_at servers held coll index) h))
-  where
-    by : (o : Option Shape) → MatchOption (option_map (index_fact (documents_at held coll)) o) ⊥ P
-        → IsSome (option_map (λ (s : Shape). index_of s.attributes (documents_at held coll)) o)
-    by None k = absurd k
-    by (Some s) k = refl
 
 -- ---- a lookup has one attribute
 
@@ -112,25 +78,47 @@ single_at [] coll index = tt
 single_at (h ∷ held) zero index = all_at Single (shapes h.info) index (all_single h.info)
 single_at (h ∷ held) (suc coll) index = single_at held coll index
 
--- what is said of the kind and the number of attributes of an index that is known, holds of the one that is
--- kept by its width
-pub of_kept : (servers : ℕ) (held : List Held) (coll index : ℕ) (P : IndexKind → ℕ → Type 0)
-    (Q : ℕ → Type 0) → ((k : IndexKind) (n : ℕ) → IsOne k n → P k n → Q n) → (v : IndexView)
-    → kept_at (map indexes_of held) coll index ≡ Some v
-    → MatchOption (slice_get (indexes_in (facts_of servers held) coll) index) ⊥
-    (λ (i : IndexFact). P i.kind (length i.attributes)) → Q v.width
-of_kept servers held coll index P Q f v e h =
-    by (shape_at held coll index) (sym (kept_list held coll index) ∙ e) (single_at held coll index)
-    (subst (λ o. MatchOption o ⊥ (λ (i : IndexFact). P i.kind (length i.attributes)))
-    (known_at servers held coll index) h)
-  where
-    by : (o : Option Shape)
-        → option_map (λ (s : Shape). index_of s.attributes (documents_at held coll)) o ≡ Some v
-        → IfSome o Single
-        → MatchOption (option_map (index_fact (documents_at held coll)) o) ⊥
-        (λ (i : IndexFact). P i.kind (length i.attributes))
-        → Q v.width
-    by None same one k = absurd k
-    by (Some s) same one k =
-        let is : index_of s.attributes (documents_at held coll) ≡ v = cc in
-        subst (λ (w : IndexView). Q w.width) is (f s.kind (length s.attributes) one k)
+-- ---- as it is kept
+
+-- an index with a number that is kept of some documents is that of its attributes and of these documents; each
+-- that is known is kept; and what is said of the kind and the number of attributes of the one that is known,
+-- holds of the one that is kept by its width
+module _ (servers : ℕ) (held : List Held) (coll index : ℕ) (documents : List Datum) (kept : Option IndexView)
+    (is : kept ≡ option_map (λ (s : Shape). index_of s.attributes documents) (shape_at held coll index)) where
+  pub is_kept : (v : IndexView) → kept ≡ Some v
+      → v ≡ index_of (attributes_in (facts_of servers held) coll index) documents
+  is_kept v e = by (shape_at held coll index) (sym is ∙ e)
+      ∙ ap (λ names. index_of names documents) (sym (attributes_at servers held coll index))
+    where
+      by : (o : Option Shape) → option_map (λ (s : Shape). index_of s.attributes documents) o ≡ Some v
+          → v ≡ index_of (attributes_of o) documents
+      by None h = cc
+      by (Some s) h = let same : index_of s.attributes documents ≡ v = cc in sym same
+
+  pub has_kept : (P : IndexFact → Type 0)
+      → MatchOption (slice_get (indexes_in (facts_of servers held) coll) index) ⊥ P → IsSome kept
+  has_kept P h = subst IsSome (sym is)
+      (by (shape_at held coll index) (subst (λ o. MatchOption o ⊥ P) (known_at servers held coll index) h))
+    where
+      by : (o : Option Shape) → MatchOption (option_map (index_fact (documents_at held coll)) o) ⊥ P
+          → IsSome (option_map (λ (s : Shape). index_of s.attributes documents) o)
+      by None k = absurd k
+      by (Some s) k = refl
+
+  pub of_kept : (P : IndexKind → ℕ → Type 0) (Q : ℕ → Type 0)
+      → ((k : IndexKind) (n : ℕ) → IsOne k n → P k n → Q n) → (v : IndexView) → kept ≡ Some v
+      → MatchOption (slice_get (indexes_in (facts_of servers held) coll) index) ⊥
+      (λ (i : IndexFact). P i.kind (length i.attributes)) → Q v.width
+  of_kept P Q f v e h = by (shape_at held coll index) (sym is ∙ e) (single_at held coll index)
+      (subst (λ o. MatchOption o ⊥ (λ (i : IndexFact). P i.kind (length i.attributes)))
+      (known_at servers held coll index) h)
+    where
+      by : (o : Option Shape) → option_map (λ (s : Shape). index_of s.attributes documents) o ≡ Some v
+          → IfSome o Single
+          → MatchOption (option_map (index_fact (documents_at held coll)) o) ⊥
+          (λ (i : IndexFact). P i.kind (length i.attributes))
+          → Q v.width
+      by None same one k = absurd k
+      by (Some s) same one k =
+          let same : index_of s.attributes documents ≡ v = cc in
+          subst (λ (w : IndexView). Q w.width) same (f s.kind (length s.attributes) one k)

@@ -1,13 +1,16 @@
-use Rattle.std.proofs.Common.{length, ap, sym, ◌∙◌}
-use Rattle.aql_doc.specs.Held.{documents_at}
+use Rattle.std.proofs.Common.{map, ap, ◌∙◌}
 use Rattle.aql_shard.specs.Holding.{Holding}
-use Rattle.aql_shard.specs.laws.Split.{reads_here}
+use Rattle.aql_shard.specs.Parts.{parts_of}
+use Rattle.aql_shard.proofs.Searched.{parts_there, as_many}
 use Rattle.aql_shard.proofs.servers.Servers.length.Goals as goal
+
+pub part_at-requires : goal.part_at-requires
+part_at-requires c =
+    let theirs = c.self.invariant ∙ ap (λ (h : Holding). map (parts_of h.servers) h.held) c.self.view_is in
+    parts_there c.args.self.now c.self.inside.parts theirs c.args.coll.0 c.args.shard c.requires
 
 pub returns : goal.returns
 returns c =
-    let me = c.args.self.now in
-    let here = reads_here me.servers me.held c.args.coll.0 c.args.shard
-    (sym (ap (λ (h : Holding). h.servers) c.self.view_is) ∙ c.self.invariant.0) c.requires in
-    c.count.ensures ∙ ap length (ap (λ (h : Holding). documents_at h.held c.args.coll.0) c.self.view_is
-    ∙ sym here)
+    let theirs = c.self.invariant ∙ ap (λ (h : Holding). map (parts_of h.servers) h.held) c.self.view_is in
+    c.len.ensures ∙ as_many c.args.self.now c.self.inside.parts theirs c.args.coll.0 c.args.shard c.requires
+    c.part_at.result.now c.part_at.ensures

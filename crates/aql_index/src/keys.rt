@@ -1,0 +1,74 @@
+//! The values of an index's attributes.
+
+ghost use Rattle.std.specs.Prelude.{◌≡◌, IfOk};
+ghost use Rattle.aql_value.specs.View.{datum_of, datums_in};
+ghost use Rattle.aql_meaning.specs.Documents.{index_keys};
+
+use aql_value::{Items, OutOfMemory, Text, Value, copy_attribute};
+use std::alloc::Global;
+use std::marker::Model;
+use std::slice;
+
+// One that is alone stands without a list of its own.
+#[derive(Drop)]
+enum Values {
+    One(Value),
+    Several(Items),
+}
+
+/// The values that a document has of an index's attributes. Contracts see the list of their datums.
+pub struct Keys {
+    values: Values,
+}
+
+impl Drop for Keys {
+    fn drop(self) {
+        let Keys { values: _ } = self;
+    }
+}
+
+impl Model for Keys {
+    ghost use Rattle.std.specs.Prelude.{List};
+    ghost use Rattle.aql_value.specs.Datum.{Datum, coded_datums};
+    ghost use Rattle.aql_index.specs.inner.Values.{datums_of};
+
+    ghost Value = { List Datum };
+
+    ghost coded = { coded_datums };
+
+    ghost view = { λ k. datums_of k.values };
+}
+
+// Copies of the attributes of these names, in a list.
+fn copy_attributes(alloc: Global, document: &Value, names: &[Text]) -> Result<Items, OutOfMemory>
+    ensures { IfOk result (λ keys. keys ≡ index_keys names.now (datum_of document.now)) }
+{
+    let mut keys = Items::new(alloc);
+    for name in names {
+        keys.push(copy_attribute(alloc, document, name.as_str())?)?;
+    }
+    Ok(keys)
+}
+
+/// Copies of the attributes of these names.
+pub(crate) fn keys_of(alloc: Global, document: &Value, names: &[Text]) -> Result<Keys, OutOfMemory>
+    ensures { IfOk result (λ keys. keys ≡ index_keys names.now (datum_of document.now)) }
+{
+    let values = match names {
+        [name] => Values::One(copy_attribute(alloc, document, name.as_str())?),
+        _ => Values::Several(copy_attributes(alloc, document, names)?),
+    };
+    Ok(Keys { values })
+}
+
+impl Keys {
+    /// The values, borrowed.
+    pub(crate) fn as_slice(&self) -> &[Value]
+        ensures { datums_in result.now ≡ self.now }
+    {
+        match &self.values {
+            Values::One(value) => slice::from_ref(value),
+            Values::Several(values) => values.as_slice(),
+        }
+    }
+}

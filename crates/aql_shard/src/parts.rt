@@ -1,0 +1,213 @@
+//! The parts of a collection that servers keep: all its documents, and those of each shard.
+
+ghost use Rattle.std.specs.Prelude.{◌≡◌, ◌<◌, ◌≤◌, ◌^◌, length, map, option_map, slice_get, IfOk, IsSome, Some};
+ghost use Rattle.std.specs.List.{All};
+ghost use Rattle.aql_value.specs.View.{datums_in};
+ghost use Rattle.aql_plan.specs.Facts.{numbers_below};
+ghost use Rattle.aql_index.specs.Entries.{standing_at};
+ghost use Rattle.aql_shard.specs.Parts.{part_of, whole_of, shard_parts, parts_of, part_at};
+ghost use Rattle.aql_shard.specs.Sharding.{shard_by, places_from};
+
+use crate::collections::{collection_at, shard_count};
+use crate::shapes::{Shape, shapes_of};
+use crate::sharding::shard_by;
+use aql_doc::Catalog;
+use aql_index::SortedIndex;
+use aql_value::{CollNo, Items, Names, OutOfMemory, Seq, Value};
+use std::alloc::Global;
+
+/// The indexes of some documents.
+pub(crate) type SortedIndexes = Seq<SortedIndex>;
+
+type Numbers = Seq<u32>;
+
+/// Documents of a collection that are read together: their places in it, and their indexes.
+#[derive(Drop)]
+pub(crate) struct Part {
+    pub(crate) places: Numbers,
+    pub(crate) indexes: SortedIndexes,
+}
+
+/// All documents of a collection and, where it has several shards, those of each.
+#[derive(Drop)]
+pub(crate) struct Parts {
+    pub(crate) whole: Part,
+    pub(crate) shards: Seq<Part>,
+}
+
+/// The parts of each collection of a catalog.
+pub(crate) type AllParts = Seq<Parts>;
+
+// The part of the documents at these places, with indexes of these shapes.
+fn build(
+    alloc: Global,
+    shapes: &[Shape],
+    documents: &Items,
+    places: Numbers,
+) -> Result<Part, OutOfMemory>
+    requires within { All (λ place. place < length documents.now) places }
+    requires few { length places < 2 ^ 32 }
+    ensures { IfOk result (λ part. part
+        ≡ part_of shapes.now places (standing_at documents.now places)) }
+{
+    let mut indexes = SortedIndexes::new(alloc);
+    for shape in shapes {
+        let at = places.as_slice();
+        let index = SortedIndex::build_at(alloc, documents, at, &shape.attributes)?;
+        indexes.push(index)?;
+    }
+    Ok(Part { places, indexes })
+}
+
+// The places of so many documents.
+fn all_places(alloc: Global, count: usize) -> Result<Numbers, OutOfMemory>
+    requires { count < 2 ^ 32 }
+    ensures { IfOk result (λ places. places ≡ numbers_below count) }
+{
+    let mut places = Numbers::new(alloc);
+    for place in 0..count {
+        places.push(place as u32)?;
+    }
+    Ok(places)
+}
+
+// The shard of each document.
+fn shards_by(
+    alloc: Global,
+    documents: &[Value],
+    keys: &Names,
+    shards: u32,
+) -> Result<Numbers, OutOfMemory>
+    requires { 1 ≤ shards }
+    ensures { IfOk result
+        (λ all. all ≡ map (shard_by shards keys.now) (datums_in documents.now)) }
+{
+    let mut all = Numbers::new(alloc);
+    for document in documents {
+        all.push(shard_by(alloc, document, keys, shards)?)?;
+    }
+    Ok(all)
+}
+
+// The places of the documents of a shard, by the shards of all.
+fn places_on(alloc: Global, shards: &[u32], shard: u32) -> Result<Numbers, OutOfMemory>
+    requires { length shards.now < 2 ^ 32 }
+    ensures { IfOk result (λ places. places ≡ places_from 0 shard shards.now) }
+{
+    let mut places = Numbers::new(alloc);
+    for (place, number) in shards.iter().enumerate() {
+        if *number == shard {
+            places.push(place as u32)?;
+        }
+    }
+    Ok(places)
+}
+
+// The part of all documents of a collection.
+fn build_whole(alloc: Global, shapes: &[Shape], documents: &Items) -> Result<Part, OutOfMemory>
+    requires { length documents.now < 2 ^ 32 }
+    ensures { IfOk result (λ part. part ≡ whole_of shapes.now documents.now) }
+{
+    let places = all_places(alloc, documents.len())?;
+    let part = build(alloc, shapes, documents, places)?;
+    Ok(part)
+}
+
+// The parts of its shards, so many; one that is alone is the whole.
+fn build_shards(
+    alloc: Global,
+    shapes: &[Shape],
+    documents: &Items,
+    keys: &Names,
+    shards: u32,
+) -> Result<Seq<Part>, OutOfMemory>
+    requires shards { 1 ≤ shards }
+    requires few { length documents.now < 2 ^ 32 }
+    ensures { IfOk result
+        (λ parts. parts ≡ shard_parts shapes.now keys.now documents.now shards) }
+{
+    let mut parts = Seq::new(alloc);
+    if shards == 1 {
+        return Ok(parts);
+    }
+    let all = shards_by(alloc, documents.as_slice(), keys, shards)?;
+    for shard in 0..shards {
+        let places = places_on(alloc, all.as_slice(), shard)?;
+        parts.push(build(alloc, shapes, documents, places)?)?;
+    }
+    Ok(parts)
+}
+
+// The parts of the collection with this number.
+fn build_at(
+    alloc: Global,
+    catalog: &Catalog,
+    coll: CollNo,
+    servers: u32,
+) -> Result<Parts, OutOfMemory>
+    requires { coll.0 < length catalog.now }
+    ensures { IfOk result
+        (λ parts. option_map (parts_of servers) (slice_get catalog.now coll.0) ≡ Some parts) }
+{
+    catalog.recall_limits();
+    let (info, documents) = collection_at(catalog, coll);
+    let shapes = shapes_of(alloc, info)?;
+    let whole = build_whole(alloc, shapes.as_slice(), documents)?;
+    let count = shard_count(servers, info);
+    let shards = build_shards(alloc, shapes.as_slice(), documents, &info.keys, count)?;
+    Ok(Parts { whole, shards })
+}
+
+/// The parts of all collections, on so many servers.
+pub(crate) fn build_all(
+    alloc: Global,
+    catalog: &Catalog,
+    servers: u32,
+) -> Result<AllParts, OutOfMemory>
+    ensures { IfOk result (λ all. all ≡ map (parts_of servers) catalog.now) }
+{
+    let mut all = AllParts::new(alloc);
+    for i in 0..catalog.len() {
+        all.push(build_at(alloc, catalog, CollNo(i as u32), servers)?)?;
+    }
+    Ok(all)
+}
+
+/// The part that a reader of a collection, or of one shard of it, finds.
+pub(crate) fn part_at(all: &AllParts, coll: CollNo, shard: Option<u32>) -> &Part
+    requires { coll.0 < length all.now }
+    ensures { part_at all.now coll.0 shard ≡ Some result.now }
+{
+    let Some(parts) = all.get(coll.0 as usize) else {
+        unreachable!()
+    };
+    let Some(shard) = shard else {
+        return &parts.whole;
+    };
+    match parts.shards.get(shard as usize) {
+        Some(part) => part,
+        None => &parts.whole,
+    }
+}
+
+/// The index of a part with a number.
+pub(crate) fn index_in(part: &Part, index: u32) -> &SortedIndex
+    requires { IsSome (slice_get part.now.indexes index) }
+    ensures { slice_get part.now.indexes index ≡ Some result.now }
+{
+    let Some(found) = part.indexes.get(index as usize) else {
+        unreachable!()
+    };
+    found
+}
+
+/// Where in a collection the document stands that has a place in this part of it.
+pub(crate) fn place_in(part: &Part, place: usize) -> u32
+    requires { place < length part.now.places }
+    ensures { slice_get part.now.places place ≡ Some result }
+{
+    let Some(at) = part.places.get(place) else {
+        unreachable!()
+    };
+    *at
+}
