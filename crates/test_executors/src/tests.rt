@@ -4,6 +4,7 @@ mod indexes;
 mod leaves;
 mod lists;
 mod memory;
+mod nets;
 mod rows;
 mod scans;
 mod shelves;

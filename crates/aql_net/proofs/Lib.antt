@@ -1,0 +1,3 @@
+pub mod Numbered
+pub mod Lawful
+pub mod Told

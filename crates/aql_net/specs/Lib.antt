@@ -1,0 +1,5 @@
+pub mod Logs
+pub mod Traffic
+pub mod Picking
+pub mod inner
+pub mod laws
