@@ -1,6 +1,7 @@
 mod calculations;
 mod checked;
 mod chosen;
+mod clusters;
 mod conditions;
 mod estimates;
 mod expressions;

@@ -25,10 +25,13 @@ fn write_maybe_var(before: &str, var: Option<u32>, page: &mut Page) {
     }
 }
 
-fn write_keys(keys: &[Key], page: &mut Page) {
-    page.put(" / sort");
+fn write_keys(before: &str, keys: &[Key], page: &mut Page) {
+    page.put(before);
     for key in keys {
         write(" ", &key.expr, page);
+        if key.descending {
+            page.put(" down");
+        }
     }
 }
 
@@ -130,6 +133,20 @@ fn write_source(node: &Node, page: &mut Page) {
             write_maybe(" prune ", prune, page);
             write_maybe(" if ", filter, page);
         }
+        _ => write_link(node, page),
+    }
+}
+
+// A node that only plans with fragments have.
+fn write_link(node: &Node, page: &mut Page) {
+    match node {
+        Node::Scatter { coll, only } => {
+            page.put(" / scatter ");
+            page.put_shown(&coll.0);
+            write_maybe_var(" only ", *only, page);
+        }
+        Node::Remote => page.put(" / link"),
+        Node::Gather { order } => write_keys(" / gather", order.as_slice(), page),
         _ => page.put("?"),
     }
 }
@@ -142,7 +159,7 @@ fn write_node(node: &Node, page: &mut Page) {
         }
         Node::Filter { cond } => write(" / filter ", cond, page),
         Node::Sort { keys, limit } => {
-            write_keys(keys.as_slice(), page);
+            write_keys(" / sort", keys.as_slice(), page);
             write_limit(limit, page);
         }
         Node::Limit { offset, count } => {

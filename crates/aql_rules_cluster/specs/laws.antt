@@ -1,0 +1,10 @@
+pub mod Merging
+pub mod ShardParts
+pub mod Gathered
+pub mod Projections
+pub mod InOrder
+pub mod Scattered
+pub mod StayWell
+pub mod Places
+pub mod Walking
+pub mod Passes
