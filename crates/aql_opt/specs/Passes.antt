@@ -18,6 +18,8 @@ use Rattle.aql_rules_order.specs.RemoveCollectVariables.{Drops}
 use Rattle.aql_rules_order.specs.RemoveRedundantSorts.{Unsorts}
 use Rattle.aql_rules_order.specs.SortLimit.{Limits}
 use Rattle.aql_rules_index.specs.UseIndexes.{UsesIndex}
+use Rattle.aql_rules_index.specs.RemoveFilterCoveredByIndex.{RemovesCovered}
+use Rattle.aql_rules_index.specs.UseIndexForSort.{SortsByIndex}
 use Rattle.aql_rules_filter.specs.MoveFiltersUp.{MovesUp}
 use Rattle.aql_rules_filter.specs.RemoveUnnecessaryFilters.{Removes as RemovesFilter}
 use Rattle.aql_rules_filter.specs.FuseFilters.{Fuses}
@@ -38,6 +40,8 @@ IsPassOf rule.ReplaceOrWithIn facts p q changed = IsPass (AtExprs Replaces) p q 
 IsPassOf rule.FuseFilters facts p q changed = IsPass Fuses p q changed
 IsPassOf rule.OptimizeTraversals facts p q changed = IsPass Optimizes p q changed
 IsPassOf rule.UseIndexes facts p q changed = IsPass (UsesIndex facts) p q changed
+IsPassOf rule.RemoveFilterCoveredByIndex facts p q changed = IsPass (RemovesCovered facts) p q changed
+IsPassOf rule.UseIndexForSort facts p q changed = IsPass (SortsByIndex facts) p q changed
 IsPassOf rule.SortLimit facts p q changed = IsPass Limits p q changed
 IsPassOf rule.MoveFiltersIntoEnumerate facts p q changed = IsPass MovesIn p q changed
 IsPassOf rule.ReduceExtractionToProjection facts p q changed = IsPass (Reduces facts) p q changed

@@ -19,7 +19,7 @@ use aql_rules_filter::{
     FuseFilters, MoveFiltersIntoEnumerate, MoveFiltersUp, OptimizeTraversals,
     RemoveUnnecessaryFilters,
 };
-use aql_rules_index::UseIndexes;
+use aql_rules_index::{RemoveFilterCoveredByIndex, UseIndexForSort, UseIndexes};
 use aql_rules_order::{InlineSubqueries, RemoveCollectVariables, RemoveRedundantSorts, SortLimit};
 use aql_value::OutOfMemory;
 use std::alloc::Global;
@@ -63,6 +63,10 @@ pub(crate) fn pass_of(
         RuleName::FuseFilters => run_part_pass(alloc, &FuseFilters, plan, facts),
         RuleName::OptimizeTraversals => run_part_pass(alloc, &OptimizeTraversals, plan, facts),
         RuleName::UseIndexes => run_part_pass(alloc, &UseIndexes, plan, facts),
+        RuleName::RemoveFilterCoveredByIndex => {
+            run_part_pass(alloc, &RemoveFilterCoveredByIndex, plan, facts)
+        }
+        RuleName::UseIndexForSort => run_part_pass(alloc, &UseIndexForSort, plan, facts),
         RuleName::SortLimit => run_part_pass(alloc, &SortLimit, plan, facts),
         RuleName::MoveFiltersIntoEnumerate => {
             run_part_pass(alloc, &MoveFiltersIntoEnumerate, plan, facts)

@@ -1,5 +1,5 @@
 -- What the rules on indexes rest on, each the contract of a function.
-use Rattle.std.specs.Prelude.{◌≡◌, ◌<◌, ◌+◌, ℕ, List, ◌∷◌, [], Bool, true, false, take, Option, Some, None}
+use Rattle.std.specs.Prelude.{◌≡◌, ℕ, List, ◌∷◌, [], Bool, true, take, Option, Some, None}
 use Rattle.std.specs.List.{AllByRecursion, list_all}
 use Rattle.aql_value.specs.Datum.{Datum}
 use Rattle.aql_tree.specs.declared.syntax.Ident.{Ident}
@@ -7,26 +7,17 @@ use Rattle.aql_tree.specs.Tree.{ExprTree, ExprTrees, no_expr}
 use Rattle.aql_meaning.specs.AtRows.{value_of, keys_of}
 use Rattle.aql_meaning.specs.Documents.{Last, last_map, in_bounds}
 use Rattle.aql_meaning.specs.Row.{Row, bind}
-use Rattle.aql_meaning.specs.Uses.{Uses}
-use Rattle.aql_plan.specs.declared.facts.Facts.{Facts}
 use Rattle.aql_plan.specs.declared.facts.IndexKind.{IndexKind}
 use Rattle.aql_plan.specs.Facts.{attributes_in}
 use Rattle.aql_plan.specs.FirstPlan.{conjuncts}
 use Rattle.aql_plan.specs.Fits.{attribute_keys}
-use Rattle.aql_plan.specs.Nodes.{weight}
-use Rattle.aql_plan.specs.Plan.{Reading, Plan, Over, Node, EnumerateCollection, Index, Filter, Sort}
+use Rattle.aql_plan.specs.Plan.{Reading, Plan, Over, EnumerateCollection, Index, Filter, Sort}
 use Rattle.aql_plan.specs.Runs.{Dataset, Site, Outside, Runs, Gives}
-use Rattle.aql_rewrite.specs.declared.swap.Rename.{Rename}
-use Rattle.aql_rewrite.specs.Placed.{Placed}
-use Rattle.aql_rewrite.specs.Places.{Rewriting}
-use Rattle.aql_rewrite.specs.Sums.{total}
-use Rattle.aql_rewrite.specs.Swaps.{Replaced}
 use Rattle.aql_rules_filter.specs.laws.Filtered.{holds}
 use Rattle.aql_rules_index.specs.Choice.{Item, item_of, items_of, bounds_for, Bounds}
-use Rattle.aql_rules_index.specs.RemoveFilterCoveredByIndex.{IsCovered, Drops, RemovesCovered}
+use Rattle.aql_rules_index.specs.RemoveFilterCoveredByIndex.{IsCovered, Drops}
 use Rattle.aql_rules_index.specs.Tests.{says, in_index}
-use Rattle.aql_rules_index.specs.UseIndexes.{UsesIndex}
-use Rattle.aql_rules_index.specs.UseIndexForSort.{directions_of, SortsByIndex}
+use Rattle.aql_rules_index.specs.UseIndexForSort.{directions_of}
 
 -- ---- items and bounds
 
@@ -116,27 +107,3 @@ OrderedIndexIsSorted = (w : Dataset) (site : Site) (x : Reading) (index : ℕ) (
     → Gives (Index x index equal last None) w site start (row ∷ []) out
     × Gives (Sort (directions_of descending (take k (attributes_in w.facts x.coll index)))
     (attribute_keys x.var (take k (attributes_in w.facts x.coll index))) None) w site start out out
-
--- ---- the rules, for what the nodes above use
-
-abbrev pub ChosenIndexRefines : Type 0
-ChosenIndexRefines = (facts : Facts) (us : Uses) (p q : Plan) (r : Option Rename)
-    → UsesIndex facts us p q r → Replaced false facts us p q r
-
-abbrev pub CoveredItemsMayGo : Type 0
-CoveredItemsMayGo = (facts : Facts) (us : Uses) (p q : Plan) (r : Option Rename)
-    → RemovesCovered facts us p q r → Replaced false facts us p q r
-
-abbrev pub SortsByIndexRefines : Type 0
-SortsByIndexRefines = (facts : Facts) (outer away : List Ident) (us : Uses) (p q : Plan) (r : Option Rename)
-    → Placed false false facts outer away us p → SortsByIndex facts us p q r → Replaced false facts us p q r
-
--- what a rule makes of a part does not hang on what the nodes above use, and it renames nothing
-abbrev pub LooksAtPart : (Facts → Rewriting) → Type 0
-LooksAtPart R = (facts : Facts) (us vs : Uses) (p q : Plan) (r : Option Rename) → R facts us p q r
-    → R facts vs p q r × (r ≡ None)
-
--- each application to a part lowers the number of its nodes and what they count beside
-abbrev pub Shrinks : (Node → ℕ) → (Facts → Rewriting) → Type 0
-Shrinks size R = (facts : Facts) (us : Uses) (p q : Plan) (r : Option Rename) → R facts us p q r
-    → weight q + total size q < weight p + total size p

@@ -10,4 +10,7 @@ pub mod Shrinking
 pub mod BoundsFit
 pub mod Nameless
 pub mod IndexUsed
+pub mod IndexReads
+pub mod ItemsRemoved
+pub mod SortReplaced
 pub mod LeastGuess

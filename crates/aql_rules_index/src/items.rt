@@ -84,8 +84,8 @@ fn is_variable(var: u32, expr: &Expr) -> bool
     }
 }
 
-// The name in `x.name`, where x is the variable of this number.
-fn attribute_of(var: u32, expr: &Expr) -> Option<&Text>
+/// The name in `x.name`, where x is the variable of this number.
+pub(crate) fn attribute_of(var: u32, expr: &Expr) -> Option<&Text>
     ensures { option_map (λ name. name.now) result
         ≡ spec_attribute_of (Num var) (tree expr.now) }
 {

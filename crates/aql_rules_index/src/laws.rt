@@ -4,13 +4,7 @@
 ghost use Rattle.aql_rules_index.specs.Theorems.{ItemsHoldAsTheySay, BoundsAreImplied, BoundsImply};
 ghost use Rattle.aql_rules_index.specs.Theorems.{IndexNarrows, ConditionMayBeReplaced, FilterMayGo};
 ghost use Rattle.aql_rules_index.specs.Theorems.{UseIndexesRefines, RemoveFilterCoveredByIndexRefines};
-ghost use Rattle.aql_rules_index.specs.Theorems.{OrderedIndexIsSorted, ChosenIndexRefines};
-ghost use Rattle.aql_rules_index.specs.Measures.{is_enumeration, condition_size, nothing};
-ghost use Rattle.aql_rules_index.specs.RemoveFilterCoveredByIndex.{RemovesCovered};
-ghost use Rattle.aql_rules_index.specs.Theorems.{CoveredItemsMayGo, SortsByIndexRefines};
-ghost use Rattle.aql_rules_index.specs.Theorems.{LooksAtPart, Shrinks};
-ghost use Rattle.aql_rules_index.specs.UseIndexes.{UsesIndex};
-ghost use Rattle.aql_rules_index.specs.UseIndexForSort.{SortsByIndex};
+ghost use Rattle.aql_rules_index.specs.Theorems.{OrderedIndexIsSorted};
 
 /// An item that fits holds of a document beside a row as it says.
 pub fn items_hold_as_they_say()
@@ -55,36 +49,4 @@ pub fn remove_filter_covered_by_index_refines()
 /// and a Sort by the first attributes of the index may give of that.
 pub fn ordered_index_is_sorted()
     ensures { OrderedIndexIsSorted }
-{}
-
-/// use-indexes: what the rule makes of a part refines it for what the nodes above use.
-pub fn chosen_index_refines()
-    ensures { ChosenIndexRefines }
-{}
-
-/// remove-filter-covered-by-index: what the rule makes of a part refines it for what the nodes above
-/// use.
-pub fn covered_items_may_go()
-    ensures { CoveredItemsMayGo }
-{}
-
-/// use-index-for-sort: what the rule makes of a part of a well-formed plan refines it for what the
-/// nodes above use.
-pub fn sorts_by_index_refine()
-    ensures { SortsByIndexRefines }
-{}
-
-/// What a rule makes of a part does not hang on what the nodes above use, and it renames nothing.
-pub fn rules_look_at_the_part()
-    ensures used { LooksAtPart UsesIndex }
-    ensures covered { LooksAtPart RemovesCovered }
-    ensures sorted { LooksAtPart SortsByIndex }
-{}
-
-/// Each application of a rule to a part lowers the number of its nodes and what they count beside:
-/// EnumerateCollections, the sizes of conditions, or nothing.
-pub fn rules_shrink()
-    ensures used { Shrinks is_enumeration UsesIndex }
-    ensures covered { Shrinks condition_size RemovesCovered }
-    ensures sorted { Shrinks nothing SortsByIndex }
 {}

@@ -5,6 +5,10 @@ mod choice;
 mod items;
 pub mod laws;
 mod readers;
+mod remove_filter_covered_by_index;
+mod use_index_for_sort;
 mod use_indexes;
 
+pub use remove_filter_covered_by_index::RemoveFilterCoveredByIndex;
+pub use use_index_for_sort::UseIndexForSort;
 pub use use_indexes::UseIndexes;

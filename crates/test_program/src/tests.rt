@@ -5,5 +5,6 @@ mod rule_sets;
 mod scoping;
 mod scoping_rows;
 mod scripts;
+mod shards;
 mod shell;
 mod streams;

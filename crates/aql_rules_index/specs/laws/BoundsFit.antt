@@ -50,7 +50,7 @@ module _ (P : ExprTree → Type 0)
       let k = split a (link_then op b no_links) p in left_has op a b (attribute_of x a) i k.0 k.1.0 h
   link_has a (link_then op b ls) i p h = absurd (cc)
 
-  item_has : (e : ExprTree) (i : Item) → P e → item_of x e ≡ Some i → HasOther i
+  pub item_has : (e : ExprTree) (i : Item) → P e → item_of x e ≡ Some i → HasOther i
   item_has (chain a ls) i p h = link_has a ls i p h
   item_has e i p h = absurd (cc)
 

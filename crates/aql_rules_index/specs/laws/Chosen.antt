@@ -2,19 +2,21 @@
 use Rattle.std.proofs.Common.{◌≡◌, ◌∙◌, ◌+◌, ℕ, suc, List, [], ◌∷◌, ◌++◌, Bool, true, false, cond, Option, Some, None, refl, sym, ap, subst, arith}
 use Rattle.std.specs.Prelude.{unwrap_or, option_map, slice_get}
 use Rattle.std.specs.List.{AllByRecursion}
+use Rattle.aql_meaning.specs.Uses.{Uses}
 use Rattle.aql_plan.specs.declared.facts.Facts.{Facts}
 use Rattle.aql_plan.specs.declared.facts.IndexFact.{IndexFact}
 use Rattle.aql_plan.specs.declared.facts.IndexKind.TheVariants as kind
 use Rattle.aql_plan.specs.Facts.{indexes_in, attributes_in}
 use Rattle.aql_plan.specs.FirstPlan.{conjuncts}
-use Rattle.aql_plan.specs.Plan.{Over, Index, Filter}
+use Rattle.aql_plan.specs.Plan.{Plan, Over, Index, Filter}
 use Rattle.aql_plan.specs.Refines.{dataset}
 use Rattle.aql_plan.specs.Runs.{Outside, Runs}
 use Rattle.aql_plan_laws.specs.laws.Agreement.{rows_agree}
+use Rattle.aql_rewrite.specs.declared.swap.Rename.{Rename}
+use Rattle.aql_rewrite.specs.Swaps.{Replaced}
 use Rattle.aql_value.specs.laws.Alls.{all_more}
 use Rattle.aql_rules_index.specs.Choice.{Item, items_of, Bounds, bounds_for, kind_in, has_bound, Candidate, candidates_from, IsChosen}
-use Rattle.aql_rules_index.specs.Theorems.{ChosenIndexRefines}
-use Rattle.aql_rules_index.specs.UseIndexes.{used}
+use Rattle.aql_rules_index.specs.UseIndexes.{UsesIndex, used}
 use Rattle.aql_rules_index.specs.laws.Rules.{uses_index}
 
 module _ (is : List Item) where
@@ -79,7 +81,8 @@ chosen_bounds facts coll is chosen h = h.given
     (unwrap_or (option_map (λ (i : IndexFact). i.kind) o) kind.Sorted)
     (unwrap_or (option_map (λ (i : IndexFact). i.attributes) o) []) is) h.there)
 
-pub chosen_refines : ChosenIndexRefines
+pub chosen_refines : (facts : Facts) (us : Uses) (p q : Plan) (r : Option Rename) → UsesIndex facts us p q r
+    → Replaced false facts us p q r
 chosen_refines facts _ _ _ _ (used {us = us} {b = b} {x = x} {c = c} {chosen = chosen} f a h) =
     λ db meets start out g. (
       out,

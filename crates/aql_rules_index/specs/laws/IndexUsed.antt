@@ -1,7 +1,7 @@
 -- What the rule use-indexes shows of itself beside what it gives: a well-formed plan stays so, and its pass
 -- ends.
-use Rattle.std.proofs.Common.{◌≡◌, ◌∙◌, ◌<◌, ◌+◌, ℕ, List, [], ◌∷◌, ◌++◌, Bool, true, false, true≢false, Option, Some, None, refl, sym, ap, subst, arith}
-use Rattle.std.specs.Prelude.{◌||◌, ◌&&◌, option_map, slice_get, length, MatchOption}
+use Rattle.std.proofs.Common.{◌≡◌, ◌∙◌, ◌<◌, ℕ, List, [], ◌∷◌, ◌++◌, true, false, Option, Some, None, refl, sym, ap, subst, arith}
+use Rattle.std.specs.Prelude.{◌||◌, slice_get, length, MatchOption}
 use Rattle.std.specs.List.{AllByRecursion}
 use Rattle.std.proofs.lemmas.Bool.{or_parts}
 use Rattle.aql_value.specs.laws.Alls.{all_more}
@@ -32,10 +32,10 @@ use Rattle.aql_rewrite.specs.laws.Falling.{total_falls}
 use Rattle.aql_rules_filter.specs.Readers.{filter_in}
 use Rattle.aql_rules_filter.specs.laws.Filters.{filter_shaped}
 use Rattle.aql_rules_filter.specs.laws.Joined.{split_plain, parts_plain, IsFound, split_found, parts_found}
-use Rattle.aql_rules_index.specs.Choice.{Item, items_of, Bounds, bounds_for, has_bound, Candidate, candidates, IsChosen}
+use Rattle.aql_rules_index.specs.Choice.{Item, items_of, Bounds, has_bound, Candidate, candidates, IsChosen}
 use Rattle.aql_rules_index.specs.Measures.{is_enumeration}
 use Rattle.aql_rules_index.specs.UseIndexes.{UsesIndex, used}
-use Rattle.aql_rules_index.specs.inner.Readers.{where_bare, bare_reading, var_and_coll, indexed, input_indexed}
+use Rattle.aql_rules_index.specs.inner.Readers.{where_bare, bare_reading, var_and_coll, input_indexed}
 use Rattle.aql_rules_index.specs.laws.BoundsFit.{HasOther, items_have, EachHas, EndHas, LastHas, BoundsHave, bounds_have, bounds_fit, kind_fits}
 use Rattle.aql_rules_index.specs.laws.Chosen.{IsIndexOf, chosen_of}
 use Rattle.aql_rules_index.specs.laws.Items.{some_same}

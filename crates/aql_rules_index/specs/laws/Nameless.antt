@@ -1,6 +1,6 @@
 -- A sum over nodes that a rule lowers at its place, it lowers in the whole plan: for any number, where the rule
 -- renames nothing.
-use Rattle.std.proofs.Common.{◌≡◌, ℕ, ◌+◌, ◌<◌, false, [], refl, ap, arith}
+use Rattle.std.proofs.Common.{◌≡◌, ℕ, ◌<◌, false, [], refl, ap, arith}
 use Rattle.std.specs.Prelude.{Option, None}
 use Rattle.aql_meaning.specs.Uses.{Uses}
 use Rattle.aql_plan.specs.declared.facts.Facts.{Facts}

@@ -1,23 +1,33 @@
 -- Each application of a rule to a part lowers a number, and does not hang on what is used above.
 use Rattle.std.proofs.Common.{◌≡◌, ◌+◌, ◌≤◌, ◌<◌, ℕ, List, [], ◌∷◌, length, Bool, true, false, cond, refl, sym, ap, subst, arith}
-use Rattle.std.specs.Prelude.{None}
+use Rattle.std.specs.Prelude.{Option, None}
 use Rattle.aql_tree.specs.declared.syntax.Ident.{Ident}
 use Rattle.aql_tree.specs.Tree.{ExprTree, literal, variable, current, array_literal, object_literal, access, function_call, unary_of, chain, array_comparison, ternary, range_of, subquery, ExprTrees, LinkTrees, no_links, link_then}
 use Rattle.aql_meaning.specs.Documents.{Last}
 use Rattle.aql_plan.specs.declared.facts.Facts.{Facts}
 use Rattle.aql_plan.specs.FirstPlan.{all_and, right_sides, conjuncts}
 use Rattle.aql_plan.specs.Nodes.{weight, weight_in}
-use Rattle.aql_plan.specs.Plan.{Plan}
+use Rattle.aql_plan.specs.Plan.{Plan, Node}
 use Rattle.aql_meaning.specs.Uses.{Uses}
+use Rattle.aql_rewrite.specs.declared.swap.Rename.{Rename}
 use Rattle.aql_rewrite.specs.Places.{Rewriting, Stays}
 use Rattle.aql_rewrite.specs.Size.{size, links_size, size_all}
 use Rattle.aql_rewrite.specs.Sums.{total, node_total}
 use Rattle.aql_rules_filter.specs.Conditions.{and_links, all_of}
 use Rattle.aql_rules_index.specs.Measures.{is_enumeration, condition_size, nothing}
 use Rattle.aql_rules_index.specs.RemoveFilterCoveredByIndex.{Drops, no_more, keeps, drops, DropsAll, RemovesCovered, some_left, none_left}
-use Rattle.aql_rules_index.specs.Theorems.{LooksAtPart, Shrinks}
 use Rattle.aql_rules_index.specs.UseIndexes.{UsesIndex, used}
 use Rattle.aql_rules_index.specs.UseIndexForSort.{Orders, enumeration, by_index, below, SortsByIndex, sorted}
+
+-- what a rule makes of a part does not hang on what the nodes above use, and it renames nothing
+abbrev pub LooksAtPart : (Facts → Rewriting) → Type 0
+LooksAtPart R = (facts : Facts) (us vs : Uses) (p q : Plan) (r : Option Rename) → R facts us p q r
+    → R facts vs p q r × (r ≡ None)
+
+-- each application to a part lowers the number of its nodes and what they count beside
+abbrev pub Shrinks : (Node → ℕ) → (Facts → Rewriting) → Type 0
+Shrinks count R = (facts : Facts) (us : Uses) (p q : Plan) (r : Option Rename) → R facts us p q r
+    → weight q + total count q < weight p + total count p
 
 -- ---- use-indexes
 
@@ -98,7 +108,7 @@ covered_shrink facts _ _ _ _ (none_left a h) = omega arith
 -- ---- use-index-for-sort
 
 module _ {facts : Facts} {descending : Bool} {names : List (List ℕ)} {es : ExprTrees} where
-  as_heavy : {b c : Plan} → Orders facts descending names es b c → weight c ≡ weight b
+  pub as_heavy : {b c : Plan} → Orders facts descending names es b c → weight c ≡ weight b
   as_heavy (enumeration single a keys first) = refl
   as_heavy (by_index single a keys sorts range first) = refl
   as_heavy (below {n = n} l h) = ap (λ m. m + (weight_in n + 1)) (as_heavy h)

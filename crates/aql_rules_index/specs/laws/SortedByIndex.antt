@@ -1,6 +1,6 @@
 -- What a node gives of one row in the order of an index is sorted by its attributes, also after Filter and
 -- Calculation nodes, so the rule use-index-for-sort refines.
-use Rattle.std.proofs.Common.{◌≡◌, ◌∙◌, ◌+◌, ◌≤◌, ℕ, suc, List, [], ◌∷◌, ◌++◌, map, length, drop, Bool, true, false, true≢false, cond, ◌⊎◌, inl, inr, Some, None, refl, sym, ap, ap₂, subst, arith}
+use Rattle.std.proofs.Common.{◌≡◌, ◌∙◌, ◌+◌, ◌≤◌, ℕ, suc, List, [], ◌∷◌, ◌++◌, map, length, drop, Bool, true, false, true≢false, cond, ◌⊎◌, inl, inr, Option, Some, None, refl, sym, ap, ap₂, subst, arith}
 use Rattle.std.specs.Prelude.{filter, unwrap_or, IsPermutation}
 use Rattle.std.specs.Ordering.{is_lt, is_eq, ordering_then}
 use Rattle.std.specs.declared.cmp.Ordering.{Ordering}
@@ -22,6 +22,7 @@ use Rattle.aql_meaning.specs.Clauses.{key_cmp, keys_cmp, with_values}
 use Rattle.aql_meaning.specs.Documents.{Last, no_last, last_map, in_bounds, index_keys, InIndexOrder, documents_kept, projection}
 use Rattle.aql_meaning.specs.Numbered.{IsNumber}
 use Rattle.aql_meaning.specs.Row.{Row, bind, same_ident}
+use Rattle.aql_meaning.specs.Uses.{Uses}
 use Rattle.aql_meaning.specs.laws.Idents.{same_swapped}
 use Rattle.aql_meaning.specs.laws.SomeOrder.{keyed_order}
 use Rattle.aql_plan.specs.declared.facts.Facts.{Facts}
@@ -34,14 +35,16 @@ use Rattle.aql_plan.specs.Variables.{vars_set, set_once, count}
 use Rattle.aql_plan_laws.specs.laws.Agreement.{rows_agree}
 use Rattle.aql_plan_laws.specs.laws.Among.{count_append, counted_has}
 use Rattle.aql_plan_laws.specs.laws.RenamedPlaces.{number_is_no_result}
+use Rattle.aql_rewrite.specs.declared.swap.Rename.{Rename}
+use Rattle.aql_rewrite.specs.Placed.{Placed}
+use Rattle.aql_rewrite.specs.Swaps.{Replaced}
 use Rattle.aql_rewrite.specs.laws.Apart.{counts_itself}
 use Rattle.aql_index.specs.laws.Filters.{all_filter}
 use Rattle.aql_index.specs.laws.Passing.{InPairs, in_pairs, pairs_filter}
 use Rattle.aql_rules_filter.specs.laws.Filtered.{holds, filtered, all_pass}
 use Rattle.aql_rules_order.specs.laws.SubqueriesInlined.{single_row}
 use Rattle.aql_rules_index.specs.Tests.{in_index}
-use Rattle.aql_rules_index.specs.Theorems.{SortsByIndexRefines}
-use Rattle.aql_rules_index.specs.UseIndexForSort.{directions_of, AreFirst, leaves_order, Orders, enumeration, by_index, below, sorted}
+use Rattle.aql_rules_index.specs.UseIndexForSort.{directions_of, AreFirst, leaves_order, Orders, enumeration, by_index, below, SortsByIndex, sorted}
 use Rattle.aql_rules_index.specs.laws.Ordered.{pairs_weaken, pairs_map, keys_are, first_keys, sorts_itself, sorted_by_index}
 use Rattle.aql_rules_index.specs.laws.Rows.{filtered_inside}
 
@@ -284,7 +287,8 @@ module _ (facts : Facts) (db : Database) (descending : Bool) (names : List (List
   orders_run _ _ (below {b = b} {c = c} {n = n} l o) once =
       over n l b c once (orders_run b c o (once_below n b once))
 
-pub sorts_refine : SortsByIndexRefines
+pub sorts_refine : (facts : Facts) (outer away : List Ident) (us : Uses) (p q : Plan) (r : Option Rename)
+    → Placed false false facts outer away us p → SortsByIndex facts us p q r → Replaced false facts us p q r
 sorts_refine facts outer away _ _ _ _ placed
     (sorted {us = us} {b = b} {c = c} {descending = descending} {names = names} {es = es} o) =
     λ db meets start out g.

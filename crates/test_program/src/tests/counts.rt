@@ -78,6 +78,9 @@ fn counts(alloc: Global, script: Vec<u8>, rules: &str, batch: &str) -> Page {
 const FOUR: &str = "%document c\n{\"_key\":\"p\"}\n{\"_key\":\"q\",\"n\":true}\n\
     {\"_key\":\"r\",\"n\":3}\n{\"_key\":\"s\",\"n\":\"x\"}\n%query\n";
 
+const FOUR_BY_N: &str = "%document c\n%index c n\n{\"_key\":\"p\"}\n\
+    {\"_key\":\"q\",\"n\":true}\n{\"_key\":\"r\",\"n\":3}\n{\"_key\":\"s\",\"n\":\"x\"}\n%query\n";
+
 const ORDERS: &str = "%document customers\n{\"_key\":\"c1\",\"city\":\"Oslo\"}\n\
     {\"_key\":\"c2\",\"city\":\"Rome\"}\n{\"_key\":\"c3\",\"city\":\"Oslo\"}\n%document orders\n\
     {\"_key\":\"1\",\"customer\":\"c1\",\"total\":40}\n\
@@ -99,7 +102,7 @@ const TEN: &str = "%document c\n{\"_key\":\"1\"}\n{\"_key\":\"2\"}\n{\"_key\":\"
     {\"_key\":\"9\"}\n{\"_key\":\"10\"}\n%query\n";
 
 // Lines of a script, its query, the rules, how many values it gives, and what is counted.
-static ROWS: [(&str, &str, &str, &str); 9] = [
+static ROWS: [(&str, &str, &str, &str); 11] = [
     // each document once; of the last one n is not below 5
     (
         FOUR,
@@ -112,6 +115,19 @@ static ROWS: [(&str, &str, &str, &str); 9] = [
         "FOR d IN c FILTER d.n < 5 RETURN d._key",
         "all",
         "0: values 3 full 4 index 0 filtered 1; servers full 4 index 0 filtered 0",
+    ),
+    // by an index no more than the three, and none is asked again; in its order each one once
+    (
+        FOUR_BY_N,
+        "FOR d IN c FILTER d.n < 5 RETURN d._key",
+        "all",
+        "0: values 3 full 0 index 3 filtered 0; servers full 0 index 3 filtered 0",
+    ),
+    (
+        FOUR_BY_N,
+        "FOR d IN c SORT d.n DESC RETURN d._key",
+        "all",
+        "0: values 4 full 0 index 4 filtered 0; servers full 0 index 4 filtered 0",
     ),
     // four orders, and for each of them three customers; two of the twelve pairs pass
     (

@@ -27,11 +27,14 @@ static TURNED: [RuleName; 11] = [
 ];
 
 // The other rules that have a pass.
-static OTHERS: [RuleName; 5] = [
+static OTHERS: [RuleName; 8] = [
     RuleName::InlineSubqueries,
     RuleName::InterchangeAdjacentEnumerations,
     RuleName::RemoveRedundantSorts,
     RuleName::RemoveCollectVariables,
+    RuleName::UseIndexes,
+    RuleName::RemoveFilterCoveredByIndex,
+    RuleName::UseIndexForSort,
     RuleName::SortLimit,
 ];
 

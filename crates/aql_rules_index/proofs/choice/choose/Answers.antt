@@ -1,4 +1,4 @@
-use Rattle.std.proofs.Common.{◌≡◌, ◌∙◌, [], map, Option, None, ap, ap₂}
+use Rattle.std.proofs.Common.{◌∙◌, [], map, Option, None, ap, ap₂}
 use Rattle.std.specs.Prelude.{option_map, unwrap_or}
 use Rattle.aql_tree.specs.declared.syntax.Ident.TheVariants.{Num}
 use Rattle.aql_tree.specs.View.{tree}

@@ -1,4 +1,4 @@
-use Rattle.std.proofs.Common.{map, sym, arith}
+use Rattle.std.proofs.Common.{map, sym}
 use Rattle.aql_meaning.specs.View.{last_tree}
 use Rattle.aql_rules_index.specs.inner.Views.{item_tree}
 use Rattle.aql_rules_index.proofs.BoundsFound.{all_equal, next_equal, last_found}
