@@ -1,0 +1,11 @@
+pub mod Sharing
+pub mod Parts
+pub mod Sending
+pub mod Linking
+pub mod Stages
+pub mod Ordered
+pub mod Found
+pub mod Stands
+pub mod Gathered
+pub mod Sorted
+pub mod Scattered

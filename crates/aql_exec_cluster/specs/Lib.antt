@@ -1,0 +1,10 @@
+pub mod Shared
+pub mod Fragments
+pub mod Remotes
+pub mod Ports
+pub mod Standing
+pub mod Gathering
+pub mod Queues
+pub mod SortedGathering
+pub mod Scattering
+pub mod laws

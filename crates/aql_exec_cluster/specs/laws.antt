@@ -1,0 +1,6 @@
+pub mod Fragments
+pub mod Remotes
+pub mod Counts
+pub mod Merging
+pub mod Places
+pub mod Taking

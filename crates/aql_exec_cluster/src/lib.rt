@@ -1,0 +1,33 @@
+//! Executors over the shards of a fragment: Scatter at its foot, the two ends of a link, the rows that
+//! came to a shard, and Gather at its top; and what any other executor needs to stand in a fragment.
+#![tactic(auto)]
+
+mod blocks;
+mod cables;
+mod founded;
+mod gather;
+mod inner;
+mod inputs;
+mod keys;
+mod local;
+mod part;
+mod parted;
+mod queue;
+mod queues;
+mod remote;
+mod scatter;
+mod sorted_gather;
+mod splits;
+
+pub use blocks::{Blocks, Place};
+pub use cables::Cables;
+pub use founded::Founded;
+pub use gather::Gather;
+pub use inner::Inner;
+pub use local::Local;
+pub use part::Part;
+pub use parted::Parted;
+pub use remote::Remote;
+pub use scatter::Scatter;
+pub use sorted_gather::SortedGather;
+pub use splits::Splits;
