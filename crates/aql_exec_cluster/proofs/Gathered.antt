@@ -36,7 +36,8 @@ gathered n k held rows d ins' ins r l none p o h = (
   prefixed_counted n k rows d ins' ins r l p o h.3,
   (
     rows ++ h.0,
-    merged_front (row_before [] no_exprs) (λ x y. refl) n k rows (λ j. (ins j).rows) (λ j. (ins' j).rows) h.0 l
+    merged_front (row_before [] no_exprs) (λ x y. refl) n k rows (λ j. (ins j).rows) (λ j. (ins' j).rows) h.0
+        l
         p.rows (λ j x. ap (λ (z : Rest). z.rows) (o j x)) h.1,
     h.2 ∙ ap (λ z. z ++ (rows ++ h.0)) (sym none),
     λ c. refl,

@@ -71,7 +71,8 @@ filled_other kept o f f' p e b h =
 
 -- a step that was taken
 pub scattered : {e : Exact} (n p : ℕ) (left left' : ℕ → List Row) (rows : List Row) (d : Counts)
-    (ins' ins : ℕ → Rest) (r : Rest) → ((q : ℕ) → left' q ≡ left q ++ rows) → Prefixed e rows d (ins' 0) (ins 0)
+    (ins' ins : ℕ → Rest) (r : Rest) → ((q : ℕ) → left' q ≡ left q ++ rows) → Prefixed e rows d (ins' 0)
+    (ins 0)
     → gives_scatter n left' p ins' r → (q : Rest) × Prefixed e [] d r q × gives_scatter n left p ins q
 scattered n p left left' rows d ins' ins r more h g = (
   record { rows = r.rows; counts = (ins 0).counts },

@@ -147,7 +147,9 @@ pub count_more : (queues : List Queue) (k count more total : ℕ) → more ≡ l
 count_more queues k count more total m t h j l some = by (cases_eq j k)
   where
     by : (j ≡ k) ⊎ (j ≡ k → ⊥) → 1 ≤ total
-    by (inl e) = (let n : length (left_at queues j) ≡ length (left_at queues k) = ap (λ z. length (left_at queues z)) e in
+    by (inl e) =
+        (let n : length (left_at queues j) ≡ length (left_at queues k) = ap (λ z. length (left_at queues z))
+        e in
         omega (arith, m, t, some, n))
     by (inr d) = (let n = h j (omega (arith, l, d)) some in omega (arith, t, n))
 
@@ -330,8 +332,9 @@ pub merges_none : (before : Row → Row → Bool) (inputs : List Progress) (queu
     → Merges before n inputs queues [] queues
 merges_none before inputs queues n = λ ins rest done m. m
 
-pub merges_then : (before : Row → Row → Bool) (inputs : List Progress) (queues after later : List Queue) (n : ℕ)
-    (out more : List Row) → Merges before n inputs after out queues → Merges before n inputs later more after
+pub merges_then : (before : Row → Row → Bool) (inputs : List Progress) (queues after later : List Queue)
+    (n : ℕ) (out more : List Row) → Merges before n inputs after out queues → Merges before n inputs later
+    more after
     → Merges before n inputs later (out ++ more) queues
 merges_then before inputs queues after later n out more a b = λ ins rest done m.
     subst (λ z. MergedOf before n (lists_of queues ins) z) (sym (append_assoc out more rest))

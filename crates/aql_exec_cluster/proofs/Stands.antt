@@ -186,5 +186,7 @@ ready_more inputs k h j l = by (cases_eq j k) (cases_lt k (length inputs))
     by : (j ≡ k) ⊎ (j ≡ k → ⊥) → (k < length inputs) ⊎ (length inputs ≤ k)
         → standing (slice_set inputs k HasMore) j ≡ HasMore
     by (inl e) (inl m) = ap (standing (slice_set inputs k HasMore)) e ∙ standing_there inputs k HasMore m
-    by (inl e) (inr m) = ap (λ z. standing z j) (set_past inputs k HasMore m) ∙ get_or_past inputs j HasMore (omega (arith, e, m))
+    by (inl e) (inr m) =
+        ap (λ z. standing z j) (set_past inputs k HasMore m)
+        ∙ get_or_past inputs j HasMore (omega (arith, e, m))
     by (inr d) m = standing_elsewhere inputs k j HasMore d ∙ h j (omega (arith, l, d))

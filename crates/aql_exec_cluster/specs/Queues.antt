@@ -61,7 +61,8 @@ Merges before n inputs after out queues = (ins : ℕ → Rest) (rest : List Row)
 
 -- the queue at a place has these variables
 abbrev pub HasRegisters : List ℕ → List Queue → ℕ → Type 0
-HasRegisters registers queues k = MatchOption (slice_get queues k) ⊥ (λ (q : Queue). q.block.registers ≡ registers)
+HasRegisters registers queues k =
+    MatchOption (slice_get queues k) ⊥ (λ (q : Queue). q.block.registers ≡ registers)
 
 -- this row was moved out of the queue at a place
 pub record Popped (k : ℕ) (row : Row) (queues after : List Queue) : Type 0 where

@@ -53,9 +53,13 @@ asks_scatter filled (suc k) c = ⊥
 no_both : {p n : ℕ} → p < n → p ≡ n → ⊥
 no_both l e = absurd (omega (arith, l, e))
 
-pub some_scatter : (n : ℕ) (left : ℕ → List Row) (p : ℕ) (ins : ℕ → Rest) → (r : Rest) × gives_scatter n left p ins r
+pub some_scatter : (n : ℕ) (left : ℕ → List Row) (p : ℕ) (ins : ℕ → Rest)
+    → (r : Rest) × gives_scatter n left p ins r
 some_scatter n left p ins = elim (cases_eq p n) [
-  | inl e ↦ (record { rows = []; counts = (ins 0).counts }, ((λ l. absurd (no_both l e)), (λ i. refl), λ c. refl))
+  | inl e ↦ (
+    record { rows = []; counts = (ins 0).counts },
+    ((λ l. absurd (no_both l e)), (λ i. refl), λ c. refl),
+  )
   | inr d ↦ (
     record { rows = left p ++ (ins 0).rows; counts = (ins 0).counts },
     ((λ l. refl), (λ e. absurd (d e)), λ c. refl),

@@ -1,5 +1,5 @@
-//! Executors over the shards of a fragment: Scatter at its foot, the two ends of a link, the rows that
-//! came to a shard, and Gather at its top; and what any other executor needs to stand in a fragment.
+//! Executors over the shards of a fragment: Scatter below its foot, the rows that came to a shard,
+//! the two ends of a link, and Gather above it; and what any other executor needs to stand in it.
 #![tactic(auto)]
 
 mod blocks;

@@ -13,7 +13,8 @@ ghost use Rattle.aql_meaning.specs.Row as meaning;
 ghost use Rattle.aql_block.specs.Tables.{rows_of};
 ghost use Rattle.aql_exec_cluster.specs.Standing.{standing, is_done};
 ghost use Rattle.aql_exec_cluster.specs.Queues.{rows_left, IsKeyed, left_at, count_left};
-ghost use Rattle.aql_exec_cluster.specs.Queues.{IsFirst, FirstUpTo, AreReady, Merges, HasRegisters, Popped};
+ghost use Rattle.aql_exec_cluster.specs.Queues.{IsFirst, FirstUpTo, AreReady, Merges};
+ghost use Rattle.aql_exec_cluster.specs.Queues.{HasRegisters, Popped};
 
 use crate::inputs::Inputs;
 use crate::keys::compare;
@@ -136,9 +137,9 @@ impl Queues {
         self.list[input].len()
     }
 
-    /// The next rows in the order of the keys, at most so many and as long as each input that is not
-    /// done has one; fewer where rows have other variables than the first. There is one unless no
-    /// input has a row.
+    /// The next rows in the order of the keys, at most so many and as long as each input that is
+    /// not done has one; fewer where rows have other variables than the first. There is one unless
+    /// no input has a row.
     pub(crate) fn merge(
         &mut self,
         alloc: Global,
@@ -232,7 +233,8 @@ impl Queues {
     fn next(&self, keys: &[Key], inputs: &Inputs, registers: &[u32]) -> Option<usize>
         requires keyed { All (IsKeyed (key_trees keys.now)) self.now.list.items }
         requires count { length inputs.now.progress.items ≡ length self.now.list.items }
-        ensures ready { IfSome result (λ k. AreReady inputs.now.progress.items self.now.list.items) }
+        ensures ready { IfSome result
+            (λ k. AreReady inputs.now.progress.items self.now.list.items) }
         ensures first { IfSome result (λ k.
             IsFirst (row_before (directions keys.now) (key_trees keys.now)) self.now.list.items
             (length self.now.list.items) k) }

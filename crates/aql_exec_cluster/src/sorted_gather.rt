@@ -96,8 +96,8 @@ fn give(
 impl<W: Surroundings> Executor<W> for SortedGather {
     ghost use Rattle.aql_exec_cluster.specs.Standing.{standing, is_done, count_going, count_awake};
     ghost use Rattle.aql_exec_cluster.specs.Standing.{IsWaiting, AsksInput, asks_input};
-    ghost use Rattle.aql_exec_cluster.specs.SortedGathering.{gives_sorted, some_sorted, more_sorted};
-    ghost use Rattle.aql_exec_cluster.specs.SortedGathering.{QueuesAre, budget_sorted};
+    ghost use Rattle.aql_exec_cluster.specs.SortedGathering.{gives_sorted, some_sorted};
+    ghost use Rattle.aql_exec_cluster.specs.SortedGathering.{more_sorted, QueuesAre, budget_sorted};
     ghost use Rattle.std.proofs.Math.Nat.{le_refl};
 
     ghost gives = { λ s _ _ _ ins r. gives_sorted (directions s.keys) (key_trees s.keys)

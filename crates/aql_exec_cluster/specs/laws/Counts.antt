@@ -33,8 +33,8 @@ module _ (ins ins' : ℕ → Rest) (c : Counter) where
           omega (arith, i, here)
 
 -- a rest that counts what all inputs do, where one of them counts more on the way to rows in front of it
-pub prefixed_counted : {e : Exact} (n k : ℕ) (rows : List Row) (d : Counts) (after before : ℕ → Rest) (r : Rest)
-    → k < n → Prefixed e rows d (after k) (before k) → ((j : ℕ) → (j ≡ k → ⊥) → after j ≡ before j)
+pub prefixed_counted : {e : Exact} (n k : ℕ) (rows : List Row) (d : Counts) (after before : ℕ → Rest)
+    (r : Rest) → k < n → Prefixed e rows d (after k) (before k) → ((j : ℕ) → (j ≡ k → ⊥) → after j ≡ before j)
     → ((c : Counter) → r.counts c ≡ counted n after c)
     → Prefixed e [] d r (record { rows = r.rows; counts = counted n before })
 prefixed_counted n k rows d after before r l p o h = record {

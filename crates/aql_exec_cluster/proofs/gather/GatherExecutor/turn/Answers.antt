@@ -80,8 +80,10 @@ returns-in-Some-first_waiting-clause-leads g c =
       rises_none g.W.Surroundings c.args._tally.now c.args._world.now,
       λ v within body s ins ins' lens eqs ends.
           led_none c.nothing.result c.nothing.ensures.skipped c.nothing.ensures.rows (λ r h.
-          still (length inputs) (length c.wake-in-Some-first_waiting.new.self.progress.items) (rows_of me.held)
-          s ins' ins r lens eqs (ap length c.wake-in-Some-first_waiting.ensures ∙ length-map inputs after_answer)
+          still (length inputs) (length c.wake-in-Some-first_waiting.new.self.progress.items)
+          (rows_of me.held)
+          s ins' ins r lens eqs (ap length c.wake-in-Some-first_waiting.ensures ∙ length-map inputs
+          after_answer)
           h),
     )
 

@@ -18,6 +18,7 @@ returns c x y xs ys ex ey =
     c.is_lt.ensures
     ∙ ap is_lt (c.compare.ensures ∙ ap₂ (λ a b. keys_cmp ds (datums_in a) (datums_in b)) c.deref.ensures.value
     c.deref-2.ensures.value)
-    ∙ keys_tell ds es p q x y xs ys (keyed_read es queues c.args.at p c.requires.keyed c.requires.at c.index-left.ensures)
+    ∙ keys_tell ds es p q x y xs ys (keyed_read es queues c.args.at p c.requires.keyed c.requires.at
+    c.index-left.ensures)
     (keyed_read es queues c.args.other q c.requires.keyed c.requires.other c.index-right.ensures)
     (sym left ∙ ex) (sym right ∙ ey)

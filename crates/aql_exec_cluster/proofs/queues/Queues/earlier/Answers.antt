@@ -29,7 +29,8 @@ returns-then-comes_before c =
     let first = rw c.in-Some.is at c.requires.first in
     now_first (directions keys) (key_trees keys) queues c.args.other c.in-Some.best some.0 some.1
     c.requires.other first some.2
-    (sym (c.comes_before.ensures some.0 first.row some.1 first.rows some.2 first.here) ∙ c.if-comes_before.true)
+    (sym (c.comes_before.ensures some.0 first.row some.1 first.rows some.2 first.here) ∙
+    c.if-comes_before.true)
 
 pub returns : goal.returns
 returns c =
@@ -37,5 +38,7 @@ returns c =
     let queues = c.args.self.now.list.items in
     let some = some_row (left_at queues c.args.other) (c.is_empty_at.ensures.not_so c.if-is_empty_at.false) in
     let first = rw c.in-Some.is at c.requires.first in
-    still_first (directions keys) (key_trees keys) queues c.args.other c.in-Some.best some.0 some.1 first some.2
-    (sym (c.comes_before.ensures some.0 first.row some.1 first.rows some.2 first.here) ∙ c.if-comes_before.false)
+    still_first (directions keys) (key_trees keys) queues c.args.other c.in-Some.best some.0 some.1 first
+    some.2
+    (sym (c.comes_before.ensures some.0 first.row some.1 first.rows some.2 first.here) ∙
+    c.if-comes_before.false)

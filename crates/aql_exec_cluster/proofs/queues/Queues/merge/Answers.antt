@@ -55,7 +55,8 @@ loop-row-preserved c =
       merges = subst (λ (z : List Row). Merges before (length inputs) inputs after z queues) (sym moved.1)
           (merges_then before inputs queues mid after (length inputs) rows (moved.0 ∷ []) known.merges
           (merges_one before inputs mid after (length inputs) c.in-Some-next.next moved.0
-          (c.requires.count ∙ sym known.count) c.in-Some-next.ensures.ready c.in-Some-next.ensures.first moved.2));
+          (c.requires.count ∙ sym known.count) c.in-Some-next.ensures.ready c.in-Some-next.ensures.first
+          moved.2));
       rows = omega (arith, n, so_far);
       room = c.in_ok-move_row-2.ensures.room ∙ known.room;
       left = omega (arith, n, was, left);

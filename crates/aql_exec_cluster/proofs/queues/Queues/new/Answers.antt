@@ -11,5 +11,6 @@ loop-input-preserved c =
     record {
       count = omega (arith, n, count);
       none_left = λ j. ap (λ z. left_at z j) pushed
-          ∙ empty_push c.loop-input.list.items c.empty.result c.empty.ensures c.loop-input.invariant.none_left j;
+          ∙ empty_push c.loop-input.list.items c.empty.result c.empty.ensures
+          c.loop-input.invariant.none_left j;
     }

@@ -7,7 +7,8 @@ use Rattle.aql_exec_cluster.proofs.scatter.Filled.new.Goals as goal
 
 pub loop-port-preserved : goal.loop-port-preserved
 loop-port-preserved c =
-    c.in_ok-push.ensures.items ∙ ap (λ z. z ++ None ∷ []) c.loop-port.invariant ∙ replicate_more c.loop-port._port None
+    c.in_ok-push.ensures.items ∙ ap (λ z. z ++ None ∷ []) c.loop-port.invariant ∙ replicate_more
+    c.loop-port._port None
 
 pub returns-clause-start : goal.returns-clause-start
 returns-clause-start c p =

@@ -17,7 +17,8 @@ returns-in-Waiting-clause-leads g c v w p body d s0 s ins' ins t b r l0 l1 a e' 
     let skipped = c.requires.asked.2.skipped in
     let offset = asked.0.0 in
     let rows = rows_of c.args.step.block in
-    scattered (length me.shards.items) p (port_rows me.kept me.filled) (port_rows c.keep.new.kept me.filled) rows d
+    scattered (length me.shards.items) p (port_rows me.kept me.filled) (port_rows c.keep.new.kept me.filled)
+    rows d
     ins' ins r (kept_more me.kept c.keep.new.kept me.filled rows asked.1 c.in_ok-keep.ensures)
     (taken_step rows s0 s d (ins' 0) (ins 0) t b l0 (omega (arith, l1, skipped, offset)) a (rw first at e')
     (rw first at e)) h
@@ -30,7 +31,8 @@ returns-in-HasMore-clause-leads g c v w p body d s0 s ins' ins t b r l0 l1 a e' 
     let skipped = c.requires.asked.2.skipped in
     let offset = asked.0.0 in
     let rows = rows_of c.args.step.block in
-    scattered (length me.shards.items) p (port_rows me.kept me.filled) (port_rows c.keep.new.kept me.filled) rows d
+    scattered (length me.shards.items) p (port_rows me.kept me.filled) (port_rows c.keep.new.kept me.filled)
+    rows d
     ins' ins r (kept_more me.kept c.keep.new.kept me.filled rows asked.1 c.in_ok-keep.ensures)
     (taken_step rows s0 s d (ins' 0) (ins 0) t b l0 (omega (arith, l1, skipped, offset)) a (rw first at e')
     (rw first at e)) h
@@ -44,9 +46,11 @@ returns-in_ok-new-in-Done-clause-leads g c v w p body d s0 s ins' ins t b r l0 l
     let offset = asked.0.0 in
     let rows = rows_of c.args.step.block in
     let filled = c.in_ok-new-in-Done.field-0 in
-    scattered (length me.shards.items) p (port_rows me.kept me.filled) (port_rows c.replace-blocks.new.dest (Some filled))
+    scattered (length me.shards.items) p (port_rows me.kept me.filled) (port_rows c.replace-blocks.new.dest
+    (Some filled))
     rows d ins' ins r (filled_more me.kept c.replace-blocks.new.dest me.filled filled rows asked.1
-    (λ q. c.in_ok-new-in-Done.ensures.start q ∙ ap rows_in c.replace-blocks.ensures.value ∙ c.in_ok-keep.ensures))
+    (λ q. c.in_ok-new-in-Done.ensures.start q ∙ ap rows_in c.replace-blocks.ensures.value ∙
+    c.in_ok-keep.ensures))
     (taken_step rows s0 s d (ins' 0) (ins 0) t b l0 (omega (arith, l1, skipped, offset)) a (rw first at e')
     (rw first at e)) h
 
@@ -87,8 +91,10 @@ returns-in_ok-new-in-Done-clause-budget g c w f =
     let count = count_ports filled.blocks.value filled.places.items in
     let came = ap (λ z. length (rows_in z)) c.replace-blocks.ensures.value ∙ ap length c.in_ok-keep.ensures
     ∙ length-append (rows_in me.kept) rows in
-    subst (λ z. count + unless_waiting z ≤ budget_scatter n me.kept me.filled + (n + 1) * reported c.args.step)
+    subst (λ z. count + unless_waiting z ≤ budget_scatter n me.kept me.filled + (n + 1) * reported
+    c.args.step)
     (sym c.in-Done.is)
-    (budget_of_filled n c.len.result me.kept me.filled count (length (rows_in c.replace-blocks.result)) (length rows)
+    (budget_of_filled n c.len.result me.kept me.filled count (length (rows_in c.replace-blocks.result))
+    (length rows)
     (reported c.args.step) asked.1 came (omega arith) (c.len.ensures ∙ me.shards.ok.0)
     c.in_ok-new-in-Done.ensures.rows)

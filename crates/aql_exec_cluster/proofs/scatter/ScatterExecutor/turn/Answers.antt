@@ -53,7 +53,8 @@ returns-then-port-len-clause-other_ports g c =
       λ v within p body s ins ins' r d b lens eqs ends h. (
         r,
         prefixed_none r,
-        other_port n p (port_rows me.kept me.filled) (port_rows me.kept (Some c.in-Some.filled)) s ins' ins r lens
+        other_port n p (port_rows me.kept me.filled) (port_rows me.kept (Some c.in-Some.filled)) s ins' ins r
+            lens
             eqs (ap (λ z. port_rows me.kept z p) (sym c.in-Some.is)) h,
       ),
     )
@@ -80,7 +81,8 @@ returns-clause-leads g c =
       nothing,
       rises_none g.W.Surroundings c.args._tally.now c.args._world.now,
       λ v e body s ins ins' lens eqs ends.
-          gave_port n c.args.port (port_rows me.kept me.filled) (port_rows me.kept (Some after)) given.0 s ins' ins
+          gave_port n c.args.port (port_rows me.kept me.filled) (port_rows me.kept (Some after)) given.0 s
+          ins' ins
           c.in_ok-step.step lens eqs within given.1 rows,
     )
 

@@ -7,7 +7,8 @@ use Rattle.aql_exec_cluster.proofs.sorted_gather.SortedGatherExecutor.begin.Goal
 pub returns-clause-valid : goal.returns-clause-valid
 returns-clause-valid g c w = record {
   count = c.begin.ensures.count ∙ sym (c.in_ok-self.ensures.count ∙ c.len.ensures);
-  keyed = none_keyed (key_trees c.args.self.now.keys) c.in_ok-self.field-0.list.items c.in_ok-self.ensures.none;
+  keyed = none_keyed (key_trees c.args.self.now.keys) c.in_ok-self.field-0.list.items
+      c.in_ok-self.ensures.none;
 }
 
 pub returns-clause-budget : goal.returns-clause-budget

@@ -57,7 +57,9 @@ returns-clause-budget g c =
     let more : count_left (slice_set queues k c.in_ok-queue.queue) ≡ count_left queues + length rows =
     omega (arith, s, none, came) in
     of_some n _ (λ some w f.
-    subst (λ (z : List Queue). (count_left z + count_going (slice_set inputs k progress)) + unless_waiting progress
+    subst (λ (z : List Queue). (count_left z + count_going (slice_set inputs k progress)) + unless_waiting
+    progress
     ≤ (count_left queues + count_going inputs) + 2 * reported c.args.step) (sym c.put.ensures)
-    (taken_budget progress (count_left queues) _ (length rows) (count_going inputs) _ (reported c.args.step) more
+    (taken_budget progress (count_left queues) _ (length rows) (count_going inputs) _ (reported c.args.step)
+    more
     (going_set inputs k progress l asked.1.0.2) (omega arith) c.requires.more))

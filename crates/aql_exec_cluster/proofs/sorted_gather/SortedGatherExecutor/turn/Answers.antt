@@ -83,14 +83,17 @@ returns-then-len-eq0-clause-leads g c =
     let rows = c.if-len-eq0.true in
     let len = c.len.ensures in
     let given = c.in_ok-step.ensures.rows in
-    let merges = subst (λ (ks : List Key). Merges (row_before (directions ks) (key_trees ks)) (length inputs) inputs
-    c.give.new.queues.list.items (given.0 ++ rows_given c.in_ok-step.step) me.queues.list.items) c.as_slice.ensures
+    let merges = subst (λ (ks : List Key). Merges (row_before (directions ks) (key_trees ks)) (length inputs)
+    inputs
+    c.give.new.queues.list.items (given.0 ++ rows_given c.in_ok-step.step) me.queues.list.items)
+    c.as_slice.ensures
     given.2 in
     let none : reported c.in_ok-step.step ≡ 0 = omega (arith, skipped, rows, len) in (
       nothing,
       rises_none g.W.Surroundings c.args._tally.now c.args._world.now,
       λ v within body s ins ins' lens eqs ends.
-          quiet_step c.in_ok-step.step c.nothing-then-len-eq0.result none c.nothing-then-len-eq0.ensures.skipped
+          quiet_step c.in_ok-step.step c.nothing-then-len-eq0.result none
+          c.nothing-then-len-eq0.ensures.skipped
           c.nothing-then-len-eq0.ensures.rows
           (gave_sorted (directions me.keys) (key_trees me.keys) (length inputs)
           (length c.wake-2.new.self.progress.items) inputs me.queues.list.items c.give.new.queues.list.items
@@ -148,8 +151,10 @@ returns-clause-leads g c =
     let me = c.args.self.now in
     let inputs = me.inputs.progress.items in
     let given = c.in_ok-step.ensures.rows in
-    let merges = subst (λ (ks : List Key). Merges (row_before (directions ks) (key_trees ks)) (length inputs) inputs
-    c.give.new.queues.list.items (given.0 ++ rows_given c.in_ok-step.step) me.queues.list.items) c.as_slice.ensures
+    let merges = subst (λ (ks : List Key). Merges (row_before (directions ks) (key_trees ks)) (length inputs)
+    inputs
+    c.give.new.queues.list.items (given.0 ++ rows_given c.in_ok-step.step) me.queues.list.items)
+    c.as_slice.ensures
     given.2 in (
       nothing,
       rises_none g.W.Surroundings c.args._tally.now c.args._world.now,
