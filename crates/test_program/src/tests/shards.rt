@@ -1,10 +1,10 @@
-//! On which shards documents are, and on which servers shards, worked out by hand.
+//! Which shards values belong to, and on which servers shards are, worked out by hand.
 
 use crate::tests::catalogs::declare;
 use crate::tests::pages::{Page, expect, expect_page};
 use aql_doc::Catalog;
-use aql_shard::{Servers, server_of, shard_of, split};
-use aql_value::{CollNo, Items, Members, OutOfMemory, Text, Value, from_json_line};
+use aql_shard::{server_of, shard_of, split};
+use aql_value::{CollNo, Items, from_json_line};
 use std::alloc::Global;
 
 fn items(alloc: Global, text: &str) -> Option<Items> {
@@ -43,31 +43,29 @@ fn shards_of_values(rt: HostRuntime) {
     }
 }
 
-// Of eight documents with the keys a to h, by the shards of their collection and by servers: how
-// many a reader of the collection finds, and one of each shard.
-static LENGTHS: [(u32, u32, &str); 5] = [
-    (3, 0, "8: 8 "),
-    (1, 2, "8: 8 "),
-    (3, 1, "8: 3 3 2 "),
-    (3, 16, "8: 3 3 2 "),
-    (4, 2, "8: 2 2 2 2 "),
+// The shards that a collection is declared with, the servers, and how many shards it has there, and
+// one that is not declared.
+static SHARDS: [(u32, u32, &str); 5] = [
+    (3, 0, "1 0"),
+    (1, 2, "1 0"),
+    (3, 1, "3 0"),
+    (3, 16, "3 0"),
+    (32, 2, "32 0"),
 ];
 
-static KEYS: [&str; 8] = ["a", "b", "c", "d", "e", "f", "g", "h"];
-
-fn document(alloc: Global, key: &str) -> Result<Value, OutOfMemory> {
-    let mut members = Members::new(alloc);
-    let name = Text::new(alloc, "_key")?;
-    members.set(name, Value::Text(Text::new(alloc, key)?))?;
-    Ok(Value::Object(members))
-}
+static LINES: [&str; 4] = [
+    "{\"_key\":\"a\"}",
+    "{\"_key\":\"b\"}",
+    "{\"_key\":\"c\",\"n\":1}",
+    "{\"_key\":\"d\"}",
+];
 
 // A collection of these documents, with so many shards.
 fn catalog(alloc: Global, shards: u32) -> Option<Catalog> {
     let mut catalog = Catalog::new(alloc);
     declare(alloc, &mut catalog, "c", false, shards, &["_key"]).ok()?;
-    for key in &KEYS {
-        let document = document(alloc, key).ok()?;
+    for line in &LINES {
+        let document = from_json_line(alloc, line.as_bytes()).ok()?;
         if catalog.len() != 1 {
             return None;
         }
@@ -76,19 +74,7 @@ fn catalog(alloc: Global, shards: u32) -> Option<Catalog> {
     Some(catalog)
 }
 
-fn put_lengths(page: &mut Page, servers: &Servers) {
-    let Some(coll) = servers.find("c") else {
-        return;
-    };
-    page.put_shown(&servers.length(coll, None));
-    page.put(": ");
-    for shard in 0..servers.shards(coll) {
-        page.put_shown(&servers.length(coll, Some(shard)));
-        page.put(" ");
-    }
-}
-
-fn lengths(alloc: Global, shards: u32, servers: u32) -> Page {
+fn split_over(alloc: Global, shards: u32, servers: u32) -> Page {
     let mut page = Page::new(alloc);
     let Some(catalog) = catalog(alloc, shards) else {
         return page;
@@ -97,16 +83,20 @@ fn lengths(alloc: Global, shards: u32, servers: u32) -> Page {
         return page;
     }
     match split(alloc, catalog, servers) {
-        Ok(servers) => put_lengths(&mut page, &servers),
+        Ok(servers) => {
+            page.put_shown(&servers.shards(CollNo(0)));
+            page.put(" ");
+            page.put_shown(&servers.shards(CollNo(1)));
+        }
         Err(_) => page.put("memory"),
     }
     page
 }
 
 #[test]
-fn lengths_of_shards(rt: HostRuntime) {
-    for (shards, servers, want) in &LENGTHS {
-        expect_page(&rt, &lengths(rt.alloc(), *shards, *servers), want, want);
+fn shards_of_collections(rt: HostRuntime) {
+    for (shards, servers, want) in &SHARDS {
+        expect_page(&rt, &split_over(rt.alloc(), *shards, *servers), want, want);
     }
 }
 
