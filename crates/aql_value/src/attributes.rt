@@ -8,29 +8,29 @@ ghost use Rattle.aql_value.specs.Fields.{fields_in};
 ghost use Rattle.aql_value.specs.inner.NameSearch.{IsSearchResult};
 ghost use Rattle.aql_value.specs.WellFormed.{FieldsWellFormed};
 
+use crate::copying::copy_entries;
 use crate::texts::recall_utf8;
-use crate::values::{Member, recall_well_formed};
+use crate::values::{Member, entries_in, recall_well_formed};
 use crate::{Members, OutOfMemory, Text, Value};
 use std::alloc::Global;
 use std::cmp::Ordering;
+use std::rc::Rc;
 
 impl Members {
     ghost use Rattle.std.specs.Prelude.{length, option_map, slice_get};
 
     /// No attributes.
-    pub fn new(alloc: Global) -> Members
+    pub fn new(_alloc: Global) -> Members
         ensures { result ≡ [] }
     {
-        Members {
-            entries: Vec::new(alloc),
-        }
+        Members { entries: None }
     }
 
     /// How many attributes there are.
     pub fn len(&self) -> usize
         ensures { result ≡ length self.now }
     {
-        self.entries.len()
+        entries_in(&self.entries).len()
     }
 
     /// The name at a place in the order of the names, counted from 0; `None` exactly where there
@@ -38,7 +38,7 @@ impl Members {
     pub fn name(&self, at: usize) -> Option<&Text>
         ensures { option_map (λ t. t.now) result ≡ option_map (λ f. f.0) (slice_get self.now at) }
     {
-        let entry = self.entries.get(at)?;
+        let entry = entries_in(&self.entries).get(at)?;
         Some(&entry.name)
     }
 
@@ -48,32 +48,31 @@ impl Members {
         ensures { option_map (λ v. datum_of v.now) result
             ≡ option_map (λ f. f.1) (slice_get self.now at) }
     {
-        let entry = self.entries.get(at)?;
+        let entry = entries_in(&self.entries).get(at)?;
         Some(&entry.value)
-    }
-
-    /// The attributes in the order of their names, borrowed.
-    pub fn as_slice(&self) -> &[Member]
-        ensures { fields_in result.now ≡ self.now }
-    {
-        &self.entries
     }
 
     /// The value of a name; `None` exactly where there is no attribute of this name.
     pub fn value(&self, name: &str) -> Option<&Value>
         ensures { option_map (λ v. datum_of v.now) result ≡ attribute name.now self.now }
     {
-        match find_name(&self.entries, name) {
-            Ok(at) => Some(&self.entries[at].value),
+        let entries = entries_in(&self.entries);
+        match find_name(entries, name) {
+            Ok(at) => Some(&entries[at].value),
             Err(_) => None,
         }
     }
 
-    /// Makes room for so many more attributes, and no more than that.
+    /// Makes room for so many more attributes, and no more than that, where there are some and no
+    /// copy shares them.
     pub fn reserve(&mut self, more: usize) -> Result<(), OutOfMemory>
         ensures { self.new ≡ self.old }
     {
-        self.entries.reserve_exact(more)?;
+        if let Some(shared) = &mut self.entries {
+            if let Some(entries) = Rc::get_mut(shared) {
+                entries.reserve_exact(more)?;
+            }
+        }
         Ok(())
     }
 
@@ -85,7 +84,16 @@ impl Members {
     {
         recall_well_formed(&value);
         recall_utf8(&name);
-        set_in(&mut self.entries, name, value)
+        if let Some(shared) = &mut self.entries {
+            if let Some(entries) = Rc::get_mut(shared) {
+                return set_in(entries, name, value);
+            }
+        }
+        let alloc = name.allocator();
+        let mut entries = copy_entries(alloc, entries_in(&self.entries))?;
+        set_in(&mut entries, name, value)?;
+        self.entries = Some(Rc::new(alloc, entries)?);
+        Ok(())
     }
 }
 

@@ -1,5 +1,6 @@
 ghost use Rattle.std.specs.Prelude.{◌≡◌, IfOk};
 ghost use Rattle.aql_value.specs.View.{datum_of};
+ghost use Rattle.aql_value.specs.Fields.{fields_in};
 
 use crate::values::Member;
 use crate::{Items, Members, OutOfMemory, Value};
@@ -16,7 +17,7 @@ pub fn copy(alloc: Global, value: &Value) -> Result<Value, OutOfMemory>
         Value::Num(n) => Ok(Value::Num(*n)),
         Value::Text(text) => Ok(Value::Text(text.copy(alloc)?)),
         Value::List(list) => Ok(Value::List(copy_items(alloc, list)?)),
-        Value::Object(members) => Ok(Value::Object(copy_members(alloc, members)?)),
+        Value::Object(members) => Ok(Value::Object(share_members(members)?)),
     }
 }
 
@@ -31,15 +32,25 @@ fn copy_items(alloc: Global, list: &Items) -> Result<Items, OutOfMemory>
     Ok(out)
 }
 
-#[cycle(copying)]
-fn copy_members(alloc: Global, members: &Members) -> Result<Members, OutOfMemory>
+fn share_members(members: &Members) -> Result<Members, OutOfMemory>
     ensures { IfOk result (λ w. w ≡ members.now) }
 {
-    let mut entries = Vec::new(alloc);
-    for entry in &members.entries {
+    let entries = match &members.entries {
+        Some(shared) => Some(shared.clone()?),
+        None => None,
+    };
+    Ok(Members { entries })
+}
+
+/// Attributes that are identical to these, with room for one more.
+pub(crate) fn copy_entries(alloc: Global, entries: &[Member]) -> Result<Vec<Member>, OutOfMemory>
+    ensures { IfOk result (λ copies. fields_in copies.items ≡ fields_in entries.now) }
+{
+    let mut copies = Vec::with_capacity(alloc, entries.len().saturating_add(1))?;
+    for entry in entries {
         let name = entry.name.copy(alloc)?;
         let value = copy(alloc, &entry.value)?;
-        entries.push(Member { name, value })?;
+        copies.push(Member { name, value })?;
     }
-    Ok(Members { entries })
+    Ok(copies)
 }

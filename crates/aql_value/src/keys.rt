@@ -5,6 +5,7 @@ ghost use Rattle.aql_value.specs.Datum.{array_of, object_of};
 ghost use Rattle.aql_value.specs.HashInput.{datum_input, items_input, fields_input};
 
 use crate::order::order;
+use crate::values::entries_in;
 use crate::{Items, Members, Value};
 use std::cmp::Ordering;
 use std::hash::{Hash, Hasher};
@@ -92,7 +93,7 @@ fn feed_items<H: Hasher>(list: &Items, state: &mut H)
 fn feed_members<H: Hasher>(members: &Members, state: &mut H)
     ensures { state.new ≡ fold H.write state.old (fields_input (object_of members.now)) }
 {
-    for member in &members.entries {
+    for member in entries_in(&members.entries) {
         member.name.as_str().hash(state);
         feed(&member.value, state);
     }

@@ -6,7 +6,7 @@ ghost use Rattle.aql_value.specs.Order.{Compares, kind};
 ghost use Rattle.aql_value.specs.Compare.{compare, compare_items, compare_fields};
 ghost use Rattle.aql_value.specs.TotalOrder.{BelowIsTotal, BelowIsTransitive, ObjectsCompareAtLeastName, CompareAgrees};
 
-use crate::values::Member;
+use crate::values::{Member, entries_in};
 use crate::{Items, Members, Value};
 use std::cmp::Ordering;
 
@@ -78,8 +78,8 @@ fn order_items(a: &Items, b: &Items) -> Ordering
 fn order_members(a: &Members, b: &Members) -> Ordering
     ensures { result ≡ compare_fields (object_of a.now) (object_of b.now) }
 {
-    for (i, x) in a.entries.iter().enumerate() {
-        match b.entries.get(i) {
+    for (i, x) in entries_in(&a.entries).iter().enumerate() {
+        match entries_in(&b.entries).get(i) {
             None => return Ordering::Greater,
             Some(y) => match order_entry(x, y) {
                 Ordering::Equal => {}
@@ -87,7 +87,9 @@ fn order_members(a: &Members, b: &Members) -> Ordering
             },
         }
     }
-    a.entries.len().cmp(&b.entries.len())
+    entries_in(&a.entries)
+        .len()
+        .cmp(&entries_in(&b.entries).len())
 }
 
 // The object that has the lesser name is the greater one, since the other lacks that attribute.

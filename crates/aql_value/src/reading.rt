@@ -15,6 +15,7 @@ use crate::{Items, Members, OutOfMemory, Text, Value};
 use json::Scratch;
 use serde_json::Map;
 use std::alloc::{AllocError, AllocFailed, Global};
+use std::rc::Rc;
 use thiserror::Error;
 
 /// The deepest nesting of arrays and objects that a line may have.
@@ -208,5 +209,7 @@ fn members_of(alloc: Global, members: Map<String, serde_json::Value>) -> Result<
         recall_utf8(&name);
         entries.push(Member { name, value })?;
     }
-    Ok(Members { entries })
+    Ok(Members {
+        entries: Some(Rc::new(alloc, entries)?),
+    })
 }

@@ -33,6 +33,11 @@ impl Text {
         self.text.as_str()
     }
 
+    // Where its memory came from.
+    pub(crate) fn allocator(&self) -> Global {
+        *self.text.allocator()
+    }
+
     /// An equal text.
     pub fn copy(&self, alloc: Global) -> Result<Text, OutOfMemory>
         ensures { IfOk result (λ t. t ≡ self.now) }

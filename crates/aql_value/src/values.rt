@@ -1,11 +1,13 @@
 ghost use Rattle.std.specs.Prelude.{◌≡◌, []};
 ghost use Rattle.aql_value.specs.View.{datum_of, datums_in};
+ghost use Rattle.aql_value.specs.Fields.{fields_in, members_in};
 ghost use Rattle.aql_value.specs.WellFormed.{WellFormed};
 
 use crate::texts::recall_utf8;
 use crate::{OutOfMemory, Text};
 use std::alloc::Global;
 use std::marker::Model;
+use std::rc::Rc;
 
 /// A value of AQL (AQL fundamentals, Data types): null, a bool, a whole number of 64 bits with its
 /// sign, a text, an array or an object. Contracts see it as a datum, by `datum_of`.
@@ -61,7 +63,8 @@ pub struct Member {
 /// Contracts see the list of the names with the datums of their values.
 #[cycle(value)]
 pub struct Members {
-    pub(crate) entries: Vec<Member>,
+    /// shared with its copies; none where there is no attribute
+    pub(crate) entries: Option<Rc<Vec<Member>>>,
 }
 
 impl Model for Members {
@@ -72,21 +75,21 @@ impl Model for Members {
 
     ghost coded = { coded_fields };
 
-    ghost use Rattle.aql_value.specs.Fields.{fields_in};
+    ghost use Rattle.aql_value.specs.Fields.{fields_in, members_in};
 
-    ghost view = { λ a. fields_in a.entries.items };
+    ghost view = { λ a. fields_in (members_in a.entries) };
 
     ghost use Rattle.aql_value.specs.Sizes.{fields_size};
     ghost use Rattle.aql_value.specs.Datum.{object_of};
     ghost use Rattle.aql_value.specs.WellFormed.{FieldsWellFormed};
 
-    ghost invariant = { λ a. FieldsWellFormed (object_of (fields_in a.entries.items)) };
+    ghost invariant = { λ a. FieldsWellFormed (object_of (fields_in (members_in a.entries))) };
 
     ghost size = { fields_size };
 
-    ghost use Rattle.aql_value.specs.laws.Falls.{members_fall};
+    ghost use Rattle.aql_value.specs.laws.Falls.{entries_fall};
 
-    ghost size_decreases = { λ a h. members_fall a.entries.items };
+    ghost size_decreases = { λ a h. entries_fall a };
 }
 
 impl Value {
@@ -157,6 +160,25 @@ impl Items {
         recall_well_formed(&item);
         self.items.push(item)?;
         Ok(())
+    }
+}
+
+impl Members {
+    /// The attributes in the order of their names, borrowed.
+    pub fn as_slice(&self) -> &[Member]
+        ensures { fields_in result.now ≡ self.now }
+    {
+        entries_in(&self.entries)
+    }
+}
+
+/// The attributes that are kept.
+pub(crate) fn entries_in(entries: &Option<Rc<Vec<Member>>>) -> &[Member]
+    ensures { result.now ≡ members_in entries.now }
+{
+    match entries {
+        Some(entries) => entries.as_slice(),
+        None => &[],
     }
 }
 

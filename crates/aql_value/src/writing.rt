@@ -7,7 +7,7 @@ ghost use Rattle.aql_value.specs.View.{datum_of};
 ghost use Rattle.aql_value.specs.Json.{json_text, comma_if};
 ghost use Rattle.aql_value.specs.inner.Writes.{Writes, member_text};
 
-use crate::values::Member;
+use crate::values::{Member, entries_in};
 use crate::{Items, Members, OutOfMemory, Text, Value};
 
 /// Appends the canonical JSON of a value: no blanks, attributes in the order of their names,
@@ -69,7 +69,7 @@ fn write_members(members: &Members, out: &mut Vec<u8>) -> Result<(), OutOfMemory
         (json_text (object (object_of members.now))) }
 {
     put(b"{", out)?;
-    for (i, member) in members.entries.iter().enumerate() {
+    for (i, member) in entries_in(&members.entries).iter().enumerate() {
         write_member(i > 0, member, out)?;
     }
     put(b"}", out)

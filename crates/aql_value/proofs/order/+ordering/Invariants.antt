@@ -1,4 +1,5 @@
 use Rattle.std.proofs.Common.{◌≡◌, ◌≤◌, length}
+use Rattle.aql_value.specs.Fields.{members_in}
 use Rattle.aql_value.proofs.Rests.{rest_of_items, rest_of_members}
 use Rattle.aql_value.proofs.order.+ordering.Given as goal
 
@@ -22,6 +23,6 @@ invariant-order_items-loop-i l =
 
 abbrev pub invariant-order_members-loop-i : goal.invariant-order_members-loop-i
 invariant-order_members-loop-i l =
-    (rest_of_members l.a-inside.entries.items l.b-inside.entries.items l.i
-    ≡ rest_of_members l.a-inside.entries.items l.b-inside.entries.items 0)
-    × (l.i ≤ length l.b-inside.entries.items)
+    (rest_of_members (members_in l.a-inside.entries) (members_in l.b-inside.entries) l.i
+    ≡ rest_of_members (members_in l.a-inside.entries) (members_in l.b-inside.entries) 0)
+    × (l.i ≤ length (members_in l.b-inside.entries))

@@ -55,11 +55,12 @@ members_of-invariant_of-result t c =
     let fs = fields_in c.loop-key.entries.items in
     let all = sym (append-nil (names fs)) ∙ ap (λ es. names fs ++ keys es) (sym c.in-None.ensures.steps.0)
     ∙ c.loop-key.invariant.1 in
-    well_from_keys fs c.args.members.entries all c.len.ensures.ordered c.loop-key.invariant.2
+    rw c.in_ok-new.ensures.ok
+    (well_from_keys fs c.args.members.entries all c.len.ensures.ordered c.loop-key.invariant.2)
 
 pub members_of-returns : goal.members_of-returns
 members_of-returns t c =
     let fs = fields_in c.loop-key.entries.items in
-    c.loop-key.invariant.0 ∙ ap
+    rw c.in_ok-new.ensures.ok (c.loop-key.invariant.0 ∙ ap
     (λ es. option_map (fields_before fs) (members_from_json (members_view es))) c.in-None.ensures.steps.0
-    ∙ ap Some (fields_all fs)
+    ∙ ap Some (fields_all fs))

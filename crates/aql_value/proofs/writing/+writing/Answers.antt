@@ -30,8 +30,8 @@ write_members-returns-in_err-write_member t c =
 
 pub write_members-returns : goal.write_members-returns
 write_members-returns t c =
-    let seen = ap fields_in c.deref-member-items.ensures.value ∙ c.members.view_is in
-    let e = members_end c.deref-member-items.result.now c.loop-i.i c.loop-i.out.items _
+    let seen = ap fields_in c.entries_in-member-items.ensures ∙ c.members.view_is in
+    let e = members_end c.entries_in-member-items.result.now c.loop-i.i c.loop-i.out.items _
     (nat_lt 0 c.loop-i.i) c.loop-i-test.false c.loop-i.invariant.0 in
     finish c.put-2.result c.args.out.now.items c.loop-i.out.items c.put-2.new.out.items (125 ∷ [])
     (json_text (object (object_of c.args.members.now))) c.put-2.ensures
