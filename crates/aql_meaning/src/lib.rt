@@ -4,6 +4,7 @@
 mod grouping;
 pub mod laws;
 mod nodes;
+mod variables;
 pub mod worked;
 
 pub use aql_tree::{
@@ -13,3 +14,4 @@ pub use aql_tree::{
 };
 pub use grouping::Stage;
 pub use nodes::{Edge, Last, TraversalOptions};
+pub use variables::same_variable;

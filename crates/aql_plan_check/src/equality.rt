@@ -11,7 +11,8 @@ ghost use Rattle.aql_plan.specs.Shapes as spec;
 ghost use Rattle.aql_plan_check.specs.inner.Sameness.{LetsSame, KeysSame, AggregatesSame, AreAttributes};
 
 use crate::shapes::Order;
-use aql_rewrite::{same_expr, same_variable};
+use aql_meaning::same_variable;
+use aql_rewrite::same_expr;
 use aql_tree::{AggregateItem, Expr, Ident, Key, Let, Step};
 use aql_value::Text;
 

@@ -3,13 +3,13 @@
 ghost use Rattle.std.specs.Prelude.{◌≡◌, ◌↔◌, IsTrue, map, option_map};
 ghost use Rattle.std.specs.Cmp.Lexicographic.{pointwise};
 ghost use Rattle.aql_meaning.specs.Plain.{IsPlain};
-ghost use Rattle.aql_meaning.specs.Row.{same_ident};
 ghost use Rattle.aql_tree.specs.View.{tree, maybe, step_part, member_part, link_part};
 ghost use Rattle.aql_rewrite.specs.inner.Same as spec;
 ghost use Rattle.aql_rewrite.specs.inner.Same.{op_number, sign_number, kind_number};
 
 use aql_func::{BinOp, UnaryOp};
-use aql_tree::{Expr, Field, Ident, Link, QuantKind, Step};
+use aql_meaning::same_variable;
+use aql_tree::{Expr, Field, Link, QuantKind, Step};
 
 fn number(op: BinOp) -> u8
     ensures { result ≡ op_number op }
@@ -52,18 +52,6 @@ fn number_of_kind(kind: QuantKind) -> u8
         QuantKind::All => 0,
         QuantKind::Any => 1,
         QuantKind::None => 2,
-    }
-}
-
-/// Whether two variables are the same.
-pub fn same_variable(a: &Ident, b: &Ident) -> bool
-    ensures same { result ≡ same_ident a.now b.now }
-    ensures equal { IsTrue result ↔ (a.now ≡ b.now) }
-{
-    match (a, b) {
-        (Ident::Name(a), Ident::Name(b)) => a.as_str() == b.as_str(),
-        (Ident::Num(a), Ident::Num(b)) => *a == *b,
-        _ => false,
     }
 }
 

@@ -26,7 +26,7 @@ pub use above::{is_used, only, result_uses};
 pub use apart::{has_body, is_start, replace_below, replace_body, with_below, with_body};
 pub use changing::ChangingRule;
 pub use constants::is_constant;
-pub use equality::{same_expr, same_variable};
+pub use equality::same_expr;
 pub use exchange::ExchangeRule;
 pub use expr_rule::ExprRule;
 pub use expr_search::{first_in_expr, first_of};

@@ -16,8 +16,9 @@ ghost use Rattle.aql_rules_index.specs.inner.Parts.{is_and_chain as spec_is_and_
 ghost use Rattle.aql_rules_index.specs.inner.Views.{item_tree};
 
 use aql_func::BinOp;
+use aql_meaning::same_variable;
 use aql_plan::{add_uses, is_all_and};
-use aql_rewrite::{children, is_used, only, same_variable};
+use aql_rewrite::{children, is_used, only};
 use aql_tree::{Expr, Ident, Link, Step};
 use aql_value::{OutOfMemory, Seq, Text};
 use std::alloc::Global;

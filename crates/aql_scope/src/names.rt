@@ -3,13 +3,13 @@
 ghost use Rattle.std.specs.Prelude.{◌≡◌, [], ◌∷◌, ◌++◌, suc, length, reverse, IfOk, OnOk};
 ghost use Rattle.aql_scope.specs.Numbering.{number_of, idents, text_of};
 ghost use Rattle.aql_tree.specs.declared.syntax.Ident.TheVariants.{Num};
-ghost use Rattle.aql_meaning.specs.Row.{same_ident};
 ghost use Rattle.aql_scope.specs.Faults.{is_among, inline};
 ghost use Rattle.aql_scope.specs.Contexts.{context_of, context_within};
 ghost use Rattle.aql_meaning.specs.Groups.{names_of};
 
 use crate::Made;
 use aql_doc::Catalog;
+use aql_meaning::same_variable;
 use aql_tree::{Ident, copy_ident};
 use aql_value::{Names, Text};
 use std::alloc::Global;
@@ -58,16 +58,6 @@ pub struct At<'a> {
     pub lifts: bool,
 }
 
-pub fn is_same(a: &Ident, b: &Ident) -> bool
-    ensures { result ≡ same_ident a.now b.now }
-{
-    match (a, b) {
-        (Ident::Name(a), Ident::Name(b)) => a.as_str() == b.as_str(),
-        (Ident::Num(a), Ident::Num(b)) => *a == *b,
-        _ => false,
-    }
-}
-
 /// How a variable is written; nothing for a number.
 pub fn spelling(alloc: Global, ident: &Ident) -> Made<Text>
     ensures { IfOk result (λ t. t ≡ text_of ident.now) }
@@ -84,7 +74,7 @@ fn number_in(entries: &[(Ident, u32)], ident: &Ident) -> Option<u32>
 {
     let mut found = None;
     for entry in entries {
-        if is_same(&entry.0, ident) {
+        if same_variable(&entry.0, ident) {
             found = Some(entry.1);
         }
     }
