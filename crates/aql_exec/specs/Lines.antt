@@ -23,11 +23,11 @@ pub record Line : Type 0 where
 abbrev pub no_line : Line
 no_line = record { talk = fresh; flying = []; sent = 0 }
 
--- what an ask on a link may be: all rows are wanted, some at a time
-pub record IsAsk (c : Call) : Type 0 where
+-- what an ask on a link may be: all rows are wanted, so many at a time at most
+pub record IsAsk (most : ℕ) (c : Call) : Type 0 where
   pub offset : c.offset ≡ 0
   pub some : 1 ≤ c.soft
-  pub batch : c.soft ≤ 10000
+  pub batch : c.soft ≤ most
   pub hard : c.hard ≡ 18446744073709551615
 
 -- what a reply to an ask may be
@@ -38,14 +38,15 @@ pub record IsReply (c : Call) (step : Step) : Type 0 where
   pub ready : step.progress ≡ Waiting → ⊥
   pub more : step.progress ≡ HasMore → 0 < step.skipped + length (rows_of step.block)
 
--- what may be said next: an ask first, then a reply to it, and an ask again unless the reply was the last
-abbrev pub Next : Talk → Message → Type 0
-Next fresh (Ask c) = IsAsk c
-Next fresh (Reply step) = ⊥
-Next (asked d) (Ask c) = ⊥
-Next (asked d) (Reply step) = IsReply d step
-Next (answered p) (Ask c) = (p ≡ HasMore) × IsAsk c
-Next (answered p) (Reply step) = ⊥
+-- what may be said next, where an ask wants at most `batch` rows at a time: an ask first, then a reply to it,
+-- and an ask again unless the reply was the last
+abbrev pub Next : ℕ → Talk → Message → Type 0
+Next batch fresh (Ask c) = IsAsk batch c
+Next batch fresh (Reply step) = ⊥
+Next batch (asked d) (Ask c) = ⊥
+Next batch (asked d) (Reply step) = IsReply d step
+Next batch (answered p) (Ask c) = (p ≡ HasMore) × IsAsk batch c
+Next batch (answered p) (Reply step) = ⊥
 
 -- a link after a message was sent on it
 abbrev pub with_message : Line → Message → Line

@@ -7,6 +7,7 @@ use Rattle.aql_exec.specs.declared.surroundings.Surroundings
 -- a message was taken off its link, and nothing else happened
 pub record Taken {W : Type 0} (p : Surroundings.Ghosts W) (w w' : W) (l : ℕ) (m : Message) : Type 0 where
   pub stock_kept : p.stock w' ≡ p.stock w
+  pub batch_kept : p.batch w' ≡ p.batch w
   pub links_kept : p.links w' ≡ p.links w
   pub counted_kept : p.counted w' ≡ p.counted w
   pub older : List Message

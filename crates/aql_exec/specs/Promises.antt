@@ -29,12 +29,15 @@ pub record Begun (node : Operator) (unreported : ℕ → ℕ) (ours waited stuck
 pub record IsStill {W : Type 0} (p : Surroundings.Ghosts W) (w w' : W) : Type 0 where
   pub stock : p.stock w' ≡ p.stock w
   pub deliveries : p.deliveries w' ≡ p.deliveries w
+  pub batch : p.batch w' ≡ p.batch w
   pub links : p.links w' ≡ p.links w
   pub flight : (l : ℕ) → p.flight w' l ≡ p.flight w l
 
--- what a feed with these links leaves of its surroundings: the documents, the deliveries, and all other links
+-- what a feed with these links leaves of its surroundings: the documents, the deliveries, the batch, and all
+-- other links
 pub record Beside {W : Type 0} (p : Surroundings.Ghosts W) (own : ℕ → Type 0) (w w' : W) : Type 0 where
   pub stock : p.stock w' ≡ p.stock w
   pub deliveries : p.deliveries w' ≡ p.deliveries w
+  pub batch : p.batch w' ≡ p.batch w
   pub grows : p.links w ≤ p.links w'
   pub others : (l : ℕ) → l < p.links w → (own l → ⊥) → p.flight w' l ≡ p.flight w l

@@ -72,6 +72,7 @@ pub trait Feed<W: Surroundings> {
         requires valid { valid self.old world.old }
         requires plan { IsTree (W.stock world.old).facts (plan self.old) }
         requires call { IsCall call }
+        requires batch { call.soft ≤ W.batch world.old }
         requires may { may self.old call }
         ensures plan { plan self.new ≡ plan self.old }
         ensures full { full self.new ≡ full self.old }
@@ -108,8 +109,9 @@ pub trait Feed<W: Surroundings> {
         → ((l : ℕ) → ours s l → W.flight w' l ≡ W.flight w l) → (r : Rest) → rests s w' r
         → rests s w r };
 
-    ghost kept_valid: { (s : Self) (w w' : W) → W.stock w' ≡ W.stock w → W.links w ≤ W.links w'
-        → ((l : ℕ) → ours s l → W.flight w' l ≡ W.flight w l) → valid s w → valid s w' };
+    ghost kept_valid: { (s : Self) (w w' : W) → W.stock w' ≡ W.stock w → W.batch w' ≡ W.batch w
+        → W.links w ≤ W.links w' → ((l : ℕ) → ours s l → W.flight w' l ≡ W.flight w l)
+        → valid s w → valid s w' };
 
     ghost kept_budget: { (s : Self) (w w' : W) → W.stock w' ≡ W.stock w
         → ((l : ℕ) → ours s l → W.flight w' l ≡ W.flight w l) → budget s w' ≤ budget s w };
@@ -202,6 +204,7 @@ pub trait Executor<W: Surroundings> {
         requires valid { valid self.old world.old }
         requires node { IsOperator (W.stock world.old).facts (node self.old) }
         requires call { IsCall call }
+        requires batch { call.soft ≤ W.batch world.old }
         requires may { may self.old port call }
         requires port { (port ≡ 0) ⊎ (port < ports (node self.old)) }
         requires idle { port ≡ 0 → busy self.old → ⊥ }
@@ -405,8 +408,9 @@ pub trait Executor<W: Surroundings> {
         → (p : ℕ) (body : OperatorTree) (ins : ℕ → Rest) (r : Rest) → gives s w' p body ins r
         → gives s w p body ins r };
 
-    ghost kept_valid: { (s : Self) (w w' : W) → W.stock w' ≡ W.stock w → W.links w ≤ W.links w'
-        → ((l : ℕ) → ours s l → W.flight w' l ≡ W.flight w l) → valid s w → valid s w' };
+    ghost kept_valid: { (s : Self) (w w' : W) → W.stock w' ≡ W.stock w → W.batch w' ≡ W.batch w
+        → W.links w ≤ W.links w' → ((l : ℕ) → ours s l → W.flight w' l ≡ W.flight w l)
+        → valid s w → valid s w' };
 
     ghost kept_budget: { (s : Self) (w w' : W) → W.stock w' ≡ W.stock w
         → ((l : ℕ) → ours s l → W.flight w' l ≡ W.flight w l) → (f : ℕ)

@@ -270,7 +270,7 @@ impl<W: Surroundings> Executor<W> for Limit {
 
     ghost kept_gives = { λ _ _ _ _ _ _ _ _ _ h. h };
 
-    ghost kept_valid = { λ _ _ _ _ _ _ h. h };
+    ghost kept_valid = { λ _ _ _ _ _ _ _ h. h };
 
     ghost kept_budget = { λ s _ _ _ _ _. le_refl (budget_limit s) };
 

@@ -49,26 +49,33 @@ pub trait Mail: Surroundings {
         → 0 < length (queue w) };
 }
 
-/// A world in which messages go out on links.
+/// A world in which messages go out on links. What is said on one changes no other, not even one
+/// that is not made yet.
 pub trait Wires: Surroundings {
     /// Makes a link, and says this on it.
     fn first(&mut self, message: Message) -> Result<u64, OutOfMemory>
-        requires { Next no_line.talk message }
+        requires { Next (Self.batch self.old) no_line.talk message }
         ensures world { Beside Self.Surroundings (λ _. ⊥) self.old self.new }
         ensures counted { Self.counted self.new ≡ Self.counted self.old }
-        ensures sent { IfOk result (λ l. (Self.links self.old ≤ l) × (l < Self.links self.new)
-            × (Self.flight self.new l ≡ with_message no_line message)) };
+        ensures unused { IfOk result (λ l. (Self.links self.old ≤ l)
+            × (l < Self.links self.new) × (Self.flight self.old l ≡ no_line)) }
+        ensures sent { IfOk result
+            (λ l. Self.flight self.new l ≡ with_message no_line message) }
+        ensures others { IfOk result
+            (λ l. (j : ℕ) → (j ≡ l → ⊥) → Self.flight self.new j ≡ Self.flight self.old j) };
 
     /// Says this on a link that has nothing in flight.
     fn send(&mut self, link: u64, message: Message) -> Result<(), OutOfMemory>
         requires link { link < Self.links self.old }
         requires free { (Self.flight self.old link).flying ≡ [] }
-        requires next { Next (Self.flight self.old link).talk message }
+        requires next { Next (Self.batch self.old) (Self.flight self.old link).talk message }
         ensures world { Beside Self.Surroundings (λ l. l ≡ link) self.old self.new }
         ensures counted { Self.counted self.new ≡ Self.counted self.old }
         ensures links { Self.links self.new ≡ Self.links self.old }
         ensures sent { OnOk result (Self.flight self.new link
-            ≡ with_message (Self.flight self.old link) message) };
+            ≡ with_message (Self.flight self.old link) message) }
+        ensures others { OnOk result
+            ((j : ℕ) → (j ≡ link → ⊥) → Self.flight self.new j ≡ Self.flight self.old j) };
 }
 
 /// Picks the message that is delivered next.
@@ -100,7 +107,8 @@ pub trait Wired<W: Surroundings>: Executor<W> {
     fn received(&self) -> Option<Call>
         requires { (w : W) × Self.valid self.now w }
         ensures { MatchOption result (serves self.now ≡ false)
-            (λ c. (serves self.now ≡ true) × IsCall c × (c.offset ≡ 0)) };
+            (λ c. (serves self.now ≡ true) × IsCall c × (c.offset ≡ 0)
+            × ((w : W) → Self.valid self.now w → c.soft ≤ W.batch w)) };
 
     /// a message that was taken off a link; of one of its own it takes what it says
     fn deliver(

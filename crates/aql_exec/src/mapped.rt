@@ -203,7 +203,7 @@ impl<W: Surroundings, M: RowMap<W>> Executor<W> for Mapped<M> {
 
     ghost kept_gives = { λ _ _ _ _ _ _ _ _ _ h. h };
 
-    ghost kept_valid = { λ _ _ _ _ _ _ h. h };
+    ghost kept_valid = { λ _ _ _ _ _ _ _ h. h };
 
     ghost kept_budget = { λ s _ _ _ _ _. le_refl (budget_mapped s) };
 

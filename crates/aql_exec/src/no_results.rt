@@ -90,7 +90,7 @@ impl<W: Surroundings> Executor<W> for NoResults {
 
     ghost kept_gives = { λ _ _ _ _ _ _ _ _ _ h. h };
 
-    ghost kept_valid = { λ _ _ _ _ _ _ h. h };
+    ghost kept_valid = { λ _ _ _ _ _ _ _ h. h };
 
     ghost kept_budget = { λ _ _ _ _ _ _. le_refl 0 };
 

@@ -115,7 +115,7 @@ impl<W: Surroundings> Executor<W> for Singleton {
 
     ghost kept_gives = { λ _ _ _ _ _ _ _ _ _ h. h };
 
-    ghost kept_valid = { λ _ _ _ _ _ _ h. h };
+    ghost kept_valid = { λ _ _ _ _ _ _ _ h. h };
 
     ghost kept_budget = { λ s _ _ _ _ _. le_refl (length (held_row s.row)) };
 

@@ -119,7 +119,7 @@ impl<W: Surroundings, T: Transform<W>> Executor<W> for Stream<T> {
 
     ghost budget = { λ s w _. stream_budget T.Transform W.Surroundings s w };
 
-    ghost full = { λ _ _. 1 };
+    ghost full = { λ _ _. 2 };
 
     ghost row_cost = { λ s _ _. row_cost_of (T.node s.transform) + 1 };
 
@@ -210,7 +210,7 @@ impl<W: Surroundings, T: Transform<W>> Executor<W> for Stream<T> {
 
     ghost kept_gives = { λ _ _ _ e _ _ _ _ _ h. rw (← e) h };
 
-    ghost kept_valid = { λ _ _ _ e _ _ h. rw e h };
+    ghost kept_valid = { λ _ _ _ e _ _ _ h. rw e h };
 
     ghost kept_budget = { λ s w _ e _ _. rw e (le_refl _) };
 

@@ -5,7 +5,7 @@ ghost use Rattle.aql_plan.specs.Runs.{Dataset};
 ghost use Rattle.aql_block.specs.declared.tally.Tally.{Tally};
 ghost use Rattle.aql_exec.specs.Lines.{Line, Deliveries};
 
-/// What is about a feed: documents, counts and links.
+/// What is about a feed: documents, counts, links and the batch of its run.
 pub trait Surroundings {
     /// the documents, which no feed changes
     ghost stock: { Self → Dataset };
@@ -21,4 +21,7 @@ pub trait Surroundings {
 
     /// the deliveries so far, which no feed adds to
     ghost deliveries: { Self → Deliveries };
+
+    /// how many rows an ask on a link may want at a time
+    ghost batch: { Self → ℕ };
 }

@@ -42,13 +42,13 @@ pub trait Transform<W: Surroundings> {
 
     ghost valid: { Self → Dataset → Type 0 };
 
-    /// Forgets what it holds, and starts from this row.
+    /// Forgets what it holds, and starts from this row. One row at most is owed from the start.
     fn begin(&mut self, alloc: Global, start: &Row) -> Result<(), OutOfMemory>
         ensures node { node self.new ≡ node self.old }
         ensures valid { OnOk result ((w : Dataset) → valid self.new w) }
         ensures ready { OnOk result (ready self.new) }
         ensures closed { OnOk result (closed self.new ≡ false) }
-        ensures held { OnOk result ((w : Dataset) → held self.new w ≡ 0) }
+        ensures held { OnOk result ((w : Dataset) → held self.new w ≤ 1) }
         ensures left { OnOk result ((w : Dataset) (rows : List meaning.Row) (r : Rest)
             → left self.new w rows r → NoneSent r.counts
             × GivesCounting (node self.new) w (row_of start.now) rows r.rows r.counts) };

@@ -110,12 +110,19 @@ rises_then p t t' t'' w w' w'' d d' a b = record {
 
 module _ {W : Type 0} (p : Surroundings.Ghosts W) where
   pub still_same : (w : W) → IsStill p w w
-  still_same w = record { stock = refl; deliveries = refl; links = refl; flight = λ l. refl }
+  still_same w = record {
+    stock = refl;
+    deliveries = refl;
+    batch = refl;
+    links = refl;
+    flight = λ l. refl;
+  }
 
   pub still_then : (u v w : W) → IsStill p u v → IsStill p v w → IsStill p u w
   still_then u v w a b = record {
     stock = b.stock ∙ a.stock;
     deliveries = b.deliveries ∙ a.deliveries;
+    batch = b.batch ∙ a.batch;
     links = b.links ∙ a.links;
     flight = λ l. b.flight l ∙ a.flight l;
   }
