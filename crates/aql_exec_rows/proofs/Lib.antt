@@ -10,4 +10,4 @@ pub mod Seen
 pub mod Adding
 pub mod Finishing
 pub mod Setting
-pub mod Telling
+pub mod Leaving

@@ -1,6 +1,6 @@
 //! The rows of groups.
 
-ghost use Rattle.std.specs.Prelude.{◌≡◌, ◌≤◌, ◌<◌, ◌+◌, ◌++◌, length, map, drop, option_map, option_to_list, reverse, true, IfOk, OnOk};
+ghost use Rattle.std.specs.Prelude.{◌≡◌, ◌≤◌, ◌<◌, ◌+◌, ◌++◌, [], length, map, drop, option_map, option_to_list, reverse, true, IfOk, OnOk};
 ghost use Rattle.std.specs.List.{list_all};
 ghost use Rattle.aql_value.specs.View.{datum_of, datums_in};
 ghost use Rattle.aql_value.specs.Contents.{elements};
@@ -172,8 +172,8 @@ impl Frame {
         ensures rows { IfOk result (λ block.
             map (framed self.now) (reverse (finished_in groups.old.items))
             ≡ rows_of block ++ map (framed self.now) (reverse (finished_in groups.new.items))) }
-        ensures some { IfOk result
-            (λ block. 1 ≤ length groups.old.items → 1 ≤ length (rows_of block)) }
+        ensures none { IfOk result
+            (λ block. length (rows_of block) ≡ 0 → groups.new.items ≡ []) }
     {
         let count = most.min(groups.len() as u64).min(u64::from(u32::MAX)) as u32;
         let mut block = Block::new(alloc, &self.registers, count)?;

@@ -50,20 +50,19 @@ pub(crate) fn number_of(var: &Ident) -> u32
     }
 }
 
-/// The aggregates in a stage, in order.
+/// The aggregates that are known, in a stage, in order.
 pub(crate) fn kinds_of(
     alloc: Global,
     stage: Stage,
     aggregates: &[AggregateItem],
 ) -> Result<Vec<StagedKind>, OutOfMemory>
-    requires { AllKnown (aggregate_trees aggregates.now) }
-    ensures { IfOk result (λ kinds. AreKinds stage aggregates.now kinds.items) }
+    ensures { IfOk result (λ kinds. AllKnown (aggregate_trees aggregates.now)
+        → AreKinds stage aggregates.now kinds.items) }
 {
     let mut kinds = Vec::with_capacity(alloc, aggregates.len())?;
     for item in aggregates {
-        match aggregate_kind(item.name.as_str()) {
-            Some(kind) => kinds.push(StagedKind { stage, kind })?,
-            None => unreachable!(),
+        if let Some(kind) = aggregate_kind(item.name.as_str()) {
+            kinds.push(StagedKind { stage, kind })?;
         }
     }
     Ok(kinds)

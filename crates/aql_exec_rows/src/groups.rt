@@ -137,13 +137,6 @@ impl Groups {
         Ok(at)
     }
 
-    /// How many groups there are.
-    pub(crate) fn len(&self) -> usize
-        ensures { result ≡ length self.now.kept.items }
-    {
-        self.kept.len()
-    }
-
     /// What comes of each group, in ascending order of the criteria.
     pub(crate) fn finish(self, alloc: Global) -> Result<Vec<Finished>, OutOfMemory>
         requires { length self.kept.items ≡ length self.keys.keys }

@@ -11,6 +11,6 @@ mod keyed;
 mod sort;
 mod subquery;
 
-pub use collect::Collect;
+pub use collect::{Collect, GroupRows};
 pub use sort::{Order, Sort};
 pub use subquery::{Subquery, add_results};

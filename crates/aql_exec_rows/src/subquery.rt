@@ -286,7 +286,7 @@ impl<W: Surroundings> Executor<W> for Subquery {
 
     ghost kept_gives = { λ _ _ _ e _ _ _ _ _ h. rw (← e) h };
 
-    ghost kept_valid = { λ _ _ _ _ _ _ h. h };
+    ghost kept_valid = { λ _ _ _ _ _ _ _ h. h };
 
     ghost kept_budget = { λ s _ _ _ _ f. le_refl (budget_subquery s f) };
 

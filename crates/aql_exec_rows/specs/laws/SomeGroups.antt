@@ -1,6 +1,6 @@
--- COLLECT may always give something, and it counts more where its input counts more. Whichever rows the
--- groups keep, a COLLECT makes the same of them and of the rows that come.
-use Rattle.std.proofs.Common.{◌≡◌, ◌∙◌, ℕ, zero, suc, ◌+◌, List, [], ◌∷◌, ◌++◌, map, reverse, Bool, true, false, ◌||◌, Option, Some, None, refl, sym, ap, ap₂, subst, true≢false, arith}
+-- COLLECT may always give something: whichever rows the groups keep, it makes the same of them and of the
+-- rows that come.
+use Rattle.std.proofs.Common.{◌≡◌, ◌∙◌, ◌⊎◌, inl, inr, ℕ, suc, ◌+◌, List, [], ◌∷◌, ◌++◌, map, Bool, true, false, ◌||◌, Option, Some, None, refl, sym, ap, ap₂, subst, true≢false, arith}
 use Rattle.std.specs.Prelude.{slice_get, MatchOption, IsPermutation}
 use Rattle.std.specs.List.{AllZip}
 use mathlib.Core.Bool.{false≢true}
@@ -21,19 +21,18 @@ use Rattle.aql_meaning.specs.Visible.{aggregate_vars, into_var}
 use Rattle.aql_meaning.specs.Stages.{stage_functions}
 use Rattle.aql_meaning.specs.laws.SomeAnswer.{some_collect as some_collects}
 use Rattle.aql_block.specs.Rows.{row_of}
-use Rattle.aql_exec.specs.Rests.{Counts, Rest, Prefixed, Exact}
-use Rattle.aql_exec.specs.Operators.{is_first}
+use Rattle.aql_exec.specs.Rests.{Rest}
+use Rattle.aql_exec.specs.Counting.{nothing}
 use Rattle.aql_aggregate.specs.declared.staged.StagedKind.{StagedKind}
 use Rattle.aql_aggregate.specs.declared.staged.StagedAccumulator.{StagedAccumulator}
 use Rattle.aql_aggregate.specs.Staged.{Staged, staged, made, KeepsIn}
 use Rattle.aql_exec_rows.specs.Settings.{criteria_vars, aggregate_trees, into_of, AreKinds}
-use Rattle.aql_exec_rows.specs.GroupStates.{seen, arguments_of, into_values_of, IsGroup, key_of, members_of, keys_seen, AreGroups, Holds, functions_of, finished_in}
-use Rattle.aql_exec_rows.specs.Framed.{framed}
-use Rattle.aql_exec_rows.specs.Collecting.{CollectsBy, GivesOver, Leaves, gives_collect, CollectIs}
+use Rattle.aql_exec_rows.specs.GroupStates.{arguments_of, into_values_of, IsGroup, key_of, members_of, keys_seen, AreGroups, Holds, functions_of}
+use Rattle.aql_exec_rows.specs.Collecting.{CollectsBy, HasKinds, Keeps, more_rows, rows_from, LeavesGroups, left_collect, CollectIs}
 use Rattle.aql_exec_rows.specs.declared.grouping.Grouping.{Grouping}
 use Rattle.aql_exec_rows.specs.declared.group.Group.{Group}
 use Rattle.aql_exec_rows.specs.declared.groups.Groups.{Groups}
-use Rattle.aql_exec_rows.specs.declared.collect.Collect.{Collect}
+use Rattle.aql_exec_rows.specs.declared.collect.GroupRows.{GroupRows}
 use Rattle.aql_exec_rows.specs.laws.Later.{same_keys}
 use Rattle.aql_exec_rows.specs.laws.LaterInStages.{same_in_stage}
 use Rattle.aql_exec_rows.specs.laws.Members.{new_key, functions_are}
@@ -194,51 +193,35 @@ module _ (g : Grouping) (kinds : List StagedKind) (known : AreKinds g.stage g.ag
       (groups_alike g.criteria p p' q (sym h.keys ∙ h'.keys))
       (rows_alike g.criteria refl out (subst (by (p ++ q)) fs a)))
 
--- ---- the executor
+-- ---- the transform
 
-pub some_collect : (s : Collect) (ins : ℕ → Rest) → CollectIs s → (r : Rest) × gives_collect s ins r
-some_collect s ins v = by s.done refl
-  where
-    by : (b : Bool) → s.done ≡ b
-        → (r : Rest) × GivesOver b s.grouping s.kinds.items s.groups s.frame s.finished.items (ins 0) r
-    by true e = (
-      record {
-        rows = map (framed s.frame) (reverse (finished_in s.finished.items));
-        counts = (ins 0).counts;
-      },
-      (refl, λ c. refl),
-    )
-    by false e =
-        let g = s.grouping in
-        let start = row_of s.frame.start in
-        let held = v.held e in
-        let coming = map (seen g) (ins 0).rows in
-        let o = some_collects (criteria_vars g.criteria) (aggregate_vars (aggregate_trees g.aggregates))
-        (stage_functions g.stage (aggregate_trees g.aggregates)) (into_var (into_of g.into)) start
-        (held.0 ++ coming) in (
-          record { rows = o.0; counts = (ins 0).counts },
-          (
-            λ before h. same_collected g s.kinds.items v.kinds s.groups start held.0 before coming held.1 h
-                o.0 o.1,
-            λ c. refl,
-          ),
-        )
+module _ (s : GroupRows) (rows : List Row) where
+  abbrev Collected : List GroupedRow → List Row → Type 0
+  Collected before out = CollectsBy s.grouping (row_of s.frame.start) (before ++ more_rows s rows) out
 
-pub more_collect : (v : Exact) (s : Collect) (k : ℕ) (d : Counts) (ins ins' : ℕ → Rest) (r : Rest)
-    → is_first k ≡ true
-    → Prefixed v [] d (ins k) (ins' k) → ((j : ℕ) → (j ≡ k → ⊥) → ins' j ≡ ins j) → gives_collect s ins r
-    → (b : Rest) × Prefixed v [] d r b × gives_collect s ins' b
-more_collect v s zero d ins ins' r e a o h = (
-  record { rows = r.rows; counts = (ins' 0).counts },
-  record {
-    rows = refl;
-    counts = λ c. (let m = a.counts c in let n = h.1 c in omega (arith, m, n));
-    exact = λ c y. (let m = a.exact c y in let n = h.1 c in omega (arith, m, n));
-  },
-  (
-    subst (λ rows. Leaves s.done s.grouping s.kinds.items s.groups s.frame s.finished.items rows r.rows)
-        (sym a.rows) h.0,
-    λ c. refl,
-  ),
-)
-more_collect v s (suc k) d ins ins' r e a o h = absurd (false≢true e)
+  -- whichever rows the groups keep
+  same_rows : (before before' : List GroupedRow) (out : List Row) → Keeps s before → Keeps s before'
+      → Collected before out → Collected before' out
+  same_rows before before' out h h' a = by h.1 h'.1
+    where
+      known : HasKinds s → Collected before' out
+      known k = same_collected s.grouping s.kinds.items k s.groups (row_of s.frame.start) before before'
+          (more_rows s rows) h.0 h'.0 out a
+
+      by : HasKinds s ⊎ (before ≡ []) → HasKinds s ⊎ (before' ≡ []) → Collected before' out
+      by (inl k) _ = known k
+      by (inr e) (inl k) = known k
+      by (inr e) (inr e') = subst (λ rows. Collected rows out) (e ∙ sym e') a
+
+  some_rows : CollectIs s → (made : Bool) → s.made ≡ made → (out : List Row) × LeavesGroups made s rows out
+  some_rows is true e = (rows_from s.frame s.finished.items, refl)
+  some_rows is false e =
+      let g = s.grouping in
+      let kept = is.kept e in
+      let o = some_collects (criteria_vars g.criteria) (aggregate_vars (aggregate_trees g.aggregates))
+      (stage_functions g.stage (aggregate_trees g.aggregates)) (into_var (into_of g.into)) (row_of s.frame.start)
+      (kept.0 ++ more_rows s rows) in (o.0, λ before h. same_rows kept.0 before o.0 kept.1 h o.1)
+
+  pub some_left : CollectIs s → (r : Rest) × left_collect s rows r
+  some_left is =
+      let o = some_rows is s.made refl in (record { rows = o.0; counts = nothing }, (o.1, λ c. refl))

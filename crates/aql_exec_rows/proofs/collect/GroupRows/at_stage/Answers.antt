@@ -1,7 +1,7 @@
 use Rattle.aql_plan.specs.Needs.{sets}
 use Rattle.aql_exec_rows.specs.Settings.{node_at}
 use Rattle.aql_exec_rows.proofs.Parts.{numbers_all}
-use Rattle.aql_exec_rows.proofs.collect.Collect.at_stage.Goals as goal
+use Rattle.aql_exec_rows.proofs.collect.GroupRows.at_stage.Goals as goal
 
 pub invariant_of-result : goal.invariant_of-result
 invariant_of-result c = record {
