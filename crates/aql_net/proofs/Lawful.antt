@@ -38,11 +38,11 @@ split-push (x ∷ log) (b ∷ before) after last entry e =
       | inr h ↦ inr (h.0, (rw (same, h.1) refl))
     ]
 
-pub is_log-push : (log : List LogEntry) (entry : LogEntry) → IsLog log → MayCome log entry
-    → IsLog (log ++ entry ∷ [])
-is_log-push log last lawful may before after entry e =
+pub is_log-push : (batch : ℕ) (log : List LogEntry) (entry : LogEntry) → IsLog batch log
+    → MayCome batch log entry → IsLog batch (log ++ entry ∷ [])
+is_log-push batch log last lawful may before after entry e =
     elim (split-push log before after last entry e) [
-      | inl h ↦ subst (λ z. MayCome before z) h.1 (subst (λ z. MayCome z last) h.0 may)
+      | inl h ↦ subst (λ z. MayCome batch before z) h.1 (subst (λ z. MayCome batch z last) h.0 may)
       | inr h ↦ lawful before h.0 entry h.1
     ]
 
@@ -51,27 +51,27 @@ is_log-push log last lawful may before after entry e =
 abbrev NumberedIn : List LogEntry → Type 0
 NumberedIn log = Numbered (sent_in log) (taken_in log)
 
-numbered-push : (log : List LogEntry) (entry : LogEntry) → NumberedIn log → MayCome log entry
-    → NumberedIn (log ++ entry ∷ [])
-numbered-push log (Sent n l what) h may =
+numbered-push : (batch : ℕ) (log : List LogEntry) (entry : LogEntry) → NumberedIn log
+    → MayCome batch log entry → NumberedIn (log ++ entry ∷ [])
+numbered-push batch log (Sent n l what) h may =
     let new : Dispatch = record { number = n; link = l; what = what } in
     rw (sent_in-append log (Sent n l what ∷ []), taken_in-sent log n l what)
     (numbered-sent (sent_in log) (taken_in log) new h may.number)
-numbered-push log (Taken n) h may =
+numbered-push batch log (Taken n) h may =
     rw (sent_in-taken log n, taken_in-append log (Taken n ∷ []))
     (numbered-taken (sent_in log) (taken_in log) n h may)
 
-numbered-from : (front rest : List LogEntry) → IsLog (front ++ rest) → NumberedIn front
+numbered-from : (batch : ℕ) (front rest : List LogEntry) → IsLog batch (front ++ rest) → NumberedIn front
     → NumberedIn (front ++ rest)
-numbered-from front [] lawful h = subst NumberedIn (sym (append-nil front)) h
-numbered-from front (entry ∷ rest) lawful h =
+numbered-from batch front [] lawful h = subst NumberedIn (sym (append-nil front)) h
+numbered-from batch front (entry ∷ rest) lawful h =
     let same = append_assoc front (entry ∷ []) rest in
     subst NumberedIn same
-    (numbered-from (front ++ entry ∷ []) rest (subst IsLog (sym same) lawful)
-    (numbered-push front entry h (lawful front rest entry refl)))
+    (numbered-from batch (front ++ entry ∷ []) rest (subst (IsLog batch) (sym same) lawful)
+    (numbered-push batch front entry h (lawful front rest entry refl)))
 
-pub numbered-log : (log : List LogEntry) → IsLog log → NumberedIn log
-numbered-log log lawful = numbered-from [] log lawful (record {
+pub numbered-log : (batch : ℕ) (log : List LogEntry) → IsLog batch log → NumberedIn log
+numbered-log batch log lawful = numbered-from batch [] log lawful (record {
   below = λ k d within. absurd (omega (arith, within));
   rising = λ i j d less within. absurd (omega (arith, within));
   known = λ k d within. absurd (omega (arith, within));
@@ -80,17 +80,18 @@ numbered-log log lawful = numbered-from [] log lawful (record {
 
 -- ---- what is in flight
 
-pub in_flight-sent : (log : List LogEntry) (n l : ℕ) (what : Sort) → IsLog log → n ≡ length (sent_in log)
+pub in_flight-sent : (batch : ℕ) (log : List LogEntry) (n l : ℕ) (what : Sort) → IsLog batch log
+    → n ≡ length (sent_in log)
     → in_flight (log ++ Sent n l what ∷ [])
     ≡ in_flight log ++ record { number = n; link = l; what = what } ∷ []
-in_flight-sent log n l what lawful next =
+in_flight-sent batch log n l what lawful next =
     let new : Dispatch = record { number = n; link = l; what = what } in
     rw (sent_in-append log (Sent n l what ∷ []), taken_in-sent log n l what)
-    (remaining-sent (sent_in log) (taken_in log) new (numbered-log log lawful) next)
+    (remaining-sent (sent_in log) (taken_in log) new (numbered-log batch log lawful) next)
 
-pub in_flight-taken : (log : List LogEntry) (at : ℕ) (x : Dispatch) → IsLog log
+pub in_flight-taken : (batch : ℕ) (log : List LogEntry) (at : ℕ) (x : Dispatch) → IsLog batch log
     → slice_get (in_flight log) at ≡ Some x
     → in_flight (log ++ Taken x.number ∷ []) ≡ remove (in_flight log) at
-in_flight-taken log at x lawful is =
+in_flight-taken batch log at x lawful is =
     rw (sent_in-taken log x.number, taken_in-append log (Taken x.number ∷ []))
-    (remaining-taken (sent_in log) (taken_in log) at x (numbered-log log lawful) is)
+    (remaining-taken (sent_in log) (taken_in log) at x (numbered-log batch log lawful) is)

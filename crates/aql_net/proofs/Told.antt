@@ -22,19 +22,19 @@ use Rattle.aql_net.proofs.Numbered.{rising-remaining, position-is}
 use Rattle.aql_net.proofs.Lawful.{is_log-push, in_flight-sent, in_flight-taken, numbered-log}
 
 -- what may be said next, as the log tells it
-may_say : (t : Talk) (m : Message) → Next t m → MaySay t (sort_of m)
-may_say fresh (Ask c) next = next
-may_say fresh (Reply step) next = next
-may_say (asked d) (Ask c) next = next
-may_say (asked d) (Reply step) next = record {
+may_say : (batch : ℕ) (t : Talk) (m : Message) → Next batch t m → MaySay batch t (sort_of m)
+may_say batch fresh (Ask c) next = next
+may_say batch fresh (Reply step) next = next
+may_say batch (asked d) (Ask c) next = next
+may_say batch (asked d) (Reply step) next = record {
   within = next.skipped;
   soft = next.rows;
   first = next.first;
   ready = next.ready;
   more = next.more;
 }
-may_say (answered p) (Ask c) next = next
-may_say (answered p) (Reply step) next = next
+may_say batch (answered p) (Ask c) next = next
+may_say batch (answered p) (Reply step) next = next
 
 abbrev told_of : ℕ → List Dispatch → List Dispatch
 told_of l ms = filter (λ m. m.link == l) ms
@@ -60,29 +60,29 @@ more_than_none : (xs : List Sort) (x : Sort) → xs ++ x ∷ [] ≡ [] → ⊥
 more_than_none [] x e = cc
 more_than_none (y ∷ xs) x e = cc
 
-pub net-sent : (links : ℕ) (log : List LogEntry) (flying : List Envelope) (sent capacity capacity' l : ℕ)
-    (m : Message) → IsNet links log flying sent capacity
-    → l ≤ links → messages_on l flying ≡ [] → Next (talk_on l log) m
+pub net-sent : (batch links : ℕ) (log : List LogEntry) (flying : List Envelope)
+    (sent capacity capacity' l : ℕ) (m : Message) → IsNet batch links log flying sent capacity
+    → l ≤ links → messages_on l flying ≡ [] → Next batch (talk_on l log) m
     → length log + (length flying + 2) ≤ capacity'
-    → IsNet (max links (l + 1)) (log ++ Sent sent l (sort_of m) ∷ [])
+    → IsNet batch (max links (l + 1)) (log ++ Sent sent l (sort_of m) ∷ [])
     (flying ++ record { number = sent; link = l; message = m } ∷ []) (sent + 1) capacity'
-net-sent links log flying sent capacity capacity' l m net within free next room =
+net-sent batch links log flying sent capacity capacity' l m net within free next room =
     let what : Sort = sort_of m in
     let none : length (told_of l (map dispatch_of flying)) ≡ 0 =
     sym (told_on l flying) ∙ ap length free in
-    let may : MaySend log sent l what = record {
+    let may : MaySend batch log sent l what = record {
       number = net.count;
       free = ap (filter (λ (d : Dispatch). d.link == l)) net.told ∙ nil_from_length _ none;
-      next = may_say (talk_on l log) m next;
+      next = may_say batch (talk_on l log) m next;
       made = λ k before. net.used k (omega (arith, before, within));
     } in
     record {
-      lawful = is_log-push log (Sent sent l what) net.lawful may;
+      lawful = is_log-push batch log (Sent sent l what) net.lawful may;
       count = (
           let more : length (sent_in (log ++ Sent sent l what ∷ [])) ≡ length (sent_in log) + 1 =
           ap length (sent_in-append log (Sent sent l what ∷ [])) ∙ length_push (sent_in log) _ in
           let was = net.count in omega (arith, more, was));
-      told = in_flight-sent log sent l what net.lawful net.count
+      told = in_flight-sent batch log sent l what net.lawful net.count
           ∙ ap (λ z. z ++ record { number = sent; link = l; what = what } ∷ []) net.told
           ∙ sym (map-append dispatch_of flying (record { number = sent; link = l; message = m } ∷ []));
       unused = λ k past. said_on-other k l log sent what (λ e. absurd (omega (arith, past, e)))
@@ -100,30 +100,31 @@ net-sent links log flying sent capacity capacity' l m net within free next room 
           omega (arith, more, more', room));
     }
 
-module _ (links : ℕ) (log : List LogEntry) (flying : List Envelope) (sent capacity at : ℕ) (x : Envelope)
-    (net : IsNet links log flying sent capacity) (is : slice_get flying at ≡ Some x) where
+module _ (batch links : ℕ) (log : List LogEntry) (flying : List Envelope) (sent capacity at : ℕ)
+    (x : Envelope) (net : IsNet batch links log flying sent capacity)
+    (is : slice_get flying at ≡ Some x) where
   told_at : slice_get (in_flight log) at ≡ Some (dispatch_of x)
   told_at = ap (λ z. slice_get z at) net.told ∙ slice_get-map dispatch_of flying at
       ∙ ap (option_map dispatch_of) is
 
   place-is : (pick_of log x.number).place ≡ at
   place-is = position-is (in_flight log) at (dispatch_of x)
-      (rising-remaining (sent_in log) (taken_in log) (numbered-log log net.lawful)) told_at
+      (rising-remaining (sent_in log) (taken_in log) (numbered-log batch log net.lawful)) told_at
 
   among-is : (pick_of log x.number).among ≡ length flying
   among-is = ap length net.told ∙ length-map flying dispatch_of
 
   pub net-taken : (capacity' : ℕ) → capacity ≤ capacity'
-      → IsNet links (log ++ Taken x.number ∷ []) (remove flying at) sent capacity'
+      → IsNet batch links (log ++ Taken x.number ∷ []) (remove flying at) sent capacity'
   net-taken capacity' room =
       let within = slice_get_within flying at x is in
       let place = place-is in
       let among = among-is in
       record {
-        lawful = is_log-push log (Taken x.number) net.lawful (omega (arith, within, place, among));
+        lawful = is_log-push batch log (Taken x.number) net.lawful (omega (arith, within, place, among));
         count = net.count ∙ ap length (sym (sent_in-taken log x.number));
-        told = in_flight-taken log at (dispatch_of x) net.lawful told_at ∙ ap (λ z. remove z at) net.told
-            ∙ map_remove flying at;
+        told = in_flight-taken batch log at (dispatch_of x) net.lawful told_at
+            ∙ ap (λ z. remove z at) net.told ∙ map_remove flying at;
         unused = λ k past. said_on-taken k log x.number ∙ net.unused k past;
         used = λ k before none. net.used k before (sym (said_on-taken k log x.number) ∙ none);
         room = (
@@ -133,15 +134,21 @@ module _ (links : ℕ) (log : List LogEntry) (flying : List Envelope) (sent capa
       }
 
   pub net-picked : (links' : ℕ) (flying' : List Envelope) → sent < 2 ^ 64
-      → Delivers (length flying) at (deliveries_of (record { links = links'; log = log; flying = flying' }))
-      (deliveries_of (record { links = links; log = log ++ Taken x.number ∷ []; flying = remove flying at }))
+      → Delivers (length flying) at
+      (deliveries_of (record { batch = batch; links = links'; log = log; flying = flying' }))
+      (deliveries_of (record {
+        batch = batch;
+        links = links;
+        log = log ++ Taken x.number ∷ [];
+        flying = remove flying at;
+      }))
   net-picked links' flying' fits = record {
     picks = picks_in-taken log x.number
         ∙ ap₂ (λ (n k : ℕ). picks_in log ++ record { among = n; place = k } ∷ []) among-is place-is;
     left = (
         let within = slice_get_within flying at x is in
         let among = among-is in
-        let many = (numbered-log log net.lawful).as_many in
+        let many = (numbered-log batch log net.lawful).as_many in
         let count = net.count in
         let more : length (taken_in (log ++ Taken x.number ∷ [])) ≡ length (taken_in log) + 1 =
         ap length (taken_in-append log (Taken x.number ∷ [])) ∙ length_push (taken_in log) x.number in
@@ -179,17 +186,18 @@ none_left l log none =
     omega (arith, some, said, no_more)
 
 -- a link on which nothing was said has nothing in flight
-pub unused-free : (links : ℕ) (log : List LogEntry) (flying : List Envelope) (sent capacity : ℕ)
-    → IsNet links log flying sent capacity → messages_on links flying ≡ []
-unused-free links log flying sent capacity net =
+pub unused-free : (batch links : ℕ) (log : List LogEntry) (flying : List Envelope) (sent capacity : ℕ)
+    → IsNet batch links log flying sent capacity → messages_on links flying ≡ []
+unused-free batch links log flying sent capacity net =
     nil_from_length (messages_on links flying)
     (told_on links flying ∙ ap (λ z. length (told_of links z)) (sym net.told)
     ∙ none_left links log (net.unused links (le_refl links)))
 
-pub unused-line : (links : ℕ) (log : List LogEntry) (flying : List Envelope) (sent capacity : ℕ)
-    → IsNet links log flying sent capacity
-    → line_on links (record { links = links; log = log; flying = flying }) ≡ no_line
-unused-line links log flying sent capacity net =
+pub unused-line : (batch links : ℕ) (log : List LogEntry) (flying : List Envelope) (sent capacity : ℕ)
+    → IsNet batch links log flying sent capacity
+    → line_on links (record { batch = batch; links = links; log = log; flying = flying }) ≡ no_line
+unused-line batch links log flying sent capacity net =
     let none = net.unused links (le_refl links) in
-    same_line (ap (fold (λ _ what. talk_of what) fresh) none) (unused-free links log flying sent capacity net)
+    same_line (ap (fold (λ _ what. talk_of what) fresh) none)
+    (unused-free batch links log flying sent capacity net)
     (ap (sum_by rows_of_sort) none)

@@ -1,4 +1,5 @@
 pub mod Logs
+pub mod LogText
 pub mod Traffic
 pub mod Picking
 pub mod inner

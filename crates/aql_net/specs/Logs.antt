@@ -93,29 +93,31 @@ pub record IsReplyTo (c : Call) (skipped rows : ℕ) (progress : Progress) : Typ
   pub ready : progress ≡ Waiting → ⊥
   pub more : progress ≡ HasMore → 0 < skipped + rows
 
--- what may be said next on a link: an ask first, then a reply to it, and an ask again unless it was the last
-abbrev pub MaySay : Talk → Sort → Type 0
-MaySay fresh (Ask c) = IsAsk c
-MaySay fresh (Reply skipped rows progress) = ⊥
-MaySay (asked d) (Ask c) = ⊥
-MaySay (asked d) (Reply skipped rows progress) = IsReplyTo d skipped rows progress
-MaySay (answered p) (Ask c) = (p ≡ HasMore) × IsAsk c
-MaySay (answered p) (Reply skipped rows progress) = ⊥
+-- what may be said next on a link, where an ask wants at most `batch` rows at a time: an ask first, then a
+-- reply to it, and an ask again unless it was the last
+abbrev pub MaySay : ℕ → Talk → Sort → Type 0
+MaySay batch fresh (Ask c) = IsAsk batch c
+MaySay batch fresh (Reply skipped rows progress) = ⊥
+MaySay batch (asked d) (Ask c) = ⊥
+MaySay batch (asked d) (Reply skipped rows progress) = IsReplyTo d skipped rows progress
+MaySay batch (answered p) (Ask c) = (p ≡ HasMore) × IsAsk batch c
+MaySay batch (answered p) (Reply skipped rows progress) = ⊥
 
 -- a message may be sent: its number is the next, all that was said on its link was taken, this may be said
 -- there, and on each link before it something was said
-pub record MaySend (log : List LogEntry) (n l : ℕ) (what : Sort) : Type 0 where
+pub record MaySend (batch : ℕ) (log : List LogEntry) (n l : ℕ) (what : Sort) : Type 0 where
   pub number : n ≡ length (sent_in log)
   pub free : filter (λ m. m.link == l) (in_flight log) ≡ []
-  pub next : MaySay (talk_on l log) what
+  pub next : MaySay batch (talk_on l log) what
   pub made : (k : ℕ) → k < l → said_on k log ≡ [] → ⊥
 
 -- what may come next in a log; what is taken is one of those in flight
-abbrev pub MayCome : List LogEntry → LogEntry → Type 0
-MayCome log (Sent n l what) = MaySend log n l what
-MayCome log (Taken n) = (pick_of log n).place < (pick_of log n).among
+abbrev pub MayCome : ℕ → List LogEntry → LogEntry → Type 0
+MayCome batch log (Sent n l what) = MaySend batch log n l what
+MayCome batch log (Taken n) = (pick_of log n).place < (pick_of log n).among
 
--- a log of links: each entry may come after those before it
-abbrev pub IsLog : List LogEntry → Type 0
-IsLog log = (before after : List LogEntry) (entry : LogEntry) → log ≡ before ++ entry ∷ after
-    → MayCome before entry
+-- a log of links on which each ask wants at most `batch` rows at a time: each entry may come after those
+-- before it
+abbrev pub IsLog : ℕ → List LogEntry → Type 0
+IsLog batch log = (before after : List LogEntry) (entry : LogEntry) → log ≡ before ++ entry ∷ after
+    → MayCome batch before entry

@@ -1,4 +1,5 @@
--- A net as its callers see it: how many links it has, its log and the messages in flight; and how it changes.
+-- A net as its callers see it: how many rows an ask may want at a time, how many links it has, its log and
+-- the messages in flight; and how it changes.
 use Rattle.std.specs.Prelude.{ℕ, ◌≡◌, ◌+◌, ◌-◌, ◌^◌, max, ◌++◌, List, [], ◌∷◌, length, map, filter, ◌==◌, remove, slice_get, Some}
 use Rattle.aql_plan.specs.Runs.{Dataset}
 use Rattle.aql_exec.specs.declared.turns.Message.{Message}
@@ -9,13 +10,15 @@ use Rattle.aql_net.specs.declared.net.Envelope.{Envelope}
 use Rattle.aql_net.specs.Logs.{Dispatch, sort_of, sent_in, taken_in, talk_on, rows_on, picks_in}
 
 pub record Traffic : Type 0 where
+  -- how many rows an ask may want at a time
+  pub batch : ℕ
   pub links : ℕ
   pub log : List LogEntry
   -- oldest first
   pub flying : List Envelope
 
-abbrev pub no_traffic : Traffic
-no_traffic = record { links = 0; log = []; flying = [] }
+abbrev pub no_traffic : ℕ → Traffic
+no_traffic batch = record { batch = batch; links = 0; log = []; flying = [] }
 
 -- ---- what is seen of it
 
@@ -54,6 +57,7 @@ no_data = record { facts = record { servers = 0; collections = [] }; db = [] }
 -- a message was sent on a link
 abbrev pub after_sending : ℕ → Message → Traffic → Traffic
 after_sending l m t = record {
+  batch = t.batch;
   links = max t.links (l + 1);
   log = t.log ++ Sent (length (sent_in t.log)) l (sort_of m) ∷ [];
   flying = t.flying ++ record { number = length (sent_in t.log); link = l; message = m } ∷ [];
@@ -64,6 +68,7 @@ pub record Takes (place : ℕ) (before after : Traffic) (l : ℕ) (m : Message) 
   pub number : ℕ
   pub was : slice_get before.flying place ≡ Some (record { number = number; link = l; message = m })
   pub is : after ≡ record {
+    batch = before.batch;
     links = before.links;
     log = before.log ++ Taken number ∷ [];
     flying = remove before.flying place;

@@ -25,6 +25,8 @@ pub struct Envelope {
 /// the log of what was sent and taken. Contracts see a `Traffic`.
 #[derive(Drop)]
 pub struct Net {
+    /// how many rows an ask may want at a time
+    batch: u64,
     links: u64,
     /// oldest first
     flying: Vec<Envelope>,
@@ -45,9 +47,15 @@ impl Model for Net {
 
     ghost coded = { Prim.hlevel (codes, coded_table) };
 
-    ghost view = { λ n. record { links = n.links; log = n.log.items; flying = n.flying.items } };
+    ghost view = { λ n. record {
+      batch = n.batch;
+      links = n.links;
+      log = n.log.items;
+      flying = n.flying.items;
+    } };
 
-    ghost invariant = { λ n. IsNet n.links n.log.items n.flying.items n.sent (vec_capacity n.log) };
+    ghost invariant = { λ n.
+        IsNet n.batch n.links n.log.items n.flying.items n.sent (vec_capacity n.log) };
 }
 
 // Appends to a log that has room.
@@ -63,11 +71,12 @@ fn enter(log: &mut Vec<LogEntry>, entry: LogEntry)
 }
 
 impl Net {
-    /// With no link; takes no memory.
-    pub fn new(alloc: Global) -> Net
-        ensures { result ≡ no_traffic }
+    /// With no link, for asks of at most `batch` rows at a time; takes no memory.
+    pub fn new(alloc: Global, batch: u64) -> Net
+        ensures { result ≡ no_traffic batch }
     {
         Net {
+            batch,
             links: 0,
             flying: Vec::new(alloc),
             log: Vec::new(alloc),
@@ -77,7 +86,7 @@ impl Net {
 
     /// Makes the next link and sends this on it; gives the link's number.
     pub fn first(&mut self, message: Message) -> Result<u64, OutOfMemory>
-        requires { Next fresh message }
+        requires { Next self.old.batch fresh message }
         ensures ok { IfOk result
             (λ l. (l ≡ self.old.links) × (self.new ≡ after_sending l message self.old)) }
         ensures unused { line_on self.old.links self.old ≡ no_line }
@@ -93,7 +102,7 @@ impl Net {
     pub fn send(&mut self, link: u64, message: Message) -> Result<u64, OutOfMemory>
         requires link { link < self.old.links }
         requires free { messages_on link self.old.flying ≡ [] }
-        requires next { Next (talk_on link self.old.log) message }
+        requires next { Next self.old.batch (talk_on link self.old.log) message }
         ensures ok { IfOk result (λ n. (n ≡ length (sent_in self.old.log))
             × (self.new ≡ after_sending link message self.old)) }
         ensures err { OnErr result (self.new ≡ self.old) }
@@ -105,7 +114,7 @@ impl Net {
     fn put(&mut self, link: u64, message: Message) -> Result<u64, OutOfMemory>
         requires link { link ≤ self.old.links }
         requires free { messages_on link self.old.flying ≡ [] }
-        requires next { Next (talk_on link self.old.log) message }
+        requires next { Next self.old.batch (talk_on link self.old.log) message }
         ensures ok { IfOk result (λ n. (n ≡ length (sent_in self.old.log))
             × (self.new ≡ after_sending link message self.old)) }
         ensures err { OnErr result (self.new ≡ self.old) }
@@ -158,7 +167,7 @@ impl Net {
     /// What was sent and taken so far.
     pub fn log(&self) -> &[LogEntry]
         ensures same { result.now ≡ self.now.log }
-        ensures lawful { IsLog self.now.log }
+        ensures lawful { IsLog self.now.batch self.now.log }
         ensures told { in_flight self.now.log ≡ map dispatch_of self.now.flying }
     {
         self.log.as_slice()
@@ -167,10 +176,11 @@ impl Net {
     /// What was sent and taken, after a run.
     pub fn into_log(self) -> Log
         ensures same { result ≡ self.log }
-        ensures lawful { IsLog self.log }
+        ensures lawful { IsLog self.batch self.log }
         ensures told { in_flight self.log ≡ map dispatch_of self.flying }
     {
         let Net {
+            batch: _,
             links: _,
             flying: _,
             log,

@@ -16,6 +16,8 @@ impl Surroundings for Net {
     ghost flight = { λ s l. line_on l s };
 
     ghost deliveries = { deliveries_of };
+
+    ghost batch = { λ s. s.batch };
 }
 
 impl Mail for Net {

@@ -5,8 +5,9 @@ use Rattle.aql_net.specs.declared.net.Envelope.{Envelope}
 use Rattle.aql_net.specs.Logs.{sent_in, in_flight, said_on, IsLog}
 use Rattle.aql_net.specs.Traffic.{dispatch_of}
 
-pub record IsNet (links : ℕ) (log : List LogEntry) (flying : List Envelope) (sent capacity : ℕ) : Type 0 where
-  pub lawful : IsLog log
+pub record IsNet (batch links : ℕ) (log : List LogEntry) (flying : List Envelope)
+    (sent capacity : ℕ) : Type 0 where
+  pub lawful : IsLog batch log
   pub count : sent ≡ length (sent_in log)
   pub told : in_flight log ≡ map dispatch_of flying
   -- exactly on the links that were made something was said

@@ -15,6 +15,7 @@ use Rattle.aql_net.specs.laws.Delivering.{queue-taken, messages-were, messages-a
 
 -- its links are those of a net
 pub record LinksOf {W : Type 0} (p : Surroundings.Ghosts W) (w : W) (t : Traffic) : Type 0 where
+  pub batch : p.batch w ≡ t.batch
   pub links : p.links w ≡ t.links
   pub flight : (l : ℕ) → p.flight w l ≡ line_on l t
   pub deliveries : p.deliveries w ≡ deliveries_of t
@@ -31,6 +32,7 @@ module _ {W : Type 0} (p : Surroundings.Ghosts W) (w w' : W) (t t' : Traffic)
   beside-same own same = record {
     stock = stock;
     deliveries = is'.deliveries ∙ ap deliveries_of same ∙ sym is.deliveries;
+    batch = is'.batch ∙ ap (λ (t : Traffic). t.batch) same ∙ sym is.batch;
     grows = (
         let as_many : p.links w ≡ p.links w' =
         is.links ∙ ap (λ (t : Traffic). t.links) (sym same) ∙ sym is'.links in
@@ -38,20 +40,25 @@ module _ {W : Type 0} (p : Surroundings.Ghosts W) (w w' : W) (t t' : Traffic)
     others = λ l _ _. is'.flight l ∙ ap (line_on l) same ∙ sym (is.flight l);
   }
 
+  -- where a message is sent on a link, all others are as they were
+  pub others-sent : (l : ℕ) (m : Message) → t' ≡ after_sending l m t
+      → (k : ℕ) → (k ≡ l → ⊥) → p.flight w' k ≡ p.flight w k
+  others-sent l m sent k apart =
+      is'.flight k ∙ ap (line_on k) sent ∙ line-other l t m k apart ∙ sym (is.flight k)
+
   -- a message is sent on a link of its own, or on one that is made
   pub beside-sent : (own : ℕ → Type 0) (l : ℕ) (m : Message) → t' ≡ after_sending l m t
       → ((k : ℕ) → k < t.links → (own k → ⊥) → k ≡ l → ⊥) → Beside p own w w'
   beside-sent own l m sent apart = record {
     stock = stock;
     deliveries = is'.deliveries ∙ ap deliveries_of sent ∙ deliveries-kept l t m ∙ sym is.deliveries;
+    batch = is'.batch ∙ ap (λ (t : Traffic). t.batch) sent ∙ sym is.batch;
     grows = (
         let more = links-grow l t m in
         let links : p.links w' ≡ max t.links (l + 1) = is'.links ∙ ap (λ (t : Traffic). t.links) sent in
         let were = is.links in omega (arith, more, links, were));
     others = λ k within not_own.
-        let links = is.links in
-        is'.flight k ∙ ap (line_on k) sent
-        ∙ line-other l t m k (apart k (omega (arith, within, links)) not_own) ∙ sym (is.flight k);
+        let links = is.links in others-sent l m sent k (apart k (omega (arith, within, links)) not_own);
   }
 
   pub line-sent : (l : ℕ) (m : Message) → t' ≡ after_sending l m t
@@ -65,18 +72,31 @@ module _ {W : Type 0} (p : Surroundings.Ghosts W) (w w' : W) (t t' : Traffic)
       (λ k within _ same. let link = ok.0 in absurd (omega (arith, within, same, link)))
   first-beside (Err e) m ok err = beside-same (λ _. ⊥) err
 
-  pub first-line : {E : Type 0} (r : Result ℕ E) (m : Message)
+  pub first-unused : {E : Type 0} (r : Result ℕ E) (m : Message)
       → IfOk r (λ l. (l ≡ t.links) × (t' ≡ after_sending l m t)) → line_on t.links t ≡ no_line
-      → IfOk r (λ l. (p.links w ≤ l) × (l < p.links w') × (p.flight w' l ≡ with_message no_line m))
-  first-line (Ok l) m ok unused =
+      → IfOk r (λ l. (p.links w ≤ l) × (l < p.links w') × (p.flight w l ≡ no_line))
+  first-unused (Ok l) m ok unused =
       let link = ok.0 in
       let links : p.links w' ≡ max t.links (l + 1) = is'.links ∙ ap (λ (t : Traffic). t.links) ok.1 in
       let were = is.links in (
         omega (arith, link, were),
         omega (arith, links),
-        line-sent l m ok.1 ∙ ap (λ k. with_message (line_on k t) m) link ∙ ap (λ z. with_message z m) unused,
+        is.flight l ∙ ap (λ k. line_on k t) link ∙ unused,
       )
+  first-unused (Err e) m ok unused = tt
+
+  pub first-line : {E : Type 0} (r : Result ℕ E) (m : Message)
+      → IfOk r (λ l. (l ≡ t.links) × (t' ≡ after_sending l m t)) → line_on t.links t ≡ no_line
+      → IfOk r (λ l. p.flight w' l ≡ with_message no_line m)
+  first-line (Ok l) m ok unused =
+      line-sent l m ok.1 ∙ ap (λ k. with_message (line_on k t) m) ok.0 ∙ ap (λ z. with_message z m) unused
   first-line (Err e) m ok unused = tt
+
+  pub first-others : {E : Type 0} (r : Result ℕ E) (m : Message)
+      → IfOk r (λ l. (l ≡ t.links) × (t' ≡ after_sending l m t))
+      → IfOk r (λ l. (k : ℕ) → (k ≡ l → ⊥) → p.flight w' k ≡ p.flight w k)
+  first-others (Ok l) m ok = others-sent l m ok.1
+  first-others (Err e) m ok = tt
 
   -- the call that sends on a link that was made
   pub send-beside : (l : ℕ) (m : Message) → t' ≡ after_sending l m t → Beside p (λ k. k ≡ l) w w'
@@ -96,6 +116,7 @@ module _ {W : Type 0} (p : Surroundings.Ghosts W) (w w' : W) (t t' : Traffic)
       → Takes place t t' l m → Taken p w w' l m
   taken-in counted place l m takes = record {
     stock_kept = stock;
+    batch_kept = is'.batch ∙ ap (λ (t : Traffic). t.batch) takes.is ∙ sym is.batch;
     links_kept = is'.links ∙ ap (λ (t : Traffic). t.links) takes.is ∙ sym is.links;
     counted_kept = counted;
     older = messages_on l (take place t.flying);

@@ -15,8 +15,8 @@ invariant_of-self c =
     c.remove-number.ensures.value in
     let log : c.enter.new.log.items ≡ net.log.items ++ Taken x.number ∷ [] = search rules in
     rw (log, c.remove-number.ensures.items)
-    (net-taken net.links net.log.items net.flying.items net.sent (vec_capacity net.log) c.args.place x
-    c.self.invariant taken (vec_capacity c.enter.new.log) (search rules))
+    (net-taken net.batch net.links net.log.items net.flying.items net.sent (vec_capacity net.log) c.args.place
+    x c.self.invariant taken (vec_capacity c.enter.new.log) (search rules))
 
 pub returns : goal.returns
 returns c =
@@ -29,6 +29,6 @@ returns c =
     let log : c.enter.new.log.items ≡ net.log.items ++ Taken x.number ∷ [] = search rules in
     rw (log, c.remove-number.ensures.items, sym c.self.view_is) (
       record { number = x.number; was = taken; is = refl },
-      net-picked net.links net.log.items net.flying.items net.sent (vec_capacity net.log) c.args.place x
-          c.self.invariant taken net.links net.flying.items (search rules),
+      net-picked net.batch net.links net.log.items net.flying.items net.sent (vec_capacity net.log)
+          c.args.place x c.self.invariant taken net.links net.flying.items (search rules),
     )

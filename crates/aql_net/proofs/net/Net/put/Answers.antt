@@ -18,8 +18,9 @@ invariant_of-self-2 c =
     let after = vec_capacity c.enter.new.log in
     let room : length net.log.items + (length net.flying.items + 2) ≤ after = search rules in
     rw (c.max-self-inside.ensures, log, flying)
-    (net-sent net.links net.log.items net.flying.items net.sent (vec_capacity net.log) after l c.args.message
-    c.self.invariant (search rules)
+    (net-sent net.batch net.links net.log.items net.flying.items net.sent (vec_capacity net.log) after l
+    c.args.message c.self.invariant (search rules)
     (ap (λ (t : Traffic). messages_on l t.flying) c.self.view_is ∙ c.requires.free)
-    (subst (λ (t : Traffic). Next (talk_on l t.log) c.args.message) (sym c.self.view_is) c.requires.next)
+    (subst (λ (t : Traffic). Next t.batch (talk_on l t.log) c.args.message) (sym c.self.view_is)
+    c.requires.next)
     room)
