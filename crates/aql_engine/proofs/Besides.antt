@@ -19,6 +19,7 @@ module _ {X W : Type 0} (g : Ghosts X W) (p : Surroundings.Ghosts W) {port : ℕ
   turned_beside w1 t = record {
     stock = t.stock ∙ kept.stock_kept;
     deliveries = t.deliveries ∙ kept.deliveries_kept;
+    batch = t.batch ∙ kept.batch_kept;
     grows = at_most kept.grows t.grows;
     others = λ l n no.
         t.others l (is_below n kept.grows)
@@ -32,6 +33,7 @@ module _ {X W : Type 0} (g : Ghosts X W) (p : Surroundings.Ghosts W) {port : ℕ
   pulled_beside w1 w2 input is_own t q = record {
     stock = q.stock ∙ t.stock;
     deliveries = q.deliveries ∙ t.deliveries;
+    batch = q.batch ∙ t.batch;
     grows = at_most t.grows q.grows;
     others = λ l n no.
         q.others l (is_below n t.grows)

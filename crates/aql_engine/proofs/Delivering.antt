@@ -92,18 +92,19 @@ module _ {X W : Type 0} (g : Ghosts X W) (p : Surroundings.Ghosts W) where
 
   -- its executor received a message
   pub after_mine : KeptGives g p → KeptValid g p → (x x' : X) (below body : Tree X) (w w2 : W)
-      → NodeValid g p (Waits g p) x below body w → p.stock w2 ≡ p.stock w → p.links w ≤ p.links w2
+      → NodeValid g p (Waits g p) x below body w → p.stock w2 ≡ p.stock w → p.batch w2 ≡ p.batch w
+      → p.links w ≤ p.links w2
       → SameFlight (TreeOwn g p below) w w2 → SameFlight (BodyOwn g p x body) w w2
       → g.valid x' w2 → SameInputs x x' → ((k : ℕ) (c : Call) → g.asks x' k c → g.asks x k c)
       → Grown (g.ours x) (g.ours x') (p.links w) → (g.busy x' → g.busy x)
       → ((l : ℕ) → TreeOwn g p below l → l < p.links w) → ((l : ℕ) → BodyOwn g p x body l → l < p.links w)
       → NodeValid g p g.waited x' below body w2
-  after_mine kg kv x x' below body w w2 v st li fb fd xv ins asks ours busy lb ld = record {
+  after_mine kg kv x x' below body w w2 v st ba li fb fd xv ins asks ours busy lb ld = record {
     executor_valid = xv;
-    below_is = input_weaker (input_kept g p kg kv below w w2 st li (λ s. fb) v.below_is) (ins 0).0
+    below_is = input_weaker (input_kept g p kg kv below w w2 st ba li (λ s. fb) v.below_is) (ins 0).0
         (λ e. sym (ins 0).1 ∙ e) (λ q. inl ((ins 0).3 q)) (λ c a. asks 0 c a);
-    body_is = input_weaker (input_kept g p kg kv body w w2 st li (λ s l o. fd l (s, o)) v.body_is) (ins 1).0
-        (λ e. sym (ins 1).1 ∙ e) (λ q. inl ((ins 1).3 q)) (λ c a. asks 1 c a);
+    body_is = input_weaker (input_kept g p kg kv body w w2 st ba li (λ s l o. fd l (s, o)) v.body_is)
+        (ins 1).0 (λ e. sym (ins 1).1 ∙ e) (λ q. inl ((ins 1).3 q)) (λ c a. asks 1 c a);
     begun_is = (ins 0).0 ∙ v.begun_is;
     none_unreported = λ k. (ins k).2 ∙ v.none_unreported k;
     none_waits = λ k q. v.none_waits k ((ins k).3 q);
@@ -117,15 +118,16 @@ module _ {X W : Type 0} (g : Ghosts X W) (p : Surroundings.Ghosts W) where
   -- its input did
   pub after_below : KeptGives g p → KeptValid g p
       → (x : X) (below below' body : Tree X) (w w2 : W) (d : Counts)
-      → NodeValid g p (Waits g p) x below body w → p.stock w2 ≡ p.stock w → p.links w ≤ p.links w2
+      → NodeValid g p (Waits g p) x below body w → p.stock w2 ≡ p.stock w → p.batch w2 ≡ p.batch w
+      → p.links w ≤ p.links w2
       → SameFlight (g.ours x) w w2 → SameFlight (BodyOwn g p x body) w w2
       → TreeValid g p below' w2 → ((c : Call) → TreeMay g p below c → TreeMay g p below' c)
       → Undisturbed d below w below' w2 → tree_plan g p below' ≡ tree_plan g p below
       → Grown (TreeOwn g p below) (TreeOwn g p below') (p.links w)
       → ((l : ℕ) → g.ours x l → l < p.links w) → ((l : ℕ) → BodyOwn g p x body l → l < p.links w)
       → NodeValid g p g.waited x below' body w2
-  after_below kg kv x below below' body w w2 d v st li fx fd bv may rests plan ours lx ld = record {
-    executor_valid = kv x w w2 st li fx v.executor_valid;
+  after_below kg kv x below below' body w w2 d v st ba li fx fd bv may rests plan ours lx ld = record {
+    executor_valid = kv x w w2 st ba li fx v.executor_valid;
     below_is = record {
       input_valid = λ s. bv;
       may_ask = λ s c a. may c (v.below_is.may_ask s c a);
@@ -134,7 +136,7 @@ module _ {X W : Type 0} (g : Ghosts X W) (p : Surroundings.Ghosts W) where
           rw plan over);
       in_flight = λ a. absurd (v.none_waits 0 a);
     };
-    body_is = input_weaker (input_kept g p kg kv body w w2 st li (λ s l o. fd l (s, o)) v.body_is) refl
+    body_is = input_weaker (input_kept g p kg kv body w w2 st ba li (λ s l o. fd l (s, o)) v.body_is) refl
         (λ e. e) (λ q. inl q) (λ c a. a);
     begun_is = v.begun_is;
     none_unreported = v.none_unreported;
@@ -148,16 +150,17 @@ module _ {X W : Type 0} (g : Ghosts X W) (p : Surroundings.Ghosts W) where
   -- its body did
   pub after_body : KeptGives g p → KeptValid g p → (x : X) (below body body' : Tree X) (w w2 : W) (d : Counts)
       → g.started x 1 ≡ true
-      → NodeValid g p (Waits g p) x below body w → p.stock w2 ≡ p.stock w → p.links w ≤ p.links w2
+      → NodeValid g p (Waits g p) x below body w → p.stock w2 ≡ p.stock w → p.batch w2 ≡ p.batch w
+      → p.links w ≤ p.links w2
       → SameFlight (g.ours x) w w2 → SameFlight (TreeOwn g p below) w w2
       → TreeValid g p body' w2 → ((c : Call) → TreeMay g p body c → TreeMay g p body' c)
       → Undisturbed d body w body' w2 → tree_plan g p body' ≡ tree_plan g p body
       → Grown (TreeOwn g p body) (TreeOwn g p body') (p.links w)
       → ((l : ℕ) → g.ours x l → l < p.links w) → ((l : ℕ) → TreeOwn g p below l → l < p.links w)
       → NodeValid g p g.waited x below body' w2
-  after_body kg kv x below body body' w w2 d begun v st li fx fb bv may rests plan ours lx lb = record {
-    executor_valid = kv x w w2 st li fx v.executor_valid;
-    below_is = input_weaker (input_kept g p kg kv below w w2 st li (λ s. fb) v.below_is) refl
+  after_body kg kv x below body body' w w2 d begun v st ba li fx fb bv may rests plan ours lx lb = record {
+    executor_valid = kv x w w2 st ba li fx v.executor_valid;
+    below_is = input_weaker (input_kept g p kg kv below w w2 st ba li (λ s. fb) v.below_is) refl
         (λ e. e) (λ q. inl q) (λ c a. a);
     body_is = record {
       input_valid = λ s. bv;
@@ -377,7 +380,8 @@ module _ {X W : Type 0} (g : Ghosts X W) (p : Surroundings.Ghosts W) where
       → (x x' : X) (below body : Tree X)
       (w w1 w2 : W) (l0 : ℕ) (m : Message) (d : Counts)
       → NodeValid g p (Waits g p) x below body w → TakenIn w w1 l0 m → g.ours x l0
-      → p.stock w2 ≡ p.stock w1 → p.links w1 ≤ p.links w2 → OthersKept (g.ours x) w1 w2
+      → p.stock w2 ≡ p.stock w1 → p.batch w2 ≡ p.batch w1 → p.links w1 ≤ p.links w2
+      → OthersKept (g.ours x) w1 w2
       → g.valid x' w2 → SameInputs x x' → ((k : ℕ) (c : Call) → g.asks x' k c → g.asks x k c)
       → Grown (g.ours x) (g.ours x') (p.links w1) → (g.busy x' → g.busy x)
       → g.node x' ≡ g.node x
@@ -385,20 +389,21 @@ module _ {X W : Type 0} (g : Ghosts X W) (p : Surroundings.Ghosts W) where
       (r : Rest) → g.gives x' w2 k plan ins r → (b : Rest) × Prefixed e [] d r b × g.gives x w k plan ins b)
       → ((k f : ℕ) → g.row_cost x' k f ≡ g.row_cost x k f) → ((f : ℕ) → g.budget x' w2 f ≤ g.budget x w f)
       → Reached d x below body w x' below body w2
-  mine_reached kg kv kr ol x x' below body w w1 w2 l0 m d v taken own stock grows others valid ins
+  mine_reached kg kv kr ol x x' below body w w1 w2 l0 m d v taken own stock batch grows others valid ins
       asks ours busy node
       gives row_cost budget =
       let lb = tree_own_links g p ol below w (v.below_is.input_valid v.begun_is) in
       let ld : (l : ℕ) → BodyOwn g p x body l → l < p.links w =
       λ l o. tree_own_links g p ol body w (v.body_is.input_valid o.0) l o.1 in
       let st : p.stock w2 ≡ p.stock w = stock ∙ taken.stock_kept in
+      let ba : p.batch w2 ≡ p.batch w = batch ∙ taken.batch_kept in
       let li : p.links w ≤ p.links w2 = subst (λ n. n ≤ p.links w2) taken.links_kept grows in
       let fb = elsewhere (g.ours x) (TreeOwn g p below) w w1 w2 l0 m taken own others lb
       (λ l o a. v.from_below l a o) in
       let fd = elsewhere (g.ours x) (BodyOwn g p x body) w w1 w2 l0 m taken own others ld
       (λ l o a. v.from_body l a o) in
       record {
-        valid = after_mine kg kv x x' below body w w2 v st li fb fd valid ins asks
+        valid = after_mine kg kv x x' below body w w2 v st ba li fb fd valid ins asks
             (grown_back _ _ _ _ taken.links_kept ours) busy lb ld;
         rests = mine_rests kg x x' below body w w2 d st fb fd ins node
             (λ e i. gives e i 0 (tree_plan g p body));
@@ -408,24 +413,26 @@ module _ {X W : Type 0} (g : Ghosts X W) (p : Surroundings.Ghosts W) where
   pub below_reached : KeptGives g p → KeptValid g p → KeptBudget g p → OwnLinks g p → MoreCounts → (x : X)
       (below below' body : Tree X) (w w1 w2 : W) (l0 : ℕ) (m : Message) (d : Counts)
       → NodeValid g p (Waits g p) x below body w → TakenIn w w1 l0 m → TreeOwn g p below l0
-      → p.stock w2 ≡ p.stock w1 → p.links w1 ≤ p.links w2 → OthersKept (TreeOwn g p below) w1 w2
+      → p.stock w2 ≡ p.stock w1 → p.batch w2 ≡ p.batch w1 → p.links w1 ≤ p.links w2
+      → OthersKept (TreeOwn g p below) w1 w2
       → TreeValid g p below' w2 → ((c : Call) → TreeMay g p below c → TreeMay g p below' c)
       → Undisturbed d below w below' w2 → Grown (TreeOwn g p below) (TreeOwn g p below') (p.links w1)
       → tree_budget g p below' w2 ≤ tree_budget g p below w → tree_plan g p below' ≡ tree_plan g p below
       → Reached d x below body w x below' body w2
-  below_reached kg kv kr ol more x below below' body w w1 w2 l0 m d v taken own stock grows others
+  below_reached kg kv kr ol more x below below' body w w1 w2 l0 m d v taken own stock batch grows others
       valid may rests
       ours budget plan =
       let lx = ol x w v.executor_valid in
       let ld : (l : ℕ) → BodyOwn g p x body l → l < p.links w =
       λ l o. tree_own_links g p ol body w (v.body_is.input_valid o.0) l o.1 in
       let st : p.stock w2 ≡ p.stock w = stock ∙ taken.stock_kept in
+      let ba : p.batch w2 ≡ p.batch w = batch ∙ taken.batch_kept in
       let li : p.links w ≤ p.links w2 = subst (λ n. n ≤ p.links w2) taken.links_kept grows in
       let fx = elsewhere (TreeOwn g p below) (g.ours x) w w1 w2 l0 m taken own others lx v.from_below in
       let fd = elsewhere (TreeOwn g p below) (BodyOwn g p x body) w w1 w2 l0 m taken own others ld
       (λ l o a. v.between l a o) in
       record {
-        valid = after_below kg kv x below below' body w w2 d v st li fx fd valid may rests plan
+        valid = after_below kg kv x below below' body w w2 d v st ba li fx fd valid may rests plan
             (grown_back _ _ _ _ taken.links_kept ours) lx ld;
         rests = below_rests kg more x below below' body w w2 d v.begun_is st fx fd rests plan
             (v.below_is.none_left v.begun_is);
@@ -435,25 +442,27 @@ module _ {X W : Type 0} (g : Ghosts X W) (p : Surroundings.Ghosts W) where
   pub body_reached : KeptGives g p → KeptValid g p → KeptBudget g p → OwnLinks g p → MoreCounts → (x : X)
       (below body body' : Tree X) (w w1 w2 : W) (l0 : ℕ) (m : Message) (d : Counts)
       → NodeValid g p (Waits g p) x below body w → TakenIn w w1 l0 m → BodyOwn g p x body l0
-      → p.stock w2 ≡ p.stock w1 → p.links w1 ≤ p.links w2 → OthersKept (TreeOwn g p body) w1 w2
+      → p.stock w2 ≡ p.stock w1 → p.batch w2 ≡ p.batch w1 → p.links w1 ≤ p.links w2
+      → OthersKept (TreeOwn g p body) w1 w2
       → TreeValid g p body' w2 → ((c : Call) → TreeMay g p body c → TreeMay g p body' c)
       → Undisturbed d body w body' w2 → Grown (TreeOwn g p body) (TreeOwn g p body') (p.links w1)
       → tree_budget g p body' w2 ≤ tree_budget g p body w
       → tree_plan g p body' ≡ tree_plan g p body → tree_full g p body' ≡ tree_full g p body
       → Reached d x below body w x below body' w2
-  body_reached kg kv kr ol more x below body body' w w1 w2 l0 m d v taken own stock grows others
+  body_reached kg kv kr ol more x below body body' w w1 w2 l0 m d v taken own stock batch grows others
       valid may rests
       ours budget plan full =
       let lx = ol x w v.executor_valid in
       let lb = tree_own_links g p ol below w (v.below_is.input_valid v.begun_is) in
       let st : p.stock w2 ≡ p.stock w = stock ∙ taken.stock_kept in
+      let ba : p.batch w2 ≡ p.batch w = batch ∙ taken.batch_kept in
       let li : p.links w ≤ p.links w2 = subst (λ n. n ≤ p.links w2) taken.links_kept grows in
       let fx = elsewhere (TreeOwn g p body) (g.ours x) w w1 w2 l0 m taken own.1 others lx
       (λ l o a. v.from_body l o (own.0, a)) in
       let fb = elsewhere (TreeOwn g p body) (TreeOwn g p below) w w1 w2 l0 m taken own.1 others lb
       (λ l o a. v.between l o (own.0, a)) in
       record {
-        valid = after_body kg kv x below body body' w w2 d own.0 v st li fx fb valid may rests plan
+        valid = after_body kg kv x below body body' w w2 d own.0 v st ba li fx fb valid may rests plan
             (grown_back _ _ _ _ taken.links_kept ours) lx lb;
         rests = body_rests kg more x below body body' w w2 d own.0 plan st fx fb rests
             (v.body_is.none_left own.0);

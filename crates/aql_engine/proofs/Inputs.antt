@@ -68,17 +68,17 @@ module _ {X W : Type 0} (g : Ghosts X W) (p : Surroundings.Ghosts W) where
   -- what happens elsewhere keeps what is known of an input
   pub input_kept : KeptGives g p → KeptValid g p
       → (t : Tree X) (w w' : W) {started ended : Bool} {waits : Type 0}
-      {asks : Call → Type 0} {e : Exact} → p.stock w' ≡ p.stock w → p.links w ≤ p.links w'
-      → (started ≡ true → (l : ℕ) → TreeOwn g p t l → p.flight w' l ≡ p.flight w l)
+      {asks : Call → Type 0} {e : Exact} → p.stock w' ≡ p.stock w → p.batch w' ≡ p.batch w
+      → p.links w ≤ p.links w' → (started ≡ true → (l : ℕ) → TreeOwn g p t l → p.flight w' l ≡ p.flight w l)
       → Input (TreeValid g p t w) started ended waits asks (TreeMay g p t) e (TreeRests g p t w) (TreeOwn g p t)
       (Flies g p w)
       → Input (TreeValid g p t w') started ended waits asks (TreeMay g p t) e (TreeRests g p t w')
       (TreeOwn g p t)
       (Flies g p w')
-  input_kept k v t w w' e n f i = record {
-    input_valid = λ b. tree_kept_valid g p k v t w w' e n (f b) (i.input_valid b);
+  input_kept k v t w w' e b n f i = record {
+    input_valid = λ s. tree_kept_valid g p k v t w w' e b n (f s) (i.input_valid s);
     may_ask = i.may_ask;
-    none_left = λ b d r o. i.none_left b d r (tree_kept_rests g p k t w w' e (f b) r o);
+    none_left = λ s d r o. i.none_left s d r (tree_kept_rests g p k t w w' e (f s) r o);
     in_flight = λ a. (let o = i.in_flight a in
         (o.0, o.1, o.2, flies_kept g p w w' o.1 (f o.0 o.1 o.2) o.3));
   }
@@ -119,11 +119,11 @@ module _ {X W : Type 0} (g : Ghosts X W) (p : Surroundings.Ghosts W) where
       → {port : ℕ} {call : Call} {x0 : X} {below0 body0 : Tree X} {w0 : W} {t0 t : Tally} {x : X}
       {below body : Tree X} {w : W}
       → Turning g p port call x0 below0 body0 w0 t0 x below body w t → Linked g p x0 below0 body0 w0 x below body w
-      → (x1 : X) (w1 : W) → p.stock w1 ≡ p.stock w → p.links w ≤ p.links w1
+      → (x1 : X) (w1 : W) → p.stock w1 ≡ p.stock w → p.batch w1 ≡ p.batch w → p.links w ≤ p.links w1
       → ((l : ℕ) → l < p.links w → (g.ours x l → ⊥) → p.flight w1 l ≡ p.flight w l)
       → ((l : ℕ) → g.ours x1 l → g.ours x l ⊎ (p.links w ≤ l))
       → Turned port x x1 below body w w1
-  turned_inputs kg kv own {x} {below} {body} {w} inv links x1 w1 stock grows others ours =
+  turned_inputs kg kv own {x} {below} {body} {w} inv links x1 w1 stock batch grows others ours =
       let b_links : (l : ℕ) → TreeOwn g p below l → l < p.links w =
       tree_own_links g p own below w (inv.below_is.input_valid inv.begun_is) in
       let d_links : g.started x 1 ≡ true → (l : ℕ) → TreeOwn g p body l → l < p.links w =
@@ -137,8 +137,8 @@ module _ {X W : Type 0} (g : Ghosts X W) (p : Surroundings.Ghosts W) where
         below_kept = b_kept;
         body_links = d_links;
         body_kept = d_kept;
-        below_is = input_kept kg kv below w w1 stock grows (λ s. b_kept) inv.below_is;
-        body_is = input_kept kg kv body w w1 stock grows d_kept inv.body_is;
+        below_is = input_kept kg kv below w w1 stock batch grows (λ s. b_kept) inv.below_is;
+        body_is = input_kept kg kv body w w1 stock batch grows d_kept inv.body_is;
         apart_below = λ l a o. elim (ours l a) [
           | inl q ↦ links.from_below l q o
           | inr q ↦ not_new (b_links l o) q

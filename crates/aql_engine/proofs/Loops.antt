@@ -49,6 +49,7 @@ module _ {X W : Type 0} (g : Ghosts X W) (p : Surroundings.Ghosts W) where
     pub below_full_kept : tree_full g p below ≡ tree_full g p below0
     pub body_full_kept : tree_full g p body ≡ tree_full g p body0
     pub stock_kept : p.stock w ≡ p.stock w0
+    pub batch_kept : p.batch w ≡ p.batch w0
     pub grows : p.links w0 ≤ p.links w
     pub deliveries_kept : p.deliveries w ≡ p.deliveries w0
     pub may_come : g.may x port call

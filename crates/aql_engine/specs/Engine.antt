@@ -11,6 +11,7 @@ use Rattle.aql_exec.specs.Rests.{Counter, scanned_full, scanned_index, filtered,
 use Rattle.aql_exec.specs.Rising.{Rose, TallyRose}
 use Rattle.aql_exec.specs.Reads.{reads_little}
 use Rattle.aql_exec.specs.Operators.{Produces, exact_tree}
+use Rattle.aql_net.specs.Logs.{IsLog}
 use Rattle.aql_engine.specs.OperatorsOf.{operators_of}
 use Rattle.aql_plan.specs.Shapes.{HasNoFragment}
 use Rattle.aql_engine.specs.declared.engine.Ran.{Ran}
@@ -39,7 +40,8 @@ pub record OwnCounted (own own' t : Tally) : Type 0 where
 
 -- the values of an entry are an answer of its plan over these documents, and it counts what the executors of
 -- the plan count on the way to these values: no more, and exactly that where the plan has no LIMIT, but for
--- documents that a traversal finds. A plan that reads little reads no more documents than it gives values
+-- documents that a traversal finds. A plan that reads little reads no more documents than it gives values. Its
+-- log is one of links on which no more rows are asked for at a time than a step may give
 pub record IsRunOver (w : Dataset) (ran : Ran) : Type 0 where
   pub answer : Answers (plan_tree ran.plan) w empty_row ran.values
   pub rest : Rest
@@ -48,6 +50,7 @@ pub record IsRunOver (w : Dataset) (ran : Ran) : Type 0 where
   pub counted : Tallied (exact_tree (operators_of w.facts (plan_tree ran.plan))) ran.tally rest.counts
   pub little : reads_little (operators_of w.facts (plan_tree ran.plan)) ≡ true
       → ran.tally.scanned_full ≤ length ran.values
+  pub logged : IsLog ran.batch ran.log
 
 -- exactly one entry is new, and it is a run of this plan over these documents, in steps of so many rows
 pub record Adds (w : Dataset) (plan : Plan) (batch : ℕ) (before after : List Ran) : Type 0 where

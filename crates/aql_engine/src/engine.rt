@@ -2,9 +2,13 @@
 
 ghost use Rattle.std.specs.Prelude.{◌≡◌, ◌≤◌, OnOk, OnErr};
 ghost use Rattle.aql_shard.specs.Datasets.{stock};
+ghost use Rattle.aql_net.specs.Logs.{picks_in};
 ghost use Rattle.aql_engine.specs.Engine.{CanRun, Adds, OwnCounted};
+ghost use Rattle.aql_engine.specs.Run.{PickedBy};
 
 use aql_block::Tally;
+use aql_exec::Picker;
+use aql_net::Log;
 use aql_plan::Plan;
 use aql_shard::Servers;
 use aql_value::{Items, OutOfMemory, Seq};
@@ -19,6 +23,8 @@ pub struct Ran {
     pub batch: u32,
     /// The values that it gave, in order.
     pub values: Items,
+    /// The messages that were sent and taken on the way.
+    pub log: Log,
     /// What was counted on the way.
     pub tally: Tally,
 }
@@ -26,8 +32,9 @@ pub struct Ran {
 /// The runs of an engine, the first one first.
 pub type Rans = Seq<Ran>;
 
-/// What runs plans over documents on servers, and keeps a list of its runs.
-pub trait Engine {
+/// What runs plans over documents on servers, with messages delivered in the order that a picker
+/// picks, and keeps a list of its runs.
+pub trait Engine<P: Picker> {
     ghost use Rattle.std.specs.Prelude.{List, [], ◌∷◌, ◌++◌};
     ghost use Rattle.aql_engine.specs.declared.engine.Ran.{Ran};
 
@@ -41,12 +48,15 @@ pub trait Engine {
         alloc: Global,
         plan: Plan,
         servers: &mut Servers,
+        picker: &mut P,
         batch: u32,
     ) -> Result<(), OutOfMemory>
         requires plan { CanRun (stock servers.old) plan }
         requires batch { (1 ≤ batch) × (batch ≤ 10000) }
         ensures ok { OnOk result
             (Adds (stock servers.old) plan batch (entries self.old) (entries self.new)) }
+        ensures picked { OnOk result ((ran : Ran) × (entries self.new ≡ entries self.old ++ ran ∷ [])
+            × PickedBy P.picks picker.old (picks_in ran.log) picker.new) }
         ensures counted { OnOk result
             ((ran : Ran) × (entries self.new ≡ entries self.old ++ ran ∷ [])
             × OwnCounted servers.old.counts servers.new.counts ran.tally) }

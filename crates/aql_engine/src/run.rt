@@ -30,6 +30,7 @@ pub fn deliver_one<W: Mail, F: Delivers<W>, P: Picker>(
     requires flies { (l : ℕ) × F.ours feed.old l × (0 < length (W.flight world.old l).flying) }
     ensures plan { F.plan feed.new ≡ F.plan feed.old }
     ensures stock { W.stock world.new ≡ W.stock world.old }
+    ensures batch { W.batch world.new ≡ W.batch world.old }
     ensures valid { OnOk result (F.valid feed.new world.new) }
     ensures may { OnOk result ((c : Call) → F.may feed.old c → F.may feed.new c) }
     ensures left { OnOk result
@@ -68,9 +69,10 @@ pub fn run_feed<W: Mail, F: Delivers<W>, P: Picker>(
     tally: &mut Tally,
 ) -> Result<Vec<Block>, OutOfMemory>
     requires plan { IsTree (W.stock world.old).facts (F.plan feed.old) }
-    requires batch { (1 ≤ batch) × (batch ≤ 10000) }
+    requires batch { (1 ≤ batch) × (batch ≤ 10000) × (batch ≤ W.batch world.old) }
     ensures plan { F.plan feed.new ≡ F.plan feed.old }
     ensures stock { W.stock world.new ≡ W.stock world.old }
+    ensures batch { W.batch world.new ≡ W.batch world.old }
     ensures picked { OnOk result ((ks : List Pick)
         × ((W.deliveries world.new).picks ≡ (W.deliveries world.old).picks ++ ks)
         × PickedBy P.picks picker.old ks picker.new) }

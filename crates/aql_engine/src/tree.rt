@@ -121,6 +121,7 @@ pub fn run_node<W: Surroundings, X: Executor<W>>(
         (tree_plan X.Executor W.Surroundings below.old)
         (tree_plan X.Executor W.Surroundings body.old)) }
     requires call { IsCall call }
+    requires batch { call.soft ≤ W.batch world.old }
     requires may { X.may x.old port call }
     requires port { (port ≡ 0) ⊎ (port < ports (X.node x.old)) }
     ensures node { SameNode (X.node x.old) (X.node x.new) (X.full x.old) (X.full x.new)

@@ -55,15 +55,16 @@ module _ {A B W : Type 0} (ga : Ghosts A W) (gb : Ghosts B W) (p : Surroundings.
   choice_gives f h (Second b) w w' e o k body ins r g = h b w w' e o k body ins r g
 
   abbrev KeptValid : {Y : Type 0} → Ghosts Y W → Type 0
-  KeptValid {Y} g = (s : Y) (w w' : W) → p.stock w' ≡ p.stock w → p.links w ≤ p.links w'
-      → ((l : ℕ) → g.ours s l → p.flight w' l ≡ p.flight w l) → g.valid s w → g.valid s w'
+  KeptValid {Y} g = (s : Y) (w w' : W) → p.stock w' ≡ p.stock w → p.batch w' ≡ p.batch w
+      → p.links w ≤ p.links w' → ((l : ℕ) → g.ours s l → p.flight w' l ≡ p.flight w l)
+      → g.valid s w → g.valid s w'
 
   pub choice_valid : KeptValid ga → KeptValid gb → (s : Choice A B) (w w' : W) → p.stock w' ≡ p.stock w
-      → p.links w ≤ p.links w'
+      → p.batch w' ≡ p.batch w → p.links w ≤ p.links w'
       → ((l : ℕ) → On (λ a. ga.ours a l) (λ b. gb.ours b l) s → p.flight w' l ≡ p.flight w l)
       → On (λ a. ga.valid a w) (λ b. gb.valid b w) s → On (λ a. ga.valid a w') (λ b. gb.valid b w') s
-  choice_valid f h (First a) w w' e n o v = f a w w' e n o v
-  choice_valid f h (Second b) w w' e n o v = h b w w' e n o v
+  choice_valid f h (First a) w w' e c n o v = f a w w' e c n o v
+  choice_valid f h (Second b) w w' e c n o v = h b w w' e c n o v
 
   abbrev KeptBudget : {Y : Type 0} → Ghosts Y W → Type 0
   KeptBudget {Y} g = (s : Y) (w w' : W) → p.stock w' ≡ p.stock w

@@ -77,24 +77,24 @@ module _ {X W : Type 0} (g : Ghosts X W) (p : Surroundings.Ghosts W) where
 
   abbrev pub KeptValid : Type 0
   KeptValid =
-      (s : X) (w w' : W) → p.stock w' ≡ p.stock w → p.links w ≤ p.links w'
+      (s : X) (w w' : W) → p.stock w' ≡ p.stock w → p.batch w' ≡ p.batch w → p.links w ≤ p.links w'
       → ((l : ℕ) → g.ours s l → p.flight w' l ≡ p.flight w l) → g.valid s w → g.valid s w'
 
   pub flies_kept : (w w' : W) (l : ℕ) → p.flight w' l ≡ p.flight w l → Flies g p w l → Flies g p w' l
   flies_kept w w' l e h = rw e h
 
   pub tree_kept_valid : KeptGives → KeptValid → (t : Tree X) (w w' : W) → p.stock w' ≡ p.stock w
-      → p.links w ≤ p.links w' → ((l : ℕ) → TreeOwn g p t l → p.flight w' l ≡ p.flight w l)
-      → TreeValid g p t w → TreeValid g p t w'
-  tree_kept_valid k v (Leaf x) w w' e n f h = (v x w w' e n f h.0, h.1, h.2, h.3)
-  tree_kept_valid k v (Sub' x q below s body) w w' e n f h = record {
-    executor_valid = v x w w' e n (λ l o. f l (inl o)) h.executor_valid;
+      → p.batch w' ≡ p.batch w → p.links w ≤ p.links w'
+      → ((l : ℕ) → TreeOwn g p t l → p.flight w' l ≡ p.flight w l) → TreeValid g p t w → TreeValid g p t w'
+  tree_kept_valid k v (Leaf x) w w' e b n f h = (v x w w' e b n f h.0, h.1, h.2, h.3)
+  tree_kept_valid k v (Sub' x q below s body) w w' e b n f h = record {
+    executor_valid = v x w w' e b n (λ l o. f l (inl o)) h.executor_valid;
     below_is = record {
       input_valid =
-          λ b. tree_kept_valid k v below w w' e n (λ l o. f l (inr (inl o))) (h.below_is.input_valid b);
+          λ d. tree_kept_valid k v below w w' e b n (λ l o. f l (inr (inl o))) (h.below_is.input_valid d);
       may_ask = h.below_is.may_ask;
       none_left =
-          λ b d r o. h.below_is.none_left b d r
+          λ s d r o. h.below_is.none_left s d r
           (tree_kept_rests k below w w' e (λ l o. f l (inr (inl o))) r o);
       in_flight =
           λ a. (let o = h.below_is.in_flight a
@@ -102,11 +102,11 @@ module _ {X W : Type 0} (g : Ghosts X W) (p : Surroundings.Ghosts W) where
     };
     body_is = record {
       input_valid =
-          λ b. tree_kept_valid k v body w w' e n (λ l o. f l (inr (inr (b, o)))) (h.body_is.input_valid b);
+          λ d. tree_kept_valid k v body w w' e b n (λ l o. f l (inr (inr (d, o)))) (h.body_is.input_valid d);
       may_ask = h.body_is.may_ask;
       none_left =
-          λ b d r o. h.body_is.none_left b d r
-          (tree_kept_rests k body w w' e (λ l q. f l (inr (inr (b, q)))) r o);
+          λ s d r o. h.body_is.none_left s d r
+          (tree_kept_rests k body w w' e (λ l q. f l (inr (inr (s, q)))) r o);
       in_flight =
           λ a. (let o = h.body_is.in_flight a
           in (o.0, o.1, o.2, flies_kept w w' o.1 (f o.1 (inr (inr (o.0, o.2)))) o.3));

@@ -37,6 +37,7 @@ run_node-requires g c =
           c.args.world.now (λ k q. elim q [ inl a ↦ a | inr a ↦ absurd (one_zero a.0) ]) c.requires.valid;
       plan = c.requires.plan;
       call = c.in-Some.ensures.1;
+      batch = c.in-Some.ensures.3 c.args.world.now c.requires.valid.executor_valid;
       may = g.met.X.Wired.may_serve c.args.x.now _ serves;
       port = inr (g.met.X.Wired.serves_port c.args.x.now serves);
     }

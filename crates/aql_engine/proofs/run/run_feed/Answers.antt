@@ -27,7 +27,8 @@ loop-blocks-init g c =
         λ r h.
             (r, rw c.new-blocks.ensures.items (prefixed_none r), rw restarted.plan at (restarted.produces w r h)),
       ),
-      λ e. omega arith,
+      (λ e. omega arith),
+      refl,
     )
 
 pub loop-blocks-preserved : goal.loop-blocks-preserved
@@ -60,11 +61,12 @@ loop-blocks-preserved g c =
               q.2,
             )),
       ),
-      λ e. (let a = inv.6 e in
+      (λ e. (let a = inv.6 e in
           let b = pulled.reads.1 (rw inv.2 e) (λ l. refl) in
           let l = ap length c.in_ok-keep.ensures in
           let m = length-append (rows_in c.loop-blocks.blocks.items) (rows_of step.block) in
-          omega (arith, a, b, l, m)),
+          omega (arith, a, b, l, m))),
+      pulled.world.batch ∙ inv.7,
     )
 
 pub loop-blocks-preserved-in-Continue-branch-4 : goal.loop-blocks-preserved-in-Continue-branch-4
@@ -111,8 +113,9 @@ loop-blocks-preserved-in-Continue-branch-4 g c =
               q.2,
             )),
       ),
-      λ e. (let f = pulled.waiting cc in
-          absurd (g.met.F.Feed.no_link c.pull.new.self f.0 f.1 (rw (pulled.plan ∙ inv.2) e))),
+      (λ e. (let f = pulled.waiting cc in
+          absurd (g.met.F.Feed.no_link c.pull.new.self f.0 f.1 (rw (pulled.plan ∙ inv.2) e)))),
+      delivered.batch ∙ pulled.world.batch ∙ inv.7,
     )
 
 pub returns-in-Done-clause-rows : goal.returns-in-Done-clause-rows

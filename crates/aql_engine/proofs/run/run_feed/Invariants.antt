@@ -25,6 +25,7 @@ invariant-loop-blocks g l =
     × Produces (f.plan l.fn.feed) (w.stock l.fn.world) (row_of l.start) b))
     × (reads_little (f.plan l.fn.feed) ≡ true
     → l.tally.scanned_full ≤ l.fn.tally.scanned_full + length (rows_in l.blocks.items))
+    × (w.batch l.world ≡ w.batch l.fn.world)
 
 abbrev pub decreases-loop-blocks : goal.decreases-loop-blocks
 decreases-loop-blocks g l = g.F.Feed.budget l.feed l.world + (g.W.Surroundings.deliveries l.world).left

@@ -1,4 +1,4 @@
-use Rattle.std.proofs.Common.{ℕ, ◌≡◌, ◌+◌, ◌*◌, ◌<◌, ◌⊎◌, inl, inr, [], true, refl, sym, ap, ◌∙◌, arith, subst}
+use Rattle.std.proofs.Common.{ℕ, ◌≡◌, ◌+◌, ◌*◌, ◌<◌, ◌≤◌, ◌⊎◌, inl, inr, [], true, refl, sym, ap, ◌∙◌, arith, subst}
 use Rattle.std.proofs.Math.Nat.{le_refl}
 use Rattle.std.proofs.lemmas.Bool.{false≢true}
 use Rattle.aql_block.specs.Rows.{row_of}
@@ -99,7 +99,7 @@ TreeFeed::pull-run_node-requires g t c κs within =
             (
               rw (c.deref_mut-below.ensures.value, c.deref_mut-body.ensures.value)
                   (rw c.in-Sub.is at c.requires.plan),
-              (c.requires.call, (rw c.in-Sub.is at c.requires.may, inl refl)),
+              (c.requires.call, (c.requires.batch, (rw c.in-Sub.is at c.requires.may, inl refl))),
             ),
           ),
         ),
@@ -132,6 +132,7 @@ run_node-loop-at-init g t c =
         below_full_kept = refl;
         body_full_kept = refl;
         stock_kept = refl;
+        batch_kept = refl;
         grows = le_refl _;
         deliveries_kept = refl;
         may_come = c.requires.may;
@@ -153,6 +154,9 @@ run_node-turn-requires-clause-node g t c =
     let kept = c.loop-at.invariant.1 in
     rw (kept.stock_kept, kept.node_kept) c.requires.plan.6
 
+pub run_node-turn-requires-clause-batch : goal.run_node-turn-requires-clause-batch
+run_node-turn-requires-clause-batch g t c = rw c.loop-at.invariant.1.batch_kept c.requires.batch
+
 pub run_node-pull-requires : goal.run_node-pull-requires
 run_node-pull-requires g t c κs within =
     let x = g.X.Executor in
@@ -162,9 +166,12 @@ run_node-pull-requires g t c κs within =
     let kept = c.loop-at.invariant.1 in
     let turned = c.in_ok-at.ensures in
     let a = turned_inputs x p m.kept_gives m.kept_valid m.own_links inv c.loop-at.invariant.2 c.turn.new.self
-    c.turn.new.world turned.world.stock turned.world.grows turned.world.others turned.ours in
+    c.turn.new.world turned.world.stock turned.world.batch turned.world.grows turned.world.others
+    turned.ours in
     let plan = c.requires.plan in
     let asked = rw c.if-at-eq0.true at (rw c.in-Ask.is at turned.asked) in
+    let batch : c.args.call.soft ≤ p.batch c.turn.new.world =
+    rw (turned.world.batch, kept.batch_kept) c.requires.batch in
     let fell = c.decreases in
     let lower : height (tree_plan x p c.loop-at.below) * 2 + 1 < t =
     rw kept.plan_kept (omega (arith, fell)) in (
@@ -177,7 +184,7 @@ run_node-pull-requires g t c κs within =
             a.below_is.input_valid inv.begun_is,
             (
               rw (turned.world.stock, kept.stock_kept, kept.plan_kept) plan.2,
-              (asked.2, a.below_is.may_ask inv.begun_is _ asked.4),
+              (asked.2, (at_most asked.7 batch, a.below_is.may_ask inv.begun_is _ asked.4)),
             ),
           ),
         ),
@@ -193,12 +200,15 @@ run_node-pull-requires-else-at-eq0 g t c κs within =
     let kept = c.loop-at.invariant.1 in
     let turned = c.in_ok-at.ensures in
     let a = turned_inputs x p m.kept_gives m.kept_valid m.own_links inv c.loop-at.invariant.2 c.turn.new.self
-    c.turn.new.world turned.world.stock turned.world.grows turned.world.others turned.ours in
+    c.turn.new.world turned.world.stock turned.world.batch turned.world.grows turned.world.others
+    turned.ours in
     let plan = c.requires.plan in
     let m_asked = rw c.in-Ask.is at turned.asked in
     let at_is : c.in-Ask.at ≡ 1 =
     at_body _ _ _ c.if-at-eq0.false m_asked.0 (ap arity kept.node_kept) plan.1 in
     let asked = rw at_is at m_asked in
+    let batch : c.args.call.soft ≤ p.batch c.turn.new.world =
+    rw (turned.world.batch, kept.batch_kept) c.requires.batch in
     let fell = c.decreases in
     let lower : height (tree_plan x p c.loop-at.body) * 2 + 1 < t =
     rw kept.body_plan_kept (omega (arith, fell)) in (
@@ -211,7 +221,7 @@ run_node-pull-requires-else-at-eq0 g t c κs within =
             a.body_is.input_valid asked.1,
             (
               rw (turned.world.stock, kept.stock_kept, kept.body_plan_kept) plan.3,
-              (asked.2, a.body_is.may_ask asked.1 _ asked.4),
+              (asked.2, (at_most asked.7 batch, a.body_is.may_ask asked.1 _ asked.4)),
             ),
           ),
         ),
@@ -250,7 +260,7 @@ run_node-loop-at-smaller-in-Continue-branch-4 g t c =
     let x1 = c.turn.new.self in
     let w1 = c.turn.new.world in
     let a = turned_inputs x p m.kept_gives m.kept_valid m.own_links c.loop-at.invariant.0 links x1 w1
-    turned.world.stock turned.world.grows turned.world.others turned.ours in
+    turned.world.stock turned.world.batch turned.world.grows turned.world.others turned.ours in
     let at_is : c.in-Ask.at ≡ 0 = c.if-at-eq0.true in
     let inputs = rw (c.in-Ask.is, at_is) at turned.inputs in
     let m_budget = rw c.in-Ask.is at turned.budget in
@@ -287,7 +297,7 @@ run_node-loop-at-preserved-in-Continue-branch-4 g t c =
     let w1 = c.turn.new.world in
     let w2 = c.pull.new.world in
     let a = turned_inputs x p m.kept_gives m.kept_valid m.own_links inv links x1 w1
-    turned.world.stock turned.world.grows turned.world.others turned.ours in
+    turned.world.stock turned.world.batch turned.world.grows turned.world.others turned.ours in
     let at_is : c.in-Ask.at ≡ 0 = c.if-at-eq0.true in
     let asked = rw at_is at (rw c.in-Ask.is at turned.asked) in
     let inputs = rw (c.in-Ask.is, at_is) at turned.inputs in
@@ -326,7 +336,9 @@ run_node-loop-at-preserved-in-Continue-branch-4 g t c =
     x_kept d_kept (started_is 1) (λ k f. turned.node.row_cost_is k f ∙ kept.row_cost_kept k f)
     m_budget (of_inputs node_is some taken.budget w2) pulled.budget in (
       record {
-        executor_valid = taken.valid w2 (m.kept_valid x1 w1 w2 pulled.world.stock pulled.world.grows x_kept turned.valid);
+        executor_valid = taken.valid w2
+            (m.kept_valid x1 w1 w2 pulled.world.stock pulled.world.batch pulled.world.grows x_kept
+            turned.valid);
         below_is = pulled_input step c.in-Ask.ask pulled.valid (started_is 0 ∙ asked.1)
             (λ q h. (let k = taken.follows q h in (k.0, k.1 _ asked.3))) pulled.may
             (λ e. elim (taken.ended 0 e) [
@@ -340,7 +352,8 @@ run_node-loop-at-preserved-in-Continue-branch-4 g t c =
             ])
             pulled.waiting;
         body_is = input_weaker
-            (input_kept x p m.kept_gives m.kept_valid body w1 w2 pulled.world.stock pulled.world.grows d_kept a.body_is)
+            (input_kept x p m.kept_gives m.kept_valid body w1 w2 pulled.world.stock pulled.world.batch
+            pulled.world.grows d_kept a.body_is)
             (started_is 1)
             (λ e. elim (taken.ended 1 e) [ inl o ↦ sym (inputs 1).1 ∙ o | inr d ↦ absurd (one_zero d.0) ])
             (λ q. elim q [
@@ -393,6 +406,7 @@ run_node-loop-at-preserved-in-Continue-branch-4 g t c =
         below_full_kept = pulled.full ∙ kept.below_full_kept;
         body_full_kept = kept.body_full_kept;
         stock_kept = pulled.world.stock ∙ turned.world.stock ∙ kept.stock_kept;
+        batch_kept = pulled.world.batch ∙ turned.world.batch ∙ kept.batch_kept;
         grows = at_most kept.grows (at_most turned.world.grows pulled.world.grows);
         deliveries_kept = pulled.world.deliveries ∙ turned.world.deliveries ∙ kept.deliveries_kept;
         may_come = taken.may c.args.port _ m_may;
@@ -446,7 +460,7 @@ run_node-loop-at-smaller-in-Continue-branch-6 g t c =
     let w1 = c.turn.new.world in
     let w2 = c.pull-else-at-eq0.new.world in
     let a = turned_inputs x p m.kept_gives m.kept_valid m.own_links c.loop-at.invariant.0 links x1 w1
-    turned.world.stock turned.world.grows turned.world.others turned.ours in
+    turned.world.stock turned.world.batch turned.world.grows turned.world.others turned.ours in
     let m_asked = rw c.in-Ask.is at turned.asked in
     let at_is : c.in-Ask.at ≡ 1 =
     at_body _ _ _ c.if-at-eq0.false m_asked.0 (ap arity kept.node_kept) c.requires.plan.1 in
@@ -489,7 +503,7 @@ run_node-loop-at-preserved-in-Continue-branch-6 g t c =
     let w1 = c.turn.new.world in
     let w2 = c.pull-else-at-eq0.new.world in
     let a = turned_inputs x p m.kept_gives m.kept_valid m.own_links inv links x1 w1
-    turned.world.stock turned.world.grows turned.world.others turned.ours in
+    turned.world.stock turned.world.batch turned.world.grows turned.world.others turned.ours in
     let m_asked = rw c.in-Ask.is at turned.asked in
     let at_is : c.in-Ask.at ≡ 1 =
     at_body _ _ _ c.if-at-eq0.false m_asked.0 (ap arity kept.node_kept) c.requires.plan.1 in
@@ -531,10 +545,12 @@ run_node-loop-at-preserved-in-Continue-branch-6 g t c =
     (λ k f. turned.node.row_cost_is k f ∙ kept.row_cost_kept k f) m_budget
     (of_inputs node_is some taken.budget w2) pulled.budget in (
       record {
-        executor_valid = taken.valid w2 (m.kept_valid x1 w1 w2 pulled.world.stock pulled.world.grows x_kept turned.valid);
+        executor_valid = taken.valid w2
+            (m.kept_valid x1 w1 w2 pulled.world.stock pulled.world.batch pulled.world.grows x_kept
+            turned.valid);
         below_is = input_weaker
-            (input_kept x p m.kept_gives m.kept_valid below w1 w2 pulled.world.stock pulled.world.grows (λ s. b_kept)
-            a.below_is)
+            (input_kept x p m.kept_gives m.kept_valid below w1 w2 pulled.world.stock pulled.world.batch
+            pulled.world.grows (λ s. b_kept) a.below_is)
             (started_is 0)
             (λ e. elim (taken.ended 0 e) [ inl o ↦ sym (inputs 0).1 ∙ o | inr d ↦ absurd (zero_one d.0) ])
             (λ q. elim q [
@@ -595,6 +611,7 @@ run_node-loop-at-preserved-in-Continue-branch-6 g t c =
         below_full_kept = kept.below_full_kept;
         body_full_kept = pulled.full ∙ kept.body_full_kept;
         stock_kept = pulled.world.stock ∙ turned.world.stock ∙ kept.stock_kept;
+        batch_kept = pulled.world.batch ∙ turned.world.batch ∙ kept.batch_kept;
         grows = at_most kept.grows (at_most turned.world.grows pulled.world.grows);
         deliveries_kept = pulled.world.deliveries ∙ turned.world.deliveries ∙ kept.deliveries_kept;
         may_come = taken.may c.args.port _ m_may;
@@ -647,7 +664,7 @@ run_node-loop-at-smaller g t c =
     let w1 = c.turn.new.world in
     let a = turned_inputs x p m.kept_gives m.kept_valid m.own_links c.loop-at.invariant.0
     c.loop-at.invariant.2
-    x1 w1 turned.world.stock turned.world.grows turned.world.others turned.ours in
+    x1 w1 turned.world.stock turned.world.batch turned.world.grows turned.world.others turned.ours in
     let at_is : c.in-Start.input ≡ 1 = (rw c.in-Start.is at turned.asked).0 in
     let inputs = rw (c.in-Start.is, at_is) at turned.inputs in
     let m_budget = rw (c.in-Start.is, at_is) at turned.budget in
@@ -673,7 +690,7 @@ run_node-loop-at-preserved g t c =
     let x1 = c.turn.new.self in
     let w1 = c.turn.new.world in
     let a = turned_inputs x p m.kept_gives m.kept_valid m.own_links inv links x1 w1
-    turned.world.stock turned.world.grows turned.world.others turned.ours in
+    turned.world.stock turned.world.batch turned.world.grows turned.world.others turned.ours in
     let at_is : c.in-Start.input ≡ 1 = (rw c.in-Start.is at turned.asked).0 in
     let inputs = rw (c.in-Start.is, at_is) at turned.inputs in
     let stuck = rw (c.in-Start.is, at_is) at turned.stuck in
@@ -732,6 +749,7 @@ run_node-loop-at-preserved g t c =
         below_full_kept = kept.below_full_kept;
         body_full_kept = restarted.full ∙ kept.body_full_kept;
         stock_kept = turned.world.stock ∙ kept.stock_kept;
+        batch_kept = turned.world.batch ∙ kept.batch_kept;
         grows = at_most kept.grows turned.world.grows;
         deliveries_kept = turned.world.deliveries ∙ kept.deliveries_kept;
         may_come = m_may;
@@ -766,7 +784,7 @@ run_node-returns-in-Give-clause-valid g t c =
     let links = c.loop-at.invariant.2 in
     let turned = c.in_ok-at.ensures in
     let a = turned_inputs x p m.kept_gives m.kept_valid m.own_links inv links c.turn.new.self c.turn.new.world
-    turned.world.stock turned.world.grows turned.world.others turned.ours in
+    turned.world.stock turned.world.batch turned.world.grows turned.world.others turned.ours in
     let inputs = rw c.in-Give.is at turned.inputs in
     let stuck = rw c.in-Give.is at turned.stuck in
     record {
@@ -796,7 +814,7 @@ run_node-returns-in-Give-clause-leads g t c z =
     let x1 = c.turn.new.self in
     let w1 = c.turn.new.world in
     let a = turned_inputs x p m.kept_gives m.kept_valid m.own_links inv c.loop-at.invariant.2 x1 w1
-    turned.world.stock turned.world.grows turned.world.others turned.ours in
+    turned.world.stock turned.world.batch turned.world.grows turned.world.others turned.ours in
     let inputs = rw c.in-Give.is at turned.inputs in
     let m_leads = rw z at (rw c.in-Give.is at turned.leads) in
     let plan = tree_plan x p c.args.body.now in
@@ -838,7 +856,7 @@ run_node-returns-in-Give-clause-beside g t c n =
     let x1 = c.turn.new.self in
     let w1 = c.turn.new.world in
     let a = turned_inputs x p m.kept_gives m.kept_valid m.own_links inv c.loop-at.invariant.2 x1 w1
-    turned.world.stock turned.world.grows turned.world.others turned.ours in
+    turned.world.stock turned.world.batch turned.world.grows turned.world.others turned.ours in
     let inputs = rw c.in-Give.is at turned.inputs in
     let m_others = rw c.in-Give.is at turned.other_ports in
     let plan = tree_plan x p c.args.body.now in
@@ -904,7 +922,7 @@ run_node-returns-in-Give-clause-waiting g t c z e =
     let turned = c.in_ok-at.ensures in
     let a = turned_inputs x g.W.Surroundings m.kept_gives m.kept_valid m.own_links c.loop-at.invariant.0
     c.loop-at.invariant.2 c.turn.new.self c.turn.new.world
-    turned.world.stock turned.world.grows turned.world.others turned.ours in
+    turned.world.stock turned.world.batch turned.world.grows turned.world.others turned.ours in
     let inputs = rw c.in-Give.is at turned.inputs in
     let m_waiting = rw c.in-Give.is at turned.waiting in
     let node_arity = ap arity c.loop-at.invariant.1.node_kept in
@@ -938,7 +956,7 @@ run_node-returns-in-Give-clause-budget g t c =
     let turned = c.in_ok-at.ensures in
     let a = turned_inputs x g.W.Surroundings m.kept_gives m.kept_valid m.own_links c.loop-at.invariant.0
     c.loop-at.invariant.2 c.turn.new.self c.turn.new.world
-    turned.world.stock turned.world.grows turned.world.others turned.ours in
+    turned.world.stock turned.world.batch turned.world.grows turned.world.others turned.ours in
     let inputs = rw c.in-Give.is at turned.inputs in
     let m_budget = rw c.in-Give.is at turned.budget in
     node_given x g.W.Surroundings m.kept_budget c.args.x.now c.loop-at.x c.turn.new.self c.args.body.now

@@ -30,7 +30,8 @@ work_on-requires-clause-valid g t c =
     rw (c.deref_mut-below.ensures.value, c.deref_mut-body.ensures.value) (rw c.in-Sub.is at h) in
     let f = dl.undisturbed own w v.executor_valid k in
     let a = mine_reached x p m.kept_gives m.kept_valid m.kept_budget m.own_links x0 x1 below body w
-    c.args.world.now w2 c.args.link c.args.message f.0 v k own dl.world.stock dl.world.grows dl.world.others (dl.valid own)
+    c.args.world.now w2 c.args.link c.args.message f.0 v k own dl.world.stock dl.world.batch dl.world.grows
+    dl.world.others (dl.valid own)
     dl.inputs dl.asks
     dl.ours dl.busy dl.node.node_is f.2 dl.node.row_cost_is (dl.budget own w v.executor_valid k) in
     a.valid
@@ -61,7 +62,8 @@ returns-then-owns-clause-undisturbed g t c =
     rw (c.deref_mut-below.ensures.value, c.deref_mut-body.ensures.value) (rw c.in-Sub.is at h) in
     let f = dl.undisturbed own w v.executor_valid k in
     let a = mine_reached x p m.kept_gives m.kept_valid m.kept_budget m.own_links x0 x1 below body w
-    c.args.world.now w2 c.args.link c.args.message f.0 v k own dl.world.stock dl.world.grows dl.world.others (dl.valid own)
+    c.args.world.now w2 c.args.link c.args.message f.0 v k own dl.world.stock dl.world.batch dl.world.grows
+    dl.world.others (dl.valid own)
     dl.inputs dl.asks
     dl.ours dl.busy dl.node.node_is f.2 dl.node.row_cost_is (dl.budget own w v.executor_valid k) in (
       plus f.0 q.0,
@@ -93,7 +95,8 @@ returns-then-owns-clause-budget g t c =
     rw (c.deref_mut-below.ensures.value, c.deref_mut-body.ensures.value) (rw c.in-Sub.is at h) in
     let f = dl.undisturbed own w v.executor_valid k in
     let a = mine_reached x p m.kept_gives m.kept_valid m.kept_budget m.own_links x0 x1 below body w
-    c.args.world.now w2 c.args.link c.args.message f.0 v k own dl.world.stock dl.world.grows dl.world.others (dl.valid own)
+    c.args.world.now w2 c.args.link c.args.message f.0 v k own dl.world.stock dl.world.batch dl.world.grows
+    dl.world.others (dl.valid own)
     dl.inputs dl.asks
     dl.ours dl.busy dl.node.node_is f.2 dl.node.row_cost_is (dl.budget own w v.executor_valid k) in
     rw (
@@ -145,7 +148,8 @@ work_on-requires-then-owns-2-clause-valid g t c =
     let f = dl.undisturbed w (v.below_is.input_valid v.begun_is) k in
     let a = below_reached x p m.kept_gives m.kept_valid m.kept_budget m.own_links m.more_counts x0 below
     below1 body w
-    c.args.world.now w2 c.args.link c.args.message f.0 v k own dl.world.stock dl.world.grows dl.world.others dl.valid dl.may
+    c.args.world.now w2 c.args.link c.args.message f.0 v k own dl.world.stock dl.world.batch dl.world.grows
+    dl.world.others dl.valid dl.may
     f.2 dl.ours
     (dl.budget w (v.below_is.input_valid v.begun_is) k) dl.plan in
     a.valid
@@ -177,7 +181,8 @@ returns-then-owns-2-clause-undisturbed g t c =
     let f = dl.undisturbed w (v.below_is.input_valid v.begun_is) k in
     let a = below_reached x p m.kept_gives m.kept_valid m.kept_budget m.own_links m.more_counts x0 below
     below1 body w
-    c.args.world.now w2 c.args.link c.args.message f.0 v k own dl.world.stock dl.world.grows dl.world.others dl.valid dl.may
+    c.args.world.now w2 c.args.link c.args.message f.0 v k own dl.world.stock dl.world.batch dl.world.grows
+    dl.world.others dl.valid dl.may
     f.2 dl.ours
     (dl.budget w (v.below_is.input_valid v.begun_is) k) dl.plan in (
       plus f.0 q.0,
@@ -210,7 +215,8 @@ returns-then-owns-2-clause-budget g t c =
     let f = dl.undisturbed w (v.below_is.input_valid v.begun_is) k in
     let a = below_reached x p m.kept_gives m.kept_valid m.kept_budget m.own_links m.more_counts x0 below
     below1 body w
-    c.args.world.now w2 c.args.link c.args.message f.0 v k own dl.world.stock dl.world.grows dl.world.others dl.valid dl.may
+    c.args.world.now w2 c.args.link c.args.message f.0 v k own dl.world.stock dl.world.batch dl.world.grows
+    dl.world.others dl.valid dl.may
     f.2 dl.ours
     (dl.budget w (v.below_is.input_valid v.begun_is) k) dl.plan in
     rw (
@@ -268,7 +274,8 @@ work_on-requires-in-Sub-clause-valid g t c =
     let f = dl.undisturbed w (v.body_is.input_valid own.0) k in
     let a = body_reached x p m.kept_gives m.kept_valid m.kept_budget m.own_links m.more_counts x0 below
     body body1 w
-    c.args.world.now w2 c.args.link c.args.message f.0 v k own dl.world.stock dl.world.grows dl.world.others dl.valid dl.may
+    c.args.world.now w2 c.args.link c.args.message f.0 v k own dl.world.stock dl.world.batch dl.world.grows
+    dl.world.others dl.valid dl.may
     f.2 dl.ours
     (dl.budget w (v.body_is.input_valid own.0) k) dl.plan dl.full in
     a.valid
@@ -306,7 +313,8 @@ returns-in_ok-work_on-in-Sub-3-clause-undisturbed g t c =
     let f = dl.undisturbed w (v.body_is.input_valid own.0) k in
     let a = body_reached x p m.kept_gives m.kept_valid m.kept_budget m.own_links m.more_counts x0 below
     body body1 w
-    c.args.world.now w2 c.args.link c.args.message f.0 v k own dl.world.stock dl.world.grows dl.world.others dl.valid dl.may
+    c.args.world.now w2 c.args.link c.args.message f.0 v k own dl.world.stock dl.world.batch dl.world.grows
+    dl.world.others dl.valid dl.may
     f.2 dl.ours
     (dl.budget w (v.body_is.input_valid own.0) k) dl.plan dl.full in (
       plus f.0 q.0,
@@ -345,7 +353,8 @@ returns-in_ok-work_on-in-Sub-3-clause-budget g t c =
     let f = dl.undisturbed w (v.body_is.input_valid own.0) k in
     let a = body_reached x p m.kept_gives m.kept_valid m.kept_budget m.own_links m.more_counts x0 below
     body body1 w
-    c.args.world.now w2 c.args.link c.args.message f.0 v k own dl.world.stock dl.world.grows dl.world.others dl.valid dl.may
+    c.args.world.now w2 c.args.link c.args.message f.0 v k own dl.world.stock dl.world.batch dl.world.grows
+    dl.world.others dl.valid dl.may
     f.2 dl.ours
     (dl.budget w (v.body_is.input_valid own.0) k) dl.plan dl.full in
     rw (
