@@ -33,14 +33,14 @@ serving_ask (Serving d) c h = ap Serving h
 serving_ask Replied c h = absurd h
 
 -- an ask that came, came over a link
-pub serves_linked : (stage : Stage) (done ended ready : Bool) (held answer : List Row) (link : Option ℕ)
-    (f : ℕ → Line) → serves_of stage ≡ true → AtStage stage done ended ready held answer (on_link link f)
-    → link ≡ None → ⊥
-serves_linked Idle done ended ready held answer link f s h e = false≢true s
-serves_linked Sent done ended ready held answer link f s h e = false≢true s
-serves_linked (Serving c) done ended ready held answer link f s h e =
+pub serves_linked : (batch : ℕ) (stage : Stage) (done ended ready : Bool) (held answer : List Row)
+    (link : Option ℕ) (f : ℕ → Line) → serves_of stage ≡ true
+    → AtStage batch stage done ended ready held answer (on_link link f) → link ≡ None → ⊥
+serves_linked batch Idle done ended ready held answer link f s h e = false≢true s
+serves_linked batch Sent done ended ready held answer link f s h e = false≢true s
+serves_linked batch (Serving c) done ended ready held answer link f s h e =
     (let talk : fresh ≡ asked c = ap (λ o. (on_link o f).talk) (sym e) ∙ h.said in absurd (cc))
-serves_linked Replied done ended ready held answer link f s h e = false≢true s
+serves_linked batch Replied done ended ready held answer link f s h e = false≢true s
 
 pub not_true : (b : Bool) → (b ≡ true → ⊥) → b ≡ false
 not_true true f = absurd (f refl)
@@ -48,28 +48,29 @@ not_true false f = refl
 
 -- ---- an ask and a reply are sent
 
-pub ask_of : (soft : ℕ) (call : Call) → soft ≡ call.soft → IsCall call
-    → IsAsk (record { offset = 0; soft = soft; hard = 18446744073709551615 })
-ask_of soft call e i = (let a = i.some in let b = i.batch in record {
+pub ask_of : (batch soft : ℕ) (call : Call) → soft ≡ call.soft → call.soft ≤ batch → IsCall call
+    → IsAsk batch (record { offset = 0; soft = soft; hard = 18446744073709551615 })
+ask_of batch soft call e b i = (let a = i.some in record {
   offset = refl;
   some = omega (arith, e, a);
   batch = omega (arith, e, b);
   hard = refl;
 })
 
-pub ask_is_call : (c : Call) → IsAsk c → IsCall c
-ask_is_call c i = (let a = i.batch in let b = i.hard in record {
+pub ask_is_call : (batch : ℕ) (c : Call) → IsAsk batch c → c.soft ≤ 10000 → IsCall c
+ask_is_call batch c i few = (let b = i.hard in record {
   some = i.some;
-  soft = omega (arith, a, b);
-  batch = i.batch;
+  soft = omega (arith, few, b);
+  batch = few;
 })
 
-pub sent_ask : (done ended : Bool) (held answer : List Row) (line line' : Line) (c : Call)
-    → AtIdle done ended answer line → done ≡ false → held ≡ [] → IsAsk c → line' ≡ with_message line (Ask c)
-    → AtSent done ended held answer line'
-sent_ask done ended held answer line line' c h d none i e = record {
+pub sent_ask : (batch : ℕ) (done ended : Bool) (held answer : List Row) (line line' : Line) (c : Call)
+    → AtIdle batch done ended answer line → done ≡ false → held ≡ [] → IsAsk batch c → IsCall c
+    → line' ≡ with_message line (Ask c) → AtSent batch done ended held answer line'
+sent_ask batch done ended held answer line line' c h d none i call e = record {
   ask = c;
   is_ask = i;
+  is_call = call;
   flies = ap (λ (z : Line). z.flying) e ∙ ap (λ z. z ++ Ask c ∷ []) h.none_flies;
   said = ap (λ (z : Line). z.talk) e;
   none_held = none;
@@ -91,13 +92,14 @@ pub has_more : (progress : Progress) (ended : Bool) (n : ℕ) → (ended ≡ tru
 has_more progress true n d h e = absurd (let q = sym (d refl) ∙ e in cc q)
 has_more progress false n d h e = h refl
 
-pub may_reply : (c : Call) (done ended ready : Bool) (held answer : List Row) (line : Line) (step : Step)
-    → AtServing c done ended ready held answer line → ready ≡ true → step.skipped ≡ 0 → given step ≡ answer
-    → (ended ≡ true → step.progress ≡ Done) → (step.progress ≡ Waiting → ⊥) → Next line.talk (Reply step)
-may_reply c done ended ready held answer line step h r z is d w =
+pub may_reply : (batch : ℕ) (c : Call) (done ended ready : Bool) (held answer : List Row) (line : Line)
+    (step : Step) → AtServing batch c done ended ready held answer line → ready ≡ true → step.skipped ≡ 0
+    → given step ≡ answer → (ended ≡ true → step.progress ≡ Done) → (step.progress ≡ Waiting → ⊥)
+    → Next batch line.talk (Reply step)
+may_reply batch c done ended ready held answer line step h r z is d w =
     let rows = ap length is in
     let few = h.few in
-    subst (λ t. Next t (Reply step)) (sym h.said) (record {
+    subst (λ t. Next batch t (Reply step)) (sym h.said) (record {
       skipped = (let o = h.is_ask.offset in omega (arith, z, o));
       rows = omega (arith, rows, few);
       first = λ _. z ∙ sym h.is_ask.offset;
@@ -106,11 +108,12 @@ may_reply c done ended ready held answer line step h r z is d w =
           omega (arith, m, rows));
     })
 
-pub sent_reply : (c : Call) (done ended ready : Bool) (held answer answer' : List Row) (line line' : Line)
-    (step : Step) → AtServing c done ended ready held answer line → line' ≡ with_message line (Reply step)
-    → answer' ≡ [] → (step.progress ≡ Done → ended ≡ true) → (ended ≡ true → step.progress ≡ Done)
-    → (step.progress ≡ Waiting → ⊥) → AtReplied done ended held answer' line'
-sent_reply c done ended ready held answer answer' line line' step h e none d d' w = record {
+pub sent_reply : (batch : ℕ) (c : Call) (done ended ready : Bool) (held answer answer' : List Row)
+    (line line' : Line) (step : Step) → AtServing batch c done ended ready held answer line
+    → line' ≡ with_message line (Reply step) → answer' ≡ [] → (step.progress ≡ Done → ended ≡ true)
+    → (ended ≡ true → step.progress ≡ Done) → (step.progress ≡ Waiting → ⊥)
+    → AtReplied done ended held answer' line'
+sent_reply batch c done ended ready held answer answer' line line' step h e none d d' w = record {
   reply = step;
   flies = ap (λ (z : Line). z.flying) e ∙ ap (λ z. z ++ Reply step ∷ []) h.none_flies;
   said = ap (λ (z : Line). z.talk) e;
@@ -135,32 +138,32 @@ kept_reply held answer answer' line line' step none e is none' =
 -- ---- what is given, and what is left
 
 -- where rows are held no ask is out
-pub held_idle : (stage : Stage) (done ended ready : Bool) (held held' answer : List Row) (line : Line)
-    → 0 < length held → AtStage stage done ended ready held answer line
-    → AtStage stage done ended ready held' answer line
-held_idle Idle done ended ready held held' answer line some h = h
-held_idle Sent done ended ready held held' answer line some h =
+pub held_idle : (batch : ℕ) (stage : Stage) (done ended ready : Bool) (held held' answer : List Row)
+    (line : Line) → 0 < length held → AtStage batch stage done ended ready held answer line
+    → AtStage batch stage done ended ready held' answer line
+held_idle batch Idle done ended ready held held' answer line some h = h
+held_idle batch Sent done ended ready held held' answer line some h =
     (let n = ap length h.none_held in absurd (omega (arith, some, n)))
-held_idle (Serving c) done ended ready held held' answer line some h =
+held_idle batch (Serving c) done ended ready held held' answer line some h =
     (let n = ap length h.none_held in absurd (omega (arith, some, n)))
-held_idle Replied done ended ready held held' answer line some h =
+held_idle batch Replied done ended ready held held' answer line some h =
     (let n = ap length h.none_held in absurd (omega (arith, some, n)))
 
-pub done_ended : (stage : Stage) (done ended ready : Bool) (held answer : List Row) (line : Line)
-    → done ≡ true
-    → AtStage stage done ended ready held answer line → ended ≡ true
-done_ended Idle done ended ready held answer line d h = h.done_ended d
-done_ended Sent done ended ready held answer line d h = absurd (false≢true (sym h.not_done ∙ d))
-done_ended (Serving c) done ended ready held answer line d h = absurd (false≢true (sym h.not_done ∙ d))
-done_ended Replied done ended ready held answer line d h = absurd (false≢true (sym h.not_done ∙ d))
+pub done_ended : (batch : ℕ) (stage : Stage) (done ended ready : Bool) (held answer : List Row) (line : Line)
+    → done ≡ true → AtStage batch stage done ended ready held answer line → ended ≡ true
+done_ended batch Idle done ended ready held answer line d h = h.done_ended d
+done_ended batch Sent done ended ready held answer line d h = absurd (false≢true (sym h.not_done ∙ d))
+done_ended batch (Serving c) done ended ready held answer line d h = absurd (false≢true (sym h.not_done ∙ d))
+done_ended batch Replied done ended ready held answer line d h = absurd (false≢true (sym h.not_done ∙ d))
 
 -- nothing is left once the last reply was given
-pub done_all : (stage : Stage) (done ended ready : Bool) (held answer : List Row) (line : Line) → done ≡ true
-    → AtStage stage done ended ready held answer line → (replied line.flying ≡ []) × (answer ≡ [])
-done_all Idle done ended ready held answer line d h = (ap replied h.none_flies, h.none_answered)
-done_all Sent done ended ready held answer line d h = absurd (false≢true (sym h.not_done ∙ d))
-done_all (Serving c) done ended ready held answer line d h = absurd (false≢true (sym h.not_done ∙ d))
-done_all Replied done ended ready held answer line d h = absurd (false≢true (sym h.not_done ∙ d))
+pub done_all : (batch : ℕ) (stage : Stage) (done ended ready : Bool) (held answer : List Row) (line : Line)
+    → done ≡ true → AtStage batch stage done ended ready held answer line
+    → (replied line.flying ≡ []) × (answer ≡ [])
+done_all batch Idle done ended ready held answer line d h = (ap replied h.none_flies, h.none_answered)
+done_all batch Sent done ended ready held answer line d h = absurd (false≢true (sym h.not_done ∙ d))
+done_all batch (Serving c) done ended ready held answer line d h = absurd (false≢true (sym h.not_done ∙ d))
+done_all batch Replied done ended ready held answer line d h = absurd (false≢true (sym h.not_done ∙ d))
 
 -- ---- it waits
 
@@ -173,14 +176,15 @@ linked None f m e = absurd (cc)
 linked (Some l) f m e = (l, refl, one_flies (f l).flying m e)
 
 -- an ask is served, or a message is in flight
-pub waits_for : (stage : Stage) (done ended ready working : Bool) (held answer : List Row) (link : Option ℕ)
-    (f : ℕ → Line) → AtStage stage done ended ready held answer (on_link link f) → (stage ≡ Idle → ⊥)
-    → (working ≡ true → ⊥)
+pub waits_for : (batch : ℕ) (stage : Stage) (done ended ready working : Bool) (held answer : List Row)
+    (link : Option ℕ) (f : ℕ → Line) → AtStage batch stage done ended ready held answer (on_link link f)
+    → (stage ≡ Idle → ⊥) → (working ≡ true → ⊥)
     → ((serves_of stage ≡ true) × (working ≡ false)) ⊎ ((l : ℕ) × (link ≡ Some l) × (0 < length (f l).flying))
-waits_for Idle done ended ready working held answer link f h n w = absurd (n refl)
-waits_for Sent done ended ready working held answer link f h n w = inr (linked link f (Ask h.ask) h.flies)
-waits_for (Serving c) done ended ready working held answer link f h n w = inl (refl, not_true working w)
-waits_for Replied done ended ready working held answer link f h n w =
+waits_for batch Idle done ended ready working held answer link f h n w = absurd (n refl)
+waits_for batch Sent done ended ready working held answer link f h n w =
+    inr (linked link f (Ask h.ask) h.flies)
+waits_for batch (Serving c) done ended ready working held answer link f h n w = inl (refl, not_true working w)
+waits_for batch Replied done ended ready working held answer link f h n w =
     inr (linked link f (Reply h.reply) h.flies)
 
 -- ---- a step of the input
@@ -199,14 +203,15 @@ pub done_ready : (progress : Progress) (ready : Bool) → (ready ≡ false → p
 done_ready progress true h e = refl
 done_ready progress false h e = absurd (let q = sym (h refl) ∙ e in cc q)
 
-pub took_step : (c : Call) (done ended ready ended' ready' : Bool) (held answer answer' : List Row)
-    (line : Line)
-    → AtServing c done ended ready held answer line → length answer' ≤ c.soft
+pub took_step : (batch : ℕ) (c : Call) (done ended ready ended' ready' : Bool)
+    (held answer answer' : List Row) (line : Line)
+    → AtServing batch c done ended ready held answer line → length answer' ≤ c.soft
     → (ended' ≡ true → ready' ≡ true)
     → (ready' ≡ false → answer' ≡ []) → (ready' ≡ true → ended' ≡ false → 0 < length answer')
-    → AtServing c done ended' ready' held answer' line
-took_step c done ended ready ended' ready' held answer answer' line h few d none some = record {
+    → AtServing batch c done ended' ready' held answer' line
+took_step batch c done ended ready ended' ready' held answer answer' line h few d none some = record {
   is_ask = h.is_ask;
+  is_call = h.is_call;
   none_flies = h.none_flies;
   said = h.said;
   none_held = h.none_held;
@@ -233,18 +238,20 @@ none_few : (n : ℕ) → 0 ≤ n
 none_few n = omega arith
 
 -- an ask: it is served
-pub received_ask : (stage : Stage) (done ended ready : Bool) (held answer : List Row) (line line' : Line)
-    (older newer : List Message) (c : Call) → AtStage stage done ended ready held answer line
+pub received_ask : (batch : ℕ) (stage : Stage) (done ended ready : Bool) (held answer : List Row)
+    (line line' : Line) (older newer : List Message) (c : Call)
+    → AtStage batch stage done ended ready held answer line
     → line.flying ≡ older ++ (Ask c ∷ newer) → line'.flying ≡ older ++ newer → line'.talk ≡ line.talk
-    → AtServing c done ended false held answer line' × (replied line'.flying ≡ replied line.flying)
-received_ask Idle done ended ready held answer line line' older newer c h was is talk =
+    → AtServing batch c done ended false held answer line' × (replied line'.flying ≡ replied line.flying)
+received_ask batch Idle done ended ready held answer line line' older newer c h was is talk =
     absurd (none_taken (Ask c) older newer (sym h.none_flies ∙ was))
-received_ask Sent done ended ready held answer line line' older newer c h was is talk =
+received_ask batch Sent done ended ready held answer line line' older newer c h was is talk =
     let one = one_taken (Ask h.ask) (Ask c) older newer (sym h.flies ∙ was) in
     let same : h.ask ≡ c = (let q = one.0 in cc q) in
     let none = is ∙ one.1 in (
       record {
-        is_ask = subst IsAsk same h.is_ask;
+        is_ask = subst (IsAsk batch) same h.is_ask;
+        is_call = subst IsCall same h.is_call;
         none_flies = none;
         said = talk ∙ h.said ∙ ap asked same;
         none_held = h.none_held;
@@ -256,34 +263,37 @@ received_ask Sent done ended ready held answer line line' older newer c h was is
       },
       ap replied none ∙ sym (ap replied h.flies),
     )
-received_ask (Serving d) done ended ready held answer line line' older newer c h was is talk =
+received_ask batch (Serving d) done ended ready held answer line line' older newer c h was is talk =
     absurd (none_taken (Ask c) older newer (sym h.none_flies ∙ was))
-received_ask Replied done ended ready held answer line line' older newer c h was is talk =
+received_ask batch Replied done ended ready held answer line line' older newer c h was is talk =
     let one = one_taken (Reply h.reply) (Ask c) older newer (sym h.flies ∙ was) in
     let q = one.0 in absurd (cc q)
 
-may_ask : (progress : Progress) (done : Bool) (t : Talk) (c : Call) → t ≡ answered progress
-    → (progress ≡ Waiting → ⊥) → (progress ≡ Done → done ≡ true) → done ≡ false → IsAsk c → Next t (Ask c)
-may_ask Waiting done t c e w d n i = absurd (w refl)
-may_ask HasMore done t c e w d n i = subst (λ z. Next z (Ask c)) (sym e) (refl, i)
-may_ask Done done t c e w d n i = absurd (false≢true (sym n ∙ d refl))
+may_ask : (batch : ℕ) (progress : Progress) (done : Bool) (t : Talk) (c : Call) → t ≡ answered progress
+    → (progress ≡ Waiting → ⊥) → (progress ≡ Done → done ≡ true) → done ≡ false → IsAsk batch c
+    → Next batch t (Ask c)
+may_ask batch Waiting done t c e w d n i = absurd (w refl)
+may_ask batch HasMore done t c e w d n i = subst (λ z. Next batch z (Ask c)) (sym e) (refl, i)
+may_ask batch Done done t c e w d n i = absurd (false≢true (sym n ∙ d refl))
 
 -- a reply: its rows are held
-pub received_reply : (stage : Stage) (done done' ended ready : Bool) (held answer : List Row)
-    (line line' : Line)
-    (older newer : List Message) (step : Step) → AtStage stage done ended ready held answer line
+pub received_reply : (batch : ℕ) (stage : Stage) (done done' ended ready : Bool) (held answer : List Row)
+    (line line' : Line) (older newer : List Message) (step : Step)
+    → AtStage batch stage done ended ready held answer line
     → line.flying ≡ older ++ (Reply step ∷ newer) → line'.flying ≡ older ++ newer → line'.talk ≡ line.talk
     → (done' ≡ true → step.progress ≡ Done) → (step.progress ≡ Done → done' ≡ true)
-    → AtIdle done' ended answer line'
+    → AtIdle batch done' ended answer line'
     × (given step ++ (replied line'.flying ++ answer) ≡ held ++ (replied line.flying ++ answer))
-received_reply Idle done done' ended ready held answer line line' older newer step h was is talk d d' =
+received_reply batch Idle done done' ended ready held answer line line' older newer step h was is talk d d' =
     absurd (none_taken (Reply step) older newer (sym h.none_flies ∙ was))
-received_reply Sent done done' ended ready held answer line line' older newer step h was is talk d d' =
+received_reply batch Sent done done' ended ready held answer line line' older newer step h was is talk d d' =
     let one = one_taken (Ask h.ask) (Reply step) older newer (sym h.flies ∙ was) in
     let q = one.0 in absurd (cc q)
-received_reply (Serving c) done done' ended ready held answer line line' older newer step h was is talk d d' =
+received_reply batch (Serving c) done done' ended ready held answer line line' older newer step h was is talk
+    d d' =
     absurd (none_taken (Reply step) older newer (sym h.none_flies ∙ was))
-received_reply Replied done done' ended ready held answer line line' older newer step h was is talk d d' =
+received_reply batch Replied done done' ended ready held answer line line' older newer step h was is talk
+    d d' =
     let one = one_taken (Reply h.reply) (Reply step) older newer (sym h.flies ∙ was) in
     let same : h.reply ≡ step = (let q = one.0 in cc q) in
     let none = is ∙ one.1 in
@@ -293,8 +303,8 @@ received_reply Replied done done' ended ready held answer line line' older newer
         none_answered = h.none_answered;
         done_ended = λ e. h.done_ended (progress ∙ d e);
         ended_done = λ e. d' (sym progress ∙ h.ended_done e);
-        may_ask = λ n c i. may_ask step.progress done' line'.talk c (talk ∙ h.said ∙ ap answered progress)
-            (λ w. h.ready (progress ∙ w)) d' n i;
+        may_ask = λ n c i. may_ask batch step.progress done' line'.talk c
+            (talk ∙ h.said ∙ ap answered progress) (λ w. h.ready (progress ∙ w)) d' n i;
       },
       rows none same (h.flies) h.none_held h.none_answered,
     )
@@ -312,7 +322,7 @@ received_reply Replied done done' ended ready held answer line line' older newer
 -- the same of a message that was taken off the link
 module _ {W : Type 0} (p : Surroundings.Ghosts W) (s : Remote) (w w' : W) (l : ℕ) (m : Message)
     (taken : Taken p w w' l m) (own : s.link ≡ Some l)
-    (h : AtStage s.stage s.done s.ended s.ready (rows_of s.held) (rows_of s.answer)
+    (h : AtStage (p.batch w) s.stage s.done s.ended s.ready (rows_of s.held) (rows_of s.answer)
     (on_link s.link (p.flight w))) where
   here : (v : W) → on_link s.link (p.flight v) ≡ p.flight v l
   here v = ap (λ o. on_link o (p.flight v)) own
@@ -327,19 +337,20 @@ module _ {W : Type 0} (p : Surroundings.Ghosts W) (s : Remote) (w w' : W) (l : �
   talk = ap (λ (z : Line). z.talk) (here w') ∙ taken.talk_kept l ∙ sym (ap (λ (z : Line). z.talk) (here w))
 
   pub took_ask : (c : Call) → m ≡ Ask c
-      → AtServing c s.done s.ended false (rows_of s.held) (rows_of s.answer) (on_link s.link (p.flight w'))
+      → AtServing (p.batch w') c s.done s.ended false (rows_of s.held) (rows_of s.answer)
+      (on_link s.link (p.flight w'))
       × (replied (on_link s.link (p.flight w')).flying ≡ replied (on_link s.link (p.flight w)).flying)
-  took_ask c e =
-      received_ask s.stage s.done s.ended s.ready (rows_of s.held) (rows_of s.answer)
+  took_ask c e = rw taken.batch_kept
+      (received_ask (p.batch w) s.stage s.done s.ended s.ready (rows_of s.held) (rows_of s.answer)
       (on_link s.link (p.flight w))
-      (on_link s.link (p.flight w')) taken.older taken.newer c h (was (Ask c) e) is talk
+      (on_link s.link (p.flight w')) taken.older taken.newer c h (was (Ask c) e) is talk)
 
   pub took_reply : (done : Bool) (step : Step) → m ≡ Reply step → (done ≡ true → step.progress ≡ Done)
       → (step.progress ≡ Done → done ≡ true)
-      → AtIdle done s.ended (rows_of s.answer) (on_link s.link (p.flight w'))
+      → AtIdle (p.batch w') done s.ended (rows_of s.answer) (on_link s.link (p.flight w'))
       × (given step ++ (replied (on_link s.link (p.flight w')).flying ++ rows_of s.answer)
       ≡ kept s (on_link s.link (p.flight w)).flying)
-  took_reply done step e d d' =
-      received_reply s.stage s.done done s.ended s.ready (rows_of s.held) (rows_of s.answer)
+  took_reply done step e d d' = rw taken.batch_kept
+      (received_reply (p.batch w) s.stage s.done done s.ended s.ready (rows_of s.held) (rows_of s.answer)
       (on_link s.link (p.flight w)) (on_link s.link (p.flight w')) taken.older taken.newer step h
-      (was (Reply step) e) is talk d d'
+      (was (Reply step) e) is talk d d')

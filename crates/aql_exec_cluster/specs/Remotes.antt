@@ -97,7 +97,7 @@ ended_remote s (suc k) = false
 
 -- the call by which it asked, no more rows at a time than the ask wants
 pub record AsksInput (s : Remote) (c : Call) : Type 0 where
-  pub is_ask : IsAsk c
+  pub is_ask : IsAsk 10000 c
   pub served : Call
   pub serves : Serves s.stage served
   pub within : c.soft ≤ served.soft
@@ -110,23 +110,24 @@ Asking s zero c = AsksInput s c
 Asking s (suc k) c = ⊥
 
 abbrev pub asks_remote : Remote → ℕ → Call → Type 0
-asks_remote s zero c = IsCall c × IsAsk c × (s.ended ≡ false)
+asks_remote s zero c = IsCall c × IsAsk 10000 c × (s.ended ≡ false)
 asks_remote s (suc k) c = ⊥
 
--- ---- how far the ask has come
+-- ---- how far the ask has come, where no ask wants more rows at a time than the batch
 
 -- none is out
-pub record AtIdle (done ended : Bool) (answer : List Row) (line : Line) : Type 0 where
+pub record AtIdle (batch : ℕ) (done ended : Bool) (answer : List Row) (line : Line) : Type 0 where
   pub none_flies : line.flying ≡ []
   pub none_answered : answer ≡ []
   pub done_ended : done ≡ true → ended ≡ true
   pub ended_done : ended ≡ true → done ≡ true
-  pub may_ask : done ≡ false → (c : Call) → IsAsk c → Next line.talk (Ask c)
+  pub may_ask : done ≡ false → (c : Call) → IsAsk batch c → Next batch line.talk (Ask c)
 
 -- it is on its way
-pub record AtSent (done ended : Bool) (held answer : List Row) (line : Line) : Type 0 where
+pub record AtSent (batch : ℕ) (done ended : Bool) (held answer : List Row) (line : Line) : Type 0 where
   pub ask : Call
-  pub is_ask : IsAsk ask
+  pub is_ask : IsAsk batch ask
+  pub is_call : IsCall ask
   pub flies : line.flying ≡ Ask ask ∷ []
   pub said : line.talk ≡ asked ask
   pub none_held : held ≡ []
@@ -135,9 +136,10 @@ pub record AtSent (done ended : Bool) (held answer : List Row) (line : Line) : T
   pub not_ended : ended ≡ false
 
 -- it was received
-pub record AtServing (ask : Call) (done ended ready : Bool) (held answer : List Row)
+pub record AtServing (batch : ℕ) (ask : Call) (done ended ready : Bool) (held answer : List Row)
     (line : Line) : Type 0 where
-  pub is_ask : IsAsk ask
+  pub is_ask : IsAsk batch ask
+  pub is_call : IsCall ask
   pub none_flies : line.flying ≡ []
   pub said : line.talk ≡ asked ask
   pub none_held : held ≡ []
@@ -159,12 +161,13 @@ pub record AtReplied (done ended : Bool) (held answer : List Row) (line : Line) 
   pub ended_done : ended ≡ true → reply.progress ≡ Done
   pub done_ended : reply.progress ≡ Done → ended ≡ true
 
-abbrev pub AtStage : Stage → Bool → Bool → Bool → List Row → List Row → Line → Type 0
-AtStage Idle done ended ready held answer line = AtIdle done ended answer line
-AtStage Sent done ended ready held answer line = AtSent done ended held answer line
-AtStage (Serving ask) done ended ready held answer line = AtServing ask done ended ready held answer line
-AtStage Replied done ended ready held answer line = AtReplied done ended held answer line
+abbrev pub AtStage : ℕ → Stage → Bool → Bool → Bool → List Row → List Row → Line → Type 0
+AtStage batch Idle done ended ready held answer line = AtIdle batch done ended answer line
+AtStage batch Sent done ended ready held answer line = AtSent batch done ended held answer line
+AtStage batch (Serving ask) done ended ready held answer line =
+    AtServing batch ask done ended ready held answer line
+AtStage batch Replied done ended ready held answer line = AtReplied done ended held answer line
 
-pub record RemoteIs (s : Remote) (line : Line) (links : ℕ) : Type 0 where
-  pub stage : AtStage s.stage s.done s.ended s.ready (rows_of s.held) (rows_of s.answer) line
+pub record RemoteIs (s : Remote) (line : Line) (links batch : ℕ) : Type 0 where
+  pub stage : AtStage batch s.stage s.done s.ended s.ready (rows_of s.held) (rows_of s.answer) line
   pub link : (l : ℕ) → s.link ≡ Some l → l < links

@@ -174,7 +174,7 @@ impl<W: Surroundings> Executor<W> for Gather {
 
     ghost kept_gives = { λ _ _ _ _ _ _ _ _ _ h. h };
 
-    ghost kept_valid = { λ _ _ _ _ _ _ h. h };
+    ghost kept_valid = { λ _ _ _ _ _ _ _ h. h };
 
     ghost kept_budget = { λ s _ _ _ _ _.
         le_refl (length (rows_of s.held) + count_going s.inputs.progress.items) };

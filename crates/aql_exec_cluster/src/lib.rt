@@ -3,7 +3,6 @@
 #![tactic(auto)]
 
 mod blocks;
-mod cables;
 mod founded;
 mod gather;
 mod inner;
@@ -20,7 +19,6 @@ mod sorted_gather;
 mod splits;
 
 pub use blocks::{Blocks, Place};
-pub use cables::Cables;
 pub use founded::Founded;
 pub use gather::Gather;
 pub use inner::Inner;

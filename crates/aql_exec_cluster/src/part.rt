@@ -155,7 +155,7 @@ impl<W: Surroundings> Executor<W> for Part {
 
     ghost kept_gives = { λ _ _ _ _ _ _ _ _ _ h. h };
 
-    ghost kept_valid = { λ _ _ _ _ _ _ h. h };
+    ghost kept_valid = { λ _ _ _ _ _ _ _ h. h };
 
     ghost kept_budget = { λ s _ _ _ _ _.
         le_refl (length (rows_left (option_map rc_value s.list) s.place)) };

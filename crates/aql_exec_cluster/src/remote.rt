@@ -17,9 +17,8 @@ ghost use Rattle.aql_exec.specs.Operators.{Remote, is_first, carried};
 ghost use Rattle.aql_exec_cluster.specs.Remotes.{on_link, unlinked, ThisLink, kept};
 ghost use Rattle.aql_exec_cluster.specs.Remotes.{serves_of, RemoteIs};
 
-use crate::cables::Cables;
 use aql_block::{Block, Call, Progress, Row, Step, Tally};
-use aql_exec::{Executor, Message, Turn, Wired, nothing, take_front};
+use aql_exec::{Executor, Message, Turn, Wired, Wires, nothing, take_front};
 use aql_value::OutOfMemory;
 use std::alloc::Global;
 use std::mem;
@@ -107,10 +106,10 @@ fn progress_of(ended: bool) -> Progress
 }
 
 // Sends a message on a link, or on a new one.
-fn post<W: Cables>(world: &mut W, link: Option<u64>, message: Message) -> Result<u64, OutOfMemory>
+fn post<W: Wires>(world: &mut W, link: Option<u64>, message: Message) -> Result<u64, OutOfMemory>
     requires link { (l : ℕ) → link ≡ Some l → l < W.links world.old }
     requires free { (on_link link (W.flight world.old)).flying ≡ [] }
-    requires next { Next (on_link link (W.flight world.old)).talk message }
+    requires next { Next (W.batch world.old) (on_link link (W.flight world.old)).talk message }
     ensures world { Beside W.Surroundings (λ l. link ≡ Some l) world.old world.new }
     ensures counted { W.counted world.new ≡ W.counted world.old }
     ensures link { IfOk result (λ l. (l < W.links world.new) × ThisLink link l
@@ -198,19 +197,22 @@ impl Remote {
     }
 
     // Sends an ask for all rows.
-    fn ask<W: Cables>(&mut self, world: &mut W, soft: u64) -> Result<(), OutOfMemory>
+    fn ask<W: Wires>(&mut self, world: &mut W, soft: u64) -> Result<(), OutOfMemory>
         requires valid { RemoteIs self.old (on_link self.old.link (W.flight world.old))
-            (W.links world.old) }
+            (W.links world.old) (W.batch world.old) }
         requires idle { self.old.stage ≡ Stage.Idle }
         requires none { rows_of self.old.held ≡ [] }
         requires more { self.old.done ≡ false }
-        requires ask { IsAsk (record { offset = 0; soft = soft; hard = 18446744073709551615 }) }
+        requires ask { IsAsk (W.batch world.old)
+            (record { offset = 0; soft = soft; hard = 18446744073709551615 }) }
+        requires call { soft ≤ 10000 }
         ensures world { Beside W.Surroundings (λ l. self.old.link ≡ Some l)
             world.old world.new }
         ensures same { OnOk result (self.new
             ≡ record self.old { link = self.new.link; stage = Stage.Sent }) }
         ensures valid { OnOk result (RemoteIs self.new
-            (on_link self.new.link (W.flight world.new)) (W.links world.new)) }
+            (on_link self.new.link (W.flight world.new)) (W.links world.new)
+            (W.batch world.new)) }
         ensures link { OnOk result ((l : ℕ) × (self.new.link ≡ Some l) × ThisLink self.old.link l
             × ((self.old.link ≡ Some l) ⊎ (W.links world.old ≤ l))) }
         ensures flies { OnOk result
@@ -228,9 +230,9 @@ impl Remote {
     }
 
     // Sends the reply to the ask that is served.
-    fn reply<W: Cables>(&mut self, alloc: Global, world: &mut W) -> Result<(), OutOfMemory>
+    fn reply<W: Wires>(&mut self, alloc: Global, world: &mut W) -> Result<(), OutOfMemory>
         requires valid { RemoteIs self.old (on_link self.old.link (W.flight world.old))
-            (W.links world.old) }
+            (W.links world.old) (W.batch world.old) }
         requires serves { serves_of self.old.stage ≡ true }
         requires ready { self.old.ready ≡ true }
         ensures world { Beside W.Surroundings (λ l. self.old.link ≡ Some l)
@@ -239,7 +241,8 @@ impl Remote {
             ≡ record self.old { stage = Stage.Replied; answer = self.new.answer }) }
         ensures answer { OnOk result (rows_of self.new.answer ≡ []) }
         ensures valid { OnOk result (RemoteIs self.new
-            (on_link self.new.link (W.flight world.new)) (W.links world.new)) }
+            (on_link self.new.link (W.flight world.new)) (W.links world.new)
+            (W.batch world.new)) }
         ensures flies { OnOk result
             (0 < length (on_link self.new.link (W.flight world.new)).flying) }
         ensures kept { OnOk result
@@ -264,7 +267,7 @@ impl Remote {
     }
 }
 
-impl<W: Cables> Executor<W> for Remote {
+impl<W: Wires> Executor<W> for Remote {
     ghost use Rattle.aql_exec_cluster.specs.Remotes.{gives_remote, ended_remote, Asking};
     ghost use Rattle.aql_exec_cluster.specs.Remotes.{asks_remote, budget_remote};
     ghost use Rattle.aql_exec_cluster.specs.laws.Remotes.{some_remote, more_remote, kept_gives};
@@ -283,7 +286,8 @@ impl<W: Cables> Executor<W> for Remote {
 
     ghost started = { λ _ k. is_first k };
 
-    ghost valid = { λ s w. RemoteIs s (on_link s.link (W.flight w)) (W.links w) };
+    ghost valid = { λ s w.
+        RemoteIs s (on_link s.link (W.flight w)) (W.links w) (W.batch w) };
 
     ghost ours = { λ s l. s.link ≡ Some l };
 
@@ -386,17 +390,18 @@ impl<W: Cables> Executor<W> for Remote {
     ghost kept_gives = { λ s w w' _ e p _ ins r.
         kept_gives s (W.flight w) (W.flight w') e p (ins 0) r };
 
-    ghost kept_valid = { λ s w w' _ n e.
-        kept_valid s (W.flight w) (W.flight w') (W.links w) (W.links w') n e };
+    ghost kept_valid = { λ s w w' _ b n e. kept_valid s (W.flight w) (W.flight w')
+        (W.links w) (W.links w') (W.batch w) (W.batch w') b n e };
 
     ghost kept_budget = { λ s w w' _ e _. kept_budget s (W.flight w) (W.flight w') e };
 
-    ghost own_links = { λ s w v l e. own_link s (on_link s.link (W.flight w)) (W.links w) v l e };
+    ghost own_links = { λ s w v l e.
+        own_link s (on_link s.link (W.flight w)) (W.links w) (W.batch w) v l e };
 
     ghost no_link = { λ _ _ _ e. absurd (false≢true e) };
 }
 
-impl<W: Cables> Wired<W> for Remote {
+impl<W: Wires> Wired<W> for Remote {
     ghost use Rattle.aql_exec_cluster.specs.laws.Remotes.{two_ports};
 
     ghost serves = { λ s. serves_of s.stage };

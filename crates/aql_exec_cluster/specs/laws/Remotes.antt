@@ -68,10 +68,11 @@ pub kept_gives : (s : Remote) (f f' : ℕ → Line) → ((l : ℕ) → s.link �
     → gives_remote s (on_link s.link f').flying p i r → gives_remote s (on_link s.link f).flying p i r
 kept_gives s f f' e p i r h = subst (λ line. gives_remote s line.flying p i r) (same_line s.link f f' e) h
 
-pub kept_valid : (s : Remote) (f f' : ℕ → Line) (n m : ℕ) → n ≤ m → ((l : ℕ) → s.link ≡ Some l → f' l ≡ f l)
-    → RemoteIs s (on_link s.link f) n → RemoteIs s (on_link s.link f') m
-kept_valid s f f' n m grows e h = record {
-  stage = rw (same_line s.link f f' e) h.stage;
+pub kept_valid : (s : Remote) (f f' : ℕ → Line) (n m b b' : ℕ) → b' ≡ b → n ≤ m
+    → ((l : ℕ) → s.link ≡ Some l → f' l ≡ f l) → RemoteIs s (on_link s.link f) n b
+    → RemoteIs s (on_link s.link f') m b'
+kept_valid s f f' n m b b' same grows e h = record {
+  stage = rw (same_line s.link f f' e, same) h.stage;
   link = λ l q. (let k : l < n = h.link l q in omega (arith, k, grows));
 }
 
@@ -79,9 +80,9 @@ pub kept_budget : (s : Remote) (f f' : ℕ → Line) → ((l : ℕ) → s.link �
     → budget_remote s (on_link s.link f').flying ≤ budget_remote s (on_link s.link f).flying
 kept_budget s f f' e = rw (same_line s.link f f' e) (le_refl (budget_remote s (on_link s.link f).flying))
 
-pub own_link : (s : Remote) (line : Line) (links : ℕ) → RemoteIs s line links → (l : ℕ) → s.link ≡ Some l
-    → l < links
-own_link s line links v = v.link
+pub own_link : (s : Remote) (line : Line) (links batch : ℕ) → RemoteIs s line links batch → (l : ℕ)
+    → s.link ≡ Some l → l < links
+own_link s line links batch v = v.link
 
 pub two_ports : 1 < 2
 two_ports = omega arith

@@ -12,10 +12,12 @@ use Rattle.aql_exec_cluster.proofs.remote.Remote.reply.Goals as goal
 pub returns-clause-valid : goal.returns-clause-valid
 returns-clause-valid g c =
     let s = c.args.self.now in
-    let f = g.W.Surroundings.flight c.args.world.now in
-    let f' = g.W.Surroundings.flight c.send.new.self in
+    let p = g.W.Surroundings in
+    let batch = p.batch c.args.world.now in
+    let f = p.flight c.args.world.now in
+    let f' = p.flight c.send.new.self in
     let ask = serving s.stage c.requires.serves in
-    let served = subst (λ z. AtStage z s.done s.ended s.ready (rows_of s.held) (rows_of s.answer)
+    let served = subst (λ z. AtStage batch z s.done s.ended s.ready (rows_of s.held) (rows_of s.answer)
     (on_link s.link f))
     ask.1 c.requires.valid.stage in
     let reply : Step = record {
@@ -28,7 +30,7 @@ returns-clause-valid g c =
     let none = ap rows_of (c.replace-block.ensures.after ∙ c.empty.ensures) in
     let progress = c.progress_of.ensures in
     record {
-      stage = sent_reply ask.0 s.done s.ended s.ready (rows_of s.held) (rows_of s.answer)
+      stage = sent_reply batch ask.0 s.done s.ended s.ready (rows_of s.held) (rows_of s.answer)
           (rows_of c.replace-block.new.dest) (on_link s.link f) (on_link s.link f') reply served here none
           progress.done progress.so progress.ready;
       link = λ l e. subst (λ n. l < n) (sym c.send.ensures.links) (c.requires.valid.link l e);

@@ -14,8 +14,10 @@ returns-clause-leads g c e w p body d s0 s ins' ins t b r l0 l1 a e' e0 others e
     let skipped = c.requires.asked.2.skipped in
     let offset = asked.is_ask.offset in
     let block = rows_of c.args.step.block in
+    let batch = g.W.Surroundings.batch c.requires.valid.0 in
     let line = on_link me.link (g.W.Surroundings.flight c.requires.valid.0) in
-    let served = subst (λ z. AtStage z me.done me.ended me.ready (rows_of me.held) (rows_of me.answer) line)
+    let served = subst
+    (λ z. AtStage batch z me.done me.ended me.ready (rows_of me.held) (rows_of me.answer) line)
     (serving_ask me.stage asked.served asked.serves) c.requires.valid.1.stage in
     let none = served.unready asked.not_ready in
     let fl = replied (on_link me.link (g.W.Surroundings.flight w)).flying in
