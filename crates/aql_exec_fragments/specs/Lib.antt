@@ -1,0 +1,4 @@
+pub mod Feeds
+pub mod Filling
+pub mod GatherNodes
+pub mod laws
