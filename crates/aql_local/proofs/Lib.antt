@@ -1,7 +1,7 @@
 pub mod Returned
 pub mod CanRun
 pub mod Trees
-pub mod Flying
 pub mod Looked
 pub mod Places
 pub mod Ways
+pub mod Nets

@@ -1,6 +1,6 @@
 //! The engine that runs plans on this machine.
 
-ghost use Rattle.std.specs.Prelude.{◌≡◌, ℕ, []};
+ghost use Rattle.std.specs.Prelude.{◌≡◌, []};
 
 use crate::plans::run_plan;
 use aql_engine::{Engine, Ran, Rans};
@@ -10,20 +10,7 @@ use aql_shard::Servers;
 use aql_value::{OutOfMemory, Seq};
 use std::alloc::Global;
 
-/// Picks the oldest message.
-#[derive(Drop)]
-struct Oldest;
-
-impl Picker for Oldest {
-    ghost picks = { λ _ _ place _. place ≡ 0 };
-
-    fn pick(&mut self, _n: u64) -> u64 {
-        0
-    }
-}
-
-/// An engine that runs plans on this machine, with messages delivered in the order in which they
-/// were sent.
+/// An engine that runs plans on this machine, over servers that it models.
 #[derive(Drop)]
 pub struct Local {
     runs: Rans,
@@ -40,7 +27,7 @@ impl Local {
     }
 }
 
-impl Engine for Local {
+impl<P: Picker> Engine<P> for Local {
     ghost entries = { λ s. s.runs };
 
     fn run(
@@ -48,9 +35,10 @@ impl Engine for Local {
         alloc: Global,
         plan: Plan,
         servers: &mut Servers,
+        picker: &mut P,
         batch: u32,
     ) -> Result<(), OutOfMemory> {
-        let ran = run_plan(alloc, plan, servers, &mut Oldest, batch)?;
+        let ran = run_plan(alloc, plan, servers, picker, batch)?;
         self.runs.push(ran)?;
         Ok(())
     }

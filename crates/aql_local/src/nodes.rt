@@ -21,7 +21,7 @@ use aql_exec::{
     Results, Return, ReturnDistinct, Singleton, Stream,
 };
 use aql_exec_graph::{Paths, Search, Traversal};
-use aql_exec_rows::{Collect, Order, Sort, Subquery};
+use aql_exec_rows::{Collect, GroupRows, Order, Sort, Subquery};
 use aql_exec_scan::{
     Documents, Elements, EnumerateCollection, EnumerateList, Found, Index, Reading,
 };
@@ -186,7 +186,7 @@ pub fn collect(
     ensures { ⟦<NodeExecutor as Executor<World>>⟧.node result
         ≡ OnRows (node_of criteria aggregates into) }
 {
-    let executor = Collect::new(alloc, criteria, aggregates, into);
+    let executor = Stream::new(GroupRows::new(alloc, criteria, aggregates, into));
     holder(Choice::Second(Choice::First(executor)))
 }
 

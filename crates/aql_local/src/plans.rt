@@ -1,10 +1,13 @@
 //! A run of a plan.
 
 ghost use Rattle.std.specs.Prelude.{◌≡◌, ◌≤◌, IfOk};
+ghost use Rattle.aql_net.specs.Logs.{picks_in};
+ghost use Rattle.aql_net.specs.Traffic.{no_traffic};
 ghost use Rattle.aql_plan.specs.View.{plan_tree};
 ghost use Rattle.aql_engine.specs.OperatorsOf.{operators_of};
 ghost use Rattle.aql_shard.specs.Datasets.{stock};
 ghost use Rattle.aql_engine.specs.Engine.{CanRun, IsRunOver, OwnCounted};
+ghost use Rattle.aql_engine.specs.Run.{PickedBy};
 
 use crate::World;
 use crate::building::{PlanExecutor, tree_of};
@@ -36,6 +39,8 @@ pub fn run_plan<P: Picker>(
         × IsRunOver (stock servers.old) ran) }
     ensures counted { IfOk result
         (λ ran. OwnCounted servers.old.counts servers.new.counts ran.tally) }
+    ensures picked { IfOk result
+        (λ ran. PickedBy P.picks picker.old (picks_in ran.log) picker.new) }
 {
     run_with::<NodeExecutor, P>(alloc, plan, servers, picker, batch)
 }
@@ -55,10 +60,12 @@ fn run_with<X: PlanExecutor, P: Picker>(
         × IsRunOver (stock servers.old) ran) }
     ensures counted { IfOk result
         (λ ran. OwnCounted servers.old.counts servers.new.counts ran.tally) }
+    ensures picked { IfOk result
+        (λ ran. PickedBy P.picks picker.old (picks_in ran.log) picker.new) }
 {
     let mut tree: Tree<X> = tree_of(alloc, &plan)?;
     let none = split(alloc, Catalog::new(alloc), 0)?;
-    let mut world = World::new(alloc, mem::replace(servers, none));
+    let mut world = World::new(alloc, mem::replace(servers, none), batch);
     let ran = run_operators(alloc, plan, &mut tree, &mut world, picker, batch);
     *servers = world.into_servers();
     ran
@@ -77,20 +84,25 @@ fn run_operators<F: Delivers<World>, P: Picker>(
         ≡ operators_of (stock world.old.servers).facts (plan_tree plan) }
     requires plan { CanRun (stock world.old.servers) plan }
     requires batch { (1 ≤ batch) × (batch ≤ 10000) }
+    requires fresh { world.old.net ≡ no_traffic batch }
     ensures stock { stock world.new.servers ≡ stock world.old.servers }
     ensures run { IfOk result (λ ran. (ran.plan ≡ plan) × (ran.batch ≡ batch)
         × IsRunOver (stock world.old.servers) ran) }
     ensures counted { IfOk result
         (λ ran. OwnCounted world.old.servers.counts world.new.servers.counts ran.tally) }
+    ensures picked { IfOk result
+        (λ ran. PickedBy P.picks picker.old (picks_in ran.log) picker.new) }
 {
     let mut tally = Tally::new();
     let start = Row::new(alloc);
     let blocks = run_feed(alloc, feed, &start, world, picker, batch, &mut tally)?;
+    let log = world.take_log(alloc);
     let values = results_of(alloc, blocks)?;
     Ok(Ran {
         plan,
         batch,
         values,
+        log,
         tally,
     })
 }

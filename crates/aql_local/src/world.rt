@@ -1,92 +1,23 @@
 //! The world that a plan runs in: the servers with their documents, and the messages between them.
 
-ghost use Rattle.std.specs.Prelude.{◌≡◌, ℕ, ◌+◌, ◌<◌, ◌≤◌, ◌++◌, List, [], ◌∷◌, length, vec_capacity};
-ghost use Rattle.aql_exec.specs.Links.{TakenAt};
+ghost use Rattle.std.specs.Prelude.{◌≡◌};
+ghost use Rattle.aql_net.specs.Logs.{IsLog};
+ghost use Rattle.aql_net.specs.Traffic.{no_traffic};
 ghost use Rattle.aql_shard.specs.Datasets as datasets;
-ghost use Rattle.aql_local.specs.Messages.{line_on, queue_of, picks_of, TakesOn};
 
 use crate::lookups::recall_counts;
 use crate::{document_of, edges_at};
 use aql_block::Tally;
-use aql_exec::{Delivered, Mail, Message, Surroundings};
+use aql_exec::{Delivered, Mail, Message, Surroundings, Wires};
 use aql_exec_graph::{EdgeList, Neighbours};
 use aql_exec_scan::Shelf;
 use aql_index::{Bound, Span, Spans};
+use aql_net::{Log, Net};
 use aql_shard::Servers;
 use aql_tree::Direction;
 use aql_value::{CollNo, CollNos, Items, OutOfMemory, Text, Value};
 use std::alloc::Global;
-
-/// A message on its link.
-#[derive(Drop)]
-struct Sent {
-    link: u64,
-    message: Message,
-}
-
-/// A delivery: which place was picked, among how many messages.
-#[derive(Drop)]
-struct Picked {
-    among: u64,
-    place: u64,
-}
-
-// Appends to a list that has room.
-fn enter(picks: &mut Vec<Picked>, pick: Picked)
-    requires { length picks.old.items < vec_capacity picks.old }
-    ensures items { picks.new.items ≡ picks.old.items ++ pick ∷ [] }
-    ensures capacity { vec_capacity picks.old ≤ vec_capacity picks.new }
-{
-    match picks.push(pick) {
-        Ok(()) => {}
-        Err(_) => unreachable!(),
-    }
-}
-
-/// The links and the messages in flight.
-#[derive(Drop)]
-struct Net {
-    links: u64,
-    /// oldest first
-    flying: Vec<Sent>,
-    /// what was picked so far; there is room for a pick of each message in flight
-    picks: Vec<Picked>,
-    /// how many messages may still be delivered
-    left: u64,
-    ghost covers: { length flying.items ≤ left },
-    ghost room: { length picks.items + length flying.items ≤ vec_capacity picks },
-}
-
-impl Net {
-    // With no link.
-    fn new(alloc: Global) -> Net {
-        Net {
-            links: 0,
-            flying: Vec::new(alloc),
-            picks: Vec::new(alloc),
-            left: u64::MAX,
-        }
-    }
-
-    // Takes the message at a place among those in flight.
-    fn take(&mut self, place: u64) -> Delivered
-        requires { place < length self.old.flying.items }
-        ensures left { self.new.left < self.old.left }
-        ensures links { self.new.links ≡ self.old.links }
-        ensures taken { TakenAt place (queue_of self.old.flying.items)
-            (queue_of self.new.flying.items) result.link result.message }
-        ensures on_link { TakesOn self.old.flying.items self.new.flying.items
-            result.link result.message }
-        ensures picks { picks_of self.new.picks.items ≡ picks_of self.old.picks.items
-            ++ record { among = length self.old.flying.items; place = place } ∷ [] }
-    {
-        let among = self.flying.len() as u64;
-        let Sent { link, message } = self.flying.remove(place as usize);
-        self.left -= 1;
-        enter(&mut self.picks, Picked { among, place });
-        Delivered { link, message }
-    }
-}
+use std::mem;
 
 /// The servers, and the links between them.
 #[derive(Drop)]
@@ -96,14 +27,25 @@ pub struct World {
 }
 
 impl World {
-    /// With no link.
-    pub fn new(alloc: Global, servers: Servers) -> World
-        ensures { result.servers ≡ servers }
+    /// With no link, for a run in steps of at most so many rows.
+    pub fn new(alloc: Global, servers: Servers, batch: u32) -> World
+        ensures servers { result.servers ≡ servers }
+        ensures net { result.net ≡ no_traffic batch }
     {
         World {
             servers,
-            net: Net::new(alloc),
+            net: Net::new(alloc, u64::from(batch)),
         }
+    }
+
+    /// The log of the messages so far, after which there is no link.
+    pub fn take_log(&mut self, alloc: Global) -> Log
+        ensures servers { self.new.servers ≡ self.old.servers }
+        ensures log { result ≡ self.old.net.log }
+        ensures lawful { IsLog self.old.net.batch result }
+    {
+        let none = Net::new(alloc, 1);
+        mem::replace(&mut self.net, none).into_log()
     }
 
     /// The servers, after a run.
@@ -116,31 +58,47 @@ impl World {
 }
 
 impl Surroundings for World {
+    ghost use Rattle.aql_net.specs.Traffic.{line_on, deliveries_of};
+
     ghost stock = { λ s. datasets.stock s.servers };
 
     ghost counted = { λ s. s.servers.counts };
 
     ghost links = { λ s. s.net.links };
 
-    ghost flight = { λ s l. line_on l s.net.flying.items };
+    ghost flight = { λ s l. line_on l s.net };
 
-    ghost deliveries = { λ s. record { picks = picks_of s.net.picks.items; left = s.net.left } };
+    ghost deliveries = { λ s. deliveries_of s.net };
+
+    ghost batch = { λ s. s.net.batch };
 }
 
 impl Mail for World {
-    ghost use Rattle.aql_local.specs.Messages.{some_on};
+    ghost use Rattle.aql_net.specs.Traffic.{queue_of};
+    ghost use Rattle.aql_net.specs.laws.Delivering.{some_in_queue};
 
-    ghost queue = { λ s. queue_of s.net.flying.items };
+    ghost queue = { λ s. queue_of s.net };
 
     fn in_flight(&self) -> u64 {
-        self.net.flying.len() as u64
+        self.net.in_flight()
     }
 
     fn deliver(&mut self, place: u64) -> Option<Delivered> {
-        Some(self.net.take(place))
+        self.net.deliver(place)
     }
 
-    ghost some_flies = { λ s l. some_on l s.net.flying.items };
+    ghost some_flies = { λ s. some_in_queue s.net };
+}
+
+impl Wires for World {
+    fn first(&mut self, message: Message) -> Result<u64, OutOfMemory> {
+        self.net.first(message)
+    }
+
+    fn send(&mut self, link: u64, message: Message) -> Result<(), OutOfMemory> {
+        self.net.send(link, message)?;
+        Ok(())
+    }
 }
 
 impl Shelf for World {

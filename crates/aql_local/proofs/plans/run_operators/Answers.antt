@@ -1,4 +1,4 @@
-use Rattle.std.proofs.Common.{map, length, refl, sym, ap, ◌∙◌, subst, arith}
+use Rattle.std.proofs.Common.{◌≡◌, ◌++◌, map, length, refl, sym, ap, ◌∙◌, subst, arith}
 use Rattle.std.proofs.lemmas.List.{length-map}
 use Rattle.aql_block.specs.declared.tally.Tally.{Tally}
 use Rattle.aql_meaning.specs.Row.{Row, empty_row}
@@ -7,10 +7,13 @@ use Rattle.aql_plan.specs.Shapes.{Result}
 use Rattle.aql_plan.specs.View.{plan_tree}
 use Rattle.aql_block.specs.Rows.{row_of}
 use Rattle.aql_exec.specs.Operators.{OperatorTree, IsTree, Produces, exact_tree}
-use Rattle.aql_engine.specs.Engine.{Tallied}
-use Rattle.aql_engine.specs.Run.{rows_in}
+use Rattle.aql_net.specs.Logs.{IsLog, picks_in}
+use Rattle.aql_net.specs.Traffic.{Traffic}
+use Rattle.aql_engine.specs.Engine.{Tallied, OwnCounted}
+use Rattle.aql_engine.specs.Run.{rows_in, PickedBy}
 use Rattle.aql_engine.specs.OperatorsOf.{operators_of}
 use Rattle.aql_engine.specs.laws.Sound.{produces_runs}
+use Rattle.aql_shard.specs.Holding.{Holding}
 use Rattle.aql_shard.specs.Datasets.{stock}
 use Rattle.aql_local.proofs.CanRun.{runs_tree, counted_from_none, own_from_none}
 use Rattle.aql_local.proofs.plans.run_operators.Goals as goal
@@ -40,6 +43,8 @@ returns-clause-run g c =
             c.requires.feed
             (counted_from_none _ _ c.new-tally.result c.run_feed.new.tally c.args.world.now
             c.run_feed.new.world run.0.counts c.new-tally.ensures run.3);
+        logged = subst (λ b. IsLog b c.take_log-log.result)
+            (c.run_feed.ensures.batch ∙ ap (λ (t : Traffic). t.batch) c.requires.fresh) c.take_log-log.ensures.lawful;
         little = λ e. (let a = c.in_ok-blocks.ensures.reads (rw c.requires.feed e) in
             let b = ap (λ (z : Tally). z.scanned_full) c.new-tally.ensures in
             let l = ap length c.in_ok-values.ensures in
@@ -50,5 +55,14 @@ returns-clause-run g c =
 
 pub returns-clause-counted : goal.returns-clause-counted
 returns-clause-counted g c =
-    own_from_none _ _ c.new-tally.result c.run_feed.new.tally c.args.world.now c.run_feed.new.world
-    c.in_ok-blocks.ensures.rows.0.counts c.new-tally.ensures c.in_ok-blocks.ensures.rows.3
+    subst (λ (s : Holding). OwnCounted c.args.world.now.servers.counts s.counts c.run_feed.new.tally)
+    (sym c.take_log-log.ensures.servers) (own_from_none _ _ c.new-tally.result c.run_feed.new.tally c.args.world.now c.run_feed.new.world
+    c.in_ok-blocks.ensures.rows.0.counts c.new-tally.ensures c.in_ok-blocks.ensures.rows.3)
+
+pub returns-clause-picked : goal.returns-clause-picked
+returns-clause-picked g c =
+    let picked = c.in_ok-blocks.ensures.picked in
+    let all : picks_in c.take_log-log.result ≡ picked.0 =
+    ap picks_in c.take_log-log.ensures.log ∙ picked.1
+    ∙ ap (λ (t : Traffic). picks_in t.log ++ picked.0) c.requires.fresh in
+    subst (λ ks. PickedBy g.P.Picker.picks c.args.picker.now ks c.run_feed.new.picker) (sym all) picked.2

@@ -11,7 +11,7 @@ returns c =
         refl,
         (λ _. tt),
         (
-          record { stock = ap (λ (s : Holding). stock s) after; deliveries = refl; links = refl; flight = λ l. refl },
+          record { stock = ap (λ (s : Holding). stock s) after; deliveries = refl; batch = refl; links = refl; flight = λ l. refl },
           (
             rose_same _ _ (ap (λ (s : Holding). s.counts.scanned_full) after),
             rose_saturated _ _ _ c.recall_counts.ensures.index (ap (λ (s : Holding). s.counts.scanned_index) after),
