@@ -1,9 +1,10 @@
 -- The plan that the optimiser chooses (Execution and performance: optimizing queries): the passes of the
--- rules run in their order, each once; those that are switched off are left out. After the first passes there
--- may be several candidates, the orders of a run of loops. Each of them goes through the later passes, and
--- the cheapest one is chosen, of equally cheap ones the first. The names of the rules whose passes changed
--- the chosen plan are listed, in the order of the passes.
-use Rattle.std.specs.Prelude.{ℕ, ◌≡◌, ◌<◌, ◌≤◌, List, [], ◌∷◌, ◌++◌, true, false}
+-- rules run in their order, each once; those that are switched off are left out. Where there is a server,
+-- scatter-in-cluster (Cluster: query execution) can't be switched off. After the first passes there may be
+-- several candidates, the orders of a run of loops. Each of them goes through the later passes, the last of
+-- which are those of a cluster, and the cheapest one is chosen, of equally cheap ones the first. The names of
+-- the rules whose passes changed the chosen plan are listed, in the order of the passes.
+use Rattle.std.specs.Prelude.{ℕ, ◌≡◌, ◌<◌, ◌≤◌, ◌⊎◌, List, [], ◌∷◌, ◌++◌, true, false}
 use Rattle.std.specs.List.{AllZip, AllByRecursion}
 use Rattle.aql_plan.specs.declared.facts.Facts.{Facts}
 use Rattle.aql_plan.specs.declared.rules.RuleName.{RuleName}
@@ -17,27 +18,38 @@ use Rattle.aql_opt.specs.Passes.{IsPassOf}
 
 -- ---- passes
 
--- those that run before there are candidates, and those that run over each candidate
+-- those that run before there are candidates
 abbrev pub first_rules : List RuleName
 first_rules = rule.SimplifyConditions ∷ rule.InlineSubqueries ∷ []
 
-abbrev pub later_rules : List RuleName
-later_rules = rule.MoveCalculationsUp ∷ rule.MoveFiltersUp ∷ rule.RemoveRedundantCalculations
+-- those that run over each candidate, first these, and then those of a cluster
+abbrev pub local_rules : List RuleName
+local_rules = rule.MoveCalculationsUp ∷ rule.MoveFiltersUp ∷ rule.RemoveRedundantCalculations
     ∷ rule.RemoveUnnecessaryFilters ∷ rule.RemoveUnnecessaryCalculations ∷ rule.RemoveRedundantSorts
     ∷ rule.RemoveCollectVariables ∷ rule.ReplaceOrWithIn ∷ rule.FuseFilters ∷ rule.OptimizeTraversals
     ∷ rule.UseIndexes ∷ rule.RemoveFilterCoveredByIndex ∷ rule.UseIndexForSort ∷ rule.SortLimit
-    ∷ rule.MoveFiltersIntoEnumerate ∷ rule.ReduceExtractionToProjection ∷ rule.ScatterInCluster
-    ∷ rule.DistributeInCluster ∷ rule.RestrictToSingleShard ∷ rule.DistributeFiltercalcToCluster
-    ∷ rule.RemoveUnnecessaryRemoteScatter ∷ rule.CollectInCluster ∷ rule.DistributeSortToCluster ∷ []
+    ∷ rule.MoveFiltersIntoEnumerate ∷ rule.ReduceExtractionToProjection ∷ []
+
+abbrev pub cluster_rules : List RuleName
+cluster_rules = rule.ScatterInCluster ∷ rule.DistributeInCluster ∷ rule.RestrictToSingleShard
+    ∷ rule.DistributeFiltercalcToCluster ∷ rule.RemoveUnnecessaryRemoteScatter ∷ rule.CollectInCluster
+    ∷ rule.DistributeSortToCluster ∷ []
+
+abbrev pub later_rules : List RuleName
+later_rules = local_rules ++ cluster_rules
+
+-- a rule is enabled where it is switched on, scatter-in-cluster also where there is a server
+abbrev pub IsEnabled : Facts → Rules → RuleName → Type 0
+IsEnabled facts rules r = Has rules r ⊎ ((r ≡ rule.ScatterInCluster) × (1 ≤ facts.servers))
 
 -- the run of one rule, by the plan and the rules that changed it, before it and after it
 pub data RunsRule (facts : Facts) (rules : Rules) (r : RuleName)
     : Plan → List RuleName → Plan → List RuleName → Type 0 where
-  switched_off : {q : Plan} {applied : List RuleName} → (Has rules r → ⊥)
+  switched_off : {q : Plan} {applied : List RuleName} → (IsEnabled facts rules r → ⊥)
       → RunsRule facts rules r q applied q applied
-  unchanged : {q s : Plan} {applied : List RuleName} → Has rules r → IsPassOf r facts q s false
+  unchanged : {q s : Plan} {applied : List RuleName} → IsEnabled facts rules r → IsPassOf r facts q s false
       → RunsRule facts rules r q applied s applied
-  changed : {q s : Plan} {applied : List RuleName} → Has rules r → IsPassOf r facts q s true
+  changed : {q s : Plan} {applied : List RuleName} → IsEnabled facts rules r → IsPassOf r facts q s true
       → RunsRule facts rules r q applied s (applied ++ r ∷ [])
 
 -- these rules, run one after another, make q of p, and these of them changed it

@@ -20,6 +20,7 @@ use Rattle.aql_rules_order.specs.SortLimit.{Limits}
 use Rattle.aql_rules_index.specs.UseIndexes.{UsesIndex}
 use Rattle.aql_rules_index.specs.RemoveFilterCoveredByIndex.{RemovesCovered}
 use Rattle.aql_rules_index.specs.UseIndexForSort.{SortsByIndex}
+use Rattle.aql_rules_cluster.specs.ScatterInCluster.{Scatters}
 use Rattle.aql_rules_filter.specs.MoveFiltersUp.{MovesUp}
 use Rattle.aql_rules_filter.specs.RemoveUnnecessaryFilters.{Removes as RemovesFilter}
 use Rattle.aql_rules_filter.specs.FuseFilters.{Fuses}
@@ -45,4 +46,5 @@ IsPassOf rule.UseIndexForSort facts p q changed = IsPass (SortsByIndex facts) p 
 IsPassOf rule.SortLimit facts p q changed = IsPass Limits p q changed
 IsPassOf rule.MoveFiltersIntoEnumerate facts p q changed = IsPass MovesIn p q changed
 IsPassOf rule.ReduceExtractionToProjection facts p q changed = IsPass (Reduces facts) p q changed
+IsPassOf rule.ScatterInCluster facts p q changed = IsPass (Scatters facts) p q changed
 IsPassOf r facts p q changed = (q ≡ p) × (changed ≡ false)

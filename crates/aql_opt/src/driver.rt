@@ -1,20 +1,30 @@
 //! The driver of the optimiser.
 
-ghost use Rattle.std.specs.Prelude.{◌≡◌, ◌≤◌, ◌++◌, ◌∷◌, false, IfOk, OnOk, List, map, length};
+ghost use Rattle.std.specs.Prelude.{◌≡◌, ◌≤◌, ◌⊎◌, ◌↔◌, ◌++◌, ◌∷◌, [], true, false};
+ghost use Rattle.std.specs.Prelude.{IsTrue, IfOk, OnOk, List, map, length};
 ghost use Rattle.std.specs.List.{AllByRecursion};
+ghost use Rattle.aql_plan.specs.declared.facts.Facts.{Facts as spec_Facts};
+ghost use Rattle.aql_plan.specs.declared.rule_sets.Rules.{Rules as spec_Rules};
+ghost use Rattle.aql_plan.specs.declared.rules.RuleName.{RuleName as spec_RuleName};
+ghost use Rattle.aql_plan.specs.declared.rules.RuleName.TheVariants as spec_rule;
 ghost use Rattle.aql_plan.specs.Plan.{Plan as spec_Plan};
 ghost use Rattle.aql_plan.specs.Refines.{Refines};
+ghost use Rattle.aql_plan.specs.Shapes.{HasNoFragment};
 ghost use Rattle.aql_plan.specs.View.{plan_tree};
+ghost use Rattle.aql_plan.specs.WellFormed.{IsWellFormed};
 ghost use Rattle.aql_rewrite.specs.Placed.{IsWhole};
 ghost use Rattle.aql_rewrite.specs.Swaps.{SetsNoMore};
 ghost use Rattle.aql_rules_order.specs.StandsFor.{StandsFor};
-ghost use Rattle.aql_opt.specs.Chosen.{RunsRule, AfterRules, CandidatesBy, Chosen};
-ghost use Rattle.aql_opt.specs.Chosen.{later_rules, cost_of};
+ghost use Rattle.aql_rules_cluster.specs.OnShards.{ReadsOnShards};
+ghost use Rattle.aql_opt.specs.Passes.{IsPassOf};
+ghost use Rattle.aql_opt.specs.Chosen.{IsEnabled, RunsRule, AfterRules, CandidatesBy, Chosen};
+ghost use Rattle.aql_opt.specs.Chosen.{cluster_rules, later_rules, cost_of};
+ghost use Rattle.aql_opt.specs.inner.Later.{is_of_cluster, Finished};
 ghost use Rattle.aql_opt.specs.laws.Cheapest.{Best, order_names};
 
 use crate::estimate;
-use crate::passes::pass_of;
-use aql_plan::{Facts, Plan, Plans, RuleName, RuleNames, Rules};
+use crate::passes::{cluster_pass_of, pass_of};
+use aql_plan::{Facts, Passed, Plan, Plans, RuleName, RuleNames, Rules};
 use aql_rules_order::candidates;
 use aql_value::{OutOfMemory, Seq};
 use std::alloc::Global;
@@ -24,7 +34,7 @@ use std::mem;
 const FIRST: [RuleName; 2] = [RuleName::SimplifyConditions, RuleName::InlineSubqueries];
 
 /// The rules whose passes run over each candidate.
-const LATER: [RuleName; 23] = [
+const LATER: [RuleName; 16] = [
     RuleName::MoveCalculationsUp,
     RuleName::MoveFiltersUp,
     RuleName::RemoveRedundantCalculations,
@@ -41,6 +51,10 @@ const LATER: [RuleName; 23] = [
     RuleName::SortLimit,
     RuleName::MoveFiltersIntoEnumerate,
     RuleName::ReduceExtractionToProjection,
+];
+
+/// The rules of a cluster, whose passes run over each candidate after those.
+const CLUSTER: [RuleName; 7] = [
     RuleName::ScatterInCluster,
     RuleName::DistributeInCluster,
     RuleName::RestrictToSingleShard,
@@ -75,7 +89,30 @@ struct Candidate {
     reordered: bool,
 }
 
-// Runs one rule.
+// Whether a rule runs.
+fn is_enabled(rule: RuleName, rules: &Rules, facts: &Facts) -> bool
+    ensures { IsTrue result ↔ IsEnabled facts.now rules.now rule }
+{
+    rules.has(rule) || (rule == RuleName::ScatterInCluster && facts.servers > 0)
+}
+
+// The plan after the pass of a rule that runs.
+fn with_rule(rule: RuleName, applied: RuleNames, passed: Passed) -> Result<Rewritten, OutOfMemory>
+    ensures plan { IfOk result (λ x. x.plan ≡ passed.plan) }
+    ensures runs { IfOk result (λ x. (facts : spec_Facts) (rules : spec_Rules) (p : spec_Plan)
+        → IsEnabled facts rules rule → IsPassOf rule facts p (plan_tree passed.plan) passed.changed
+        → RunsRule facts rules rule p applied (plan_tree x.plan) x.applied) }
+{
+    let Passed { plan, changed } = passed;
+    let mut applied = applied;
+    if changed {
+        applied.push(rule)?;
+        return Ok(Rewritten { plan, applied });
+    }
+    Ok(Rewritten { plan, applied })
+}
+
+// Runs one rule that is not of a cluster.
 fn run_rule(
     alloc: Global,
     rule: RuleName,
@@ -83,7 +120,8 @@ fn run_rule(
     rules: &Rules,
     facts: &Facts,
 ) -> Result<Rewritten, OutOfMemory>
-    requires { IsWhole false facts.now (plan_tree before.plan) }
+    requires local { is_of_cluster rule ≡ false }
+    requires whole { IsWhole false facts.now (plan_tree before.plan) }
     ensures runs { IfOk result (λ x. RunsRule facts.now rules.now rule (plan_tree before.plan)
         before.applied (plan_tree x.plan) x.applied) }
     ensures refines { IfOk result
@@ -91,25 +129,15 @@ fn run_rule(
     ensures whole { IfOk result (λ x. IsWhole false facts.now (plan_tree x.plan)) }
     ensures sets { IfOk result (λ x. SetsNoMore (plan_tree before.plan) (plan_tree x.plan)) }
 {
-    if !rules.has(rule) {
+    if !is_enabled(rule, rules, facts) {
         return Ok(before);
     }
-    let Rewritten { plan, mut applied } = before;
+    let Rewritten { plan, applied } = before;
     let passed = pass_of(alloc, rule, plan, facts)?;
-    if passed.changed {
-        applied.push(rule)?;
-        return Ok(Rewritten {
-            plan: passed.plan,
-            applied,
-        });
-    }
-    Ok(Rewritten {
-        plan: passed.plan,
-        applied,
-    })
+    with_rule(rule, applied, passed)
 }
 
-// Runs these rules, one after another.
+// Runs these rules, one after another, none of which is of a cluster.
 fn run_rules(
     alloc: Global,
     order: &[RuleName],
@@ -117,7 +145,8 @@ fn run_rules(
     rules: &Rules,
     facts: &Facts,
 ) -> Result<Rewritten, OutOfMemory>
-    requires { IsWhole false facts.now (plan_tree plan) }
+    requires local { AllByRecursion (λ (r : spec_RuleName). is_of_cluster r ≡ false) order.now }
+    requires whole { IsWhole false facts.now (plan_tree plan) }
     ensures runs { IfOk result (λ x. AfterRules facts.now rules.now (plan_tree plan) order.now
         (plan_tree x.plan) x.applied) }
     ensures refines { IfOk result (λ x. Refines facts.now (plan_tree x.plan) (plan_tree plan)) }
@@ -130,6 +159,63 @@ fn run_rules(
     };
     for rule in order {
         rewritten = run_rule(alloc, *rule, rewritten, rules, facts)?;
+    }
+    Ok(rewritten)
+}
+
+// Runs one rule of a cluster.
+fn run_cluster_rule(
+    alloc: Global,
+    rule: RuleName,
+    before: Rewritten,
+    rules: &Rules,
+    facts: &Facts,
+) -> Result<Rewritten, OutOfMemory>
+    requires cluster { is_of_cluster rule ≡ true }
+    requires well_formed { IsWellFormed facts.now [] (plan_tree before.plan) }
+    ensures runs { IfOk result (λ x. RunsRule facts.now rules.now rule (plan_tree before.plan)
+        before.applied (plan_tree x.plan) x.applied) }
+    ensures refines { IfOk result
+        (λ x. Refines facts.now (plan_tree x.plan) (plan_tree before.plan)) }
+    ensures well_formed { IfOk result (λ x. IsWellFormed facts.now [] (plan_tree x.plan)) }
+    ensures sets { IfOk result (λ x. SetsNoMore (plan_tree before.plan) (plan_tree x.plan)) }
+    ensures on_shards { IfOk result
+        (λ x. (rule ≡ spec_rule.ScatterInCluster) ⊎ ReadsOnShards facts.now (plan_tree before.plan)
+        → ReadsOnShards facts.now (plan_tree x.plan)) }
+    ensures alone { IfOk result
+        (λ x. facts.now.servers ≡ 0 → plan_tree x.plan ≡ plan_tree before.plan) }
+{
+    if !is_enabled(rule, rules, facts) {
+        return Ok(before);
+    }
+    let Rewritten { plan, applied } = before;
+    let passed = cluster_pass_of(alloc, rule, plan, facts)?;
+    with_rule(rule, applied, passed)
+}
+
+// Runs the rules of a cluster, one after another.
+fn run_cluster_rules(
+    alloc: Global,
+    plan: Plan,
+    rules: &Rules,
+    facts: &Facts,
+) -> Result<Rewritten, OutOfMemory>
+    requires { IsWellFormed facts.now [] (plan_tree plan) }
+    ensures runs { IfOk result (λ x. AfterRules facts.now rules.now (plan_tree plan) cluster_rules
+        (plan_tree x.plan) x.applied) }
+    ensures refines { IfOk result (λ x. Refines facts.now (plan_tree x.plan) (plan_tree plan)) }
+    ensures well_formed { IfOk result (λ x. IsWellFormed facts.now [] (plan_tree x.plan)) }
+    ensures sets { IfOk result (λ x. SetsNoMore (plan_tree plan) (plan_tree x.plan)) }
+    ensures on_shards { IfOk result (λ x. ReadsOnShards facts.now (plan_tree x.plan)) }
+    ensures alone { IfOk result
+        (λ x. facts.now.servers ≡ 0 → plan_tree x.plan ≡ plan_tree plan) }
+{
+    let mut rewritten = Rewritten {
+        plan,
+        applied: Seq::new(alloc),
+    };
+    for rule in &CLUSTER {
+        rewritten = run_cluster_rule(alloc, *rule, rewritten, rules, facts)?;
     }
     Ok(rewritten)
 }
@@ -156,6 +242,16 @@ fn candidates_by(
     Ok(all)
 }
 
+// Puts these names after others.
+fn add_names(names: &[RuleName], to: &mut RuleNames) -> Result<(), OutOfMemory>
+    ensures { OnOk result (to.new ≡ to.old ++ names.now) }
+{
+    for name in names {
+        to.push(*name)?;
+    }
+    Ok(())
+}
+
 // A candidate with the later passes.
 fn finish(
     alloc: Global,
@@ -167,12 +263,15 @@ fn finish(
     requires { IsWhole false facts.now (plan_tree candidate) }
     ensures runs { IfOk result (λ x. AfterRules facts.now rules.now (plan_tree candidate)
         later_rules (plan_tree x.plan) x.applied) }
-    ensures stands { IfOk result
-        (λ x. StandsFor facts.now (plan_tree candidate) (plan_tree x.plan)) }
+    ensures finished { IfOk result
+        (λ x. Finished facts.now (plan_tree candidate) (plan_tree x.plan)) }
     ensures cost { IfOk result (λ x. x.cost ≡ cost_of facts.now (plan_tree x.plan)) }
     ensures reordered { IfOk result (λ x. x.reordered ≡ reordered) }
 {
-    let Rewritten { plan, applied } = run_rules(alloc, &LATER, candidate, rules, facts)?;
+    let Rewritten { plan, mut applied } = run_rules(alloc, &LATER, candidate, rules, facts)?;
+    let last = run_cluster_rules(alloc, plan, rules, facts)?;
+    add_names(last.applied.as_slice(), &mut applied)?;
+    let plan = last.plan;
     let cost = estimate(&plan, facts).cost;
     Ok(Candidate {
         plan,
@@ -194,9 +293,9 @@ fn cheapest_of(
     requires others { AllByRecursion (IsWhole false facts.now) (map plan_tree others.old) }
     ensures best { IfOk result (λ x. Best facts.now rules.now
         (plan_tree first ∷ map plan_tree others.old) (plan_tree x.plan) x.applied x.reordered) }
-    ensures stands { IfOk result (λ x. (p : spec_Plan) → StandsFor facts.now p (plan_tree first)
+    ensures finished { IfOk result (λ x. (p : spec_Plan) → StandsFor facts.now p (plan_tree first)
         → AllByRecursion (StandsFor facts.now p) (map plan_tree others.old)
-        → StandsFor facts.now p (plan_tree x.plan)) }
+        → Finished facts.now p (plan_tree x.plan)) }
     ensures cost { IfOk result (λ x. x.cost ≡ cost_of facts.now (plan_tree x.plan)) }
 {
     let mut best = finish(alloc, first, false, rules, facts)?;
@@ -221,8 +320,8 @@ fn cheapest(
     ensures best { IfOk result (λ x. (candidates : List spec_Plan)
         × CandidatesBy rules.now (plan_tree plan) candidates
         × Best facts.now rules.now candidates (plan_tree x.plan) x.applied x.reordered) }
-    ensures stands { IfOk result
-        (λ x. StandsFor facts.now (plan_tree plan) (plan_tree x.plan)) }
+    ensures finished { IfOk result
+        (λ x. Finished facts.now (plan_tree plan) (plan_tree x.plan)) }
     ensures cost { IfOk result (λ x. x.cost ≡ cost_of facts.now (plan_tree x.plan)) }
 {
     let mut candidates = candidates_by(alloc, plan, rules, facts)?;
@@ -247,18 +346,9 @@ fn with_order(applied: RuleNames, reordered: bool) -> Result<RuleNames, OutOfMem
     Ok(applied)
 }
 
-fn add_names(names: &[RuleName], to: &mut RuleNames) -> Result<(), OutOfMemory>
-    ensures { OnOk result (to.new ≡ to.old ++ names.now) }
-{
-    for name in names {
-        to.push(*name)?;
-    }
-    Ok(())
-}
-
 /// The plan after the pass of each enabled rule, in their order, each once: of the candidates that
 /// the order of loops gives, each after the later passes, the cheapest one, and the first of
-/// equally cheap ones.
+/// equally cheap ones. Where there is a server, it reads on shards alone; else it has no fragment.
 pub fn optimise(
     alloc: Global,
     plan: Plan,
@@ -270,7 +360,10 @@ pub fn optimise(
         (λ x. Chosen facts.now rules.now (plan_tree plan) (plan_tree x.plan) x.applied) }
     ensures cost { IfOk result (λ x. x.cost ≡ cost_of facts.now (plan_tree x.plan)) }
     ensures refines { IfOk result (λ x. Refines facts.now (plan_tree x.plan) (plan_tree plan)) }
-    ensures whole { IfOk result (λ x. IsWhole false facts.now (plan_tree x.plan)) }
+    ensures well_formed { IfOk result (λ x. IsWellFormed facts.now [] (plan_tree x.plan)) }
+    ensures on_shards { IfOk result (λ x. ReadsOnShards facts.now (plan_tree x.plan)) }
+    ensures alone { IfOk result
+        (λ x. facts.now.servers ≡ 0 → HasNoFragment (plan_tree x.plan)) }
     ensures sets { IfOk result (λ x. SetsNoMore (plan_tree plan) (plan_tree x.plan)) }
 {
     let Rewritten { plan, applied } = run_rules(alloc, &FIRST, plan, rules, facts)?;

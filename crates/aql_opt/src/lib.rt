@@ -3,6 +3,7 @@
 
 mod driver;
 mod estimates;
+pub mod laws;
 mod passes;
 pub mod worked;
 

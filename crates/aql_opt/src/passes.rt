@@ -1,11 +1,15 @@
 //! The passes that are built, by the names of their rules.
 
-ghost use Rattle.std.specs.Prelude.{◌≡◌, false, IfOk};
+ghost use Rattle.std.specs.Prelude.{◌≡◌, ◌⊎◌, [], true, false, IfOk};
+ghost use Rattle.aql_plan.specs.declared.rules.RuleName.TheVariants as spec_rule;
 ghost use Rattle.aql_plan.specs.Refines.{Refines};
 ghost use Rattle.aql_plan.specs.View.{plan_tree};
+ghost use Rattle.aql_plan.specs.WellFormed.{IsWellFormed};
 ghost use Rattle.aql_rewrite.specs.Placed.{IsWhole};
 ghost use Rattle.aql_rewrite.specs.Swaps.{SetsNoMore};
+ghost use Rattle.aql_rules_cluster.specs.OnShards.{ReadsOnShards};
 ghost use Rattle.aql_opt.specs.Passes.{IsPassOf};
+ghost use Rattle.aql_opt.specs.inner.Later.{is_of_cluster};
 
 use aql_passes::{
     run_changing_pass, run_exchange_pass, run_expr_pass, run_part_pass, run_removing_pass,
@@ -15,6 +19,7 @@ use aql_rules_calc::{
     MoveCalculationsUp, ReduceExtractionToProjection, RemoveRedundantCalculations,
     RemoveUnnecessaryCalculations, ReplaceOrWithIn, SimplifyConditions,
 };
+use aql_rules_cluster::run_scatter_pass;
 use aql_rules_filter::{
     FuseFilters, MoveFiltersIntoEnumerate, MoveFiltersUp, OptimizeTraversals,
     RemoveUnnecessaryFilters,
@@ -24,14 +29,16 @@ use aql_rules_order::{InlineSubqueries, RemoveCollectVariables, RemoveRedundantS
 use aql_value::OutOfMemory;
 use std::alloc::Global;
 
-/// The plan after the pass of a rule. A rule whose pass is not built yet leaves it as it is.
+/// The plan after the pass of a rule that is not of a cluster. The rule of the order of loops has
+/// no pass.
 pub(crate) fn pass_of(
     alloc: Global,
     rule: RuleName,
     plan: Plan,
     facts: &Facts,
 ) -> Result<Passed, OutOfMemory>
-    requires { IsWhole false facts.now (plan_tree plan) }
+    requires local { is_of_cluster rule ≡ false }
+    requires whole { IsWhole false facts.now (plan_tree plan) }
     ensures passed { IfOk result
         (λ x. IsPassOf rule facts.now (plan_tree plan) (plan_tree x.plan) x.changed) }
     ensures refines { IfOk result (λ x. Refines facts.now (plan_tree x.plan) (plan_tree plan)) }
@@ -74,6 +81,36 @@ pub(crate) fn pass_of(
         RuleName::ReduceExtractionToProjection => {
             run_changing_pass(alloc, &ReduceExtractionToProjection, plan, facts)
         }
+        _ => Ok(Passed {
+            plan,
+            changed: false,
+        }),
+    }
+}
+
+/// The plan after the pass of a rule of a cluster. A rule whose pass is not built yet leaves it as
+/// it is.
+pub(crate) fn cluster_pass_of(
+    alloc: Global,
+    rule: RuleName,
+    plan: Plan,
+    facts: &Facts,
+) -> Result<Passed, OutOfMemory>
+    requires cluster { is_of_cluster rule ≡ true }
+    requires well_formed { IsWellFormed facts.now [] (plan_tree plan) }
+    ensures passed { IfOk result
+        (λ x. IsPassOf rule facts.now (plan_tree plan) (plan_tree x.plan) x.changed) }
+    ensures refines { IfOk result (λ x. Refines facts.now (plan_tree x.plan) (plan_tree plan)) }
+    ensures well_formed { IfOk result (λ x. IsWellFormed facts.now [] (plan_tree x.plan)) }
+    ensures sets { IfOk result (λ x. SetsNoMore (plan_tree plan) (plan_tree x.plan)) }
+    ensures on_shards { IfOk result
+        (λ x. (rule ≡ spec_rule.ScatterInCluster) ⊎ ReadsOnShards facts.now (plan_tree plan)
+        → ReadsOnShards facts.now (plan_tree x.plan)) }
+    ensures alone { IfOk result
+        (λ x. facts.now.servers ≡ 0 → plan_tree x.plan ≡ plan_tree plan) }
+{
+    match rule {
+        RuleName::ScatterInCluster => run_scatter_pass(alloc, plan, facts),
         _ => Ok(Passed {
             plan,
             changed: false,

@@ -8,7 +8,7 @@ use Rattle.aql_plan.specs.declared.rules.RuleName.TheVariants as rule
 use Rattle.aql_plan.specs.Plan.{Plan}
 use Rattle.aql_plan.specs.View.{plan_tree}
 use Rattle.aql_rewrite.specs.Placed.{IsWhole}
-use Rattle.aql_rewrite.specs.laws.Steps.{refines_through_answers, sets_self, sets_through}
+use Rattle.aql_rewrite.specs.laws.Steps.{sets_self}
 use Rattle.aql_rules_order.specs.StandsFor.{StandsFor}
 use Rattle.aql_plan.specs.declared.rule_sets.Rules.{Rules}
 use Rattle.aql_plan.specs.RuleSets.{Has}
@@ -19,14 +19,6 @@ use Rattle.aql_opt.specs.Chosen.{CandidatesBy, alone}
 pub stands_itself : (facts : Facts) (p : Plan) → IsWhole false facts p → StandsFor facts p p
 stands_itself facts p whole =
     record { refines = λ db meets start vs a. a; whole = whole; sets = sets_self p }
-
-pub stands_through : (facts : Facts) (p q s : Plan) → StandsFor facts p q → StandsFor facts q s
-    → StandsFor facts p s
-stands_through facts p q s h k = record {
-  refines = refines_through_answers facts p q s k.refines h.refines;
-  whole = k.whole;
-  sets = sets_through p q s h.sets k.sets;
-}
 
 -- ---- the candidates
 

@@ -6,9 +6,8 @@ use Rattle.aql_plan.specs.declared.rules.RuleName.{RuleName}
 use Rattle.aql_plan.specs.Plan.{Plan}
 use Rattle.aql_plan.specs.Refines.{Refines}
 use Rattle.aql_plan.specs.declared.rule_sets.Rules.{Rules}
-use Rattle.aql_plan.specs.RuleSets.{Has}
 use Rattle.aql_opt.specs.Passes.{IsPassOf}
-use Rattle.aql_opt.specs.Chosen.{RunsRule, unchanged, changed, AfterRules, at_first, and_then}
+use Rattle.aql_opt.specs.Chosen.{IsEnabled, RunsRule, unchanged, changed, AfterRules, at_first, and_then}
 
 pub one_more : (facts : Facts) (rules : Rules) (p q s : Plan) (applied more : List RuleName)
     (order : List RuleName) (i : ℕ) (r : RuleName) → i < length order → r ≡ get_or order i r
@@ -27,13 +26,14 @@ first_told facts rules p applied e =
     subst (λ (names : List RuleName). AfterRules facts rules p [] p names) (sym e) at_first
 
 pub turn_changed : (facts : Facts) (rules : Rules) (r : RuleName) (q s : Plan) (applied more : List RuleName)
-    (b : Bool) → Has rules r → IsPassOf r facts q s b → b ≡ true → more ≡ applied ++ r ∷ []
+    (b : Bool) → IsEnabled facts rules r → IsPassOf r facts q s b → b ≡ true → more ≡ applied ++ r ∷ []
     → RunsRule facts rules r q applied s more
-turn_changed facts rules r q s applied more b has pass e f =
+turn_changed facts rules r q s applied more b on pass e f =
     subst (λ (names : List RuleName). RunsRule facts rules r q applied s names) (sym f)
-    (changed has (subst (λ (c : Bool). IsPassOf r facts q s c) e pass))
+    (changed on (subst (λ (c : Bool). IsPassOf r facts q s c) e pass))
 
 pub turn_unchanged : (facts : Facts) (rules : Rules) (r : RuleName) (q s : Plan) (applied : List RuleName)
-    (b : Bool) → Has rules r → IsPassOf r facts q s b → b ≡ false → RunsRule facts rules r q applied s applied
-turn_unchanged facts rules r q s applied b has pass e =
-    unchanged has (subst (λ (c : Bool). IsPassOf r facts q s c) e pass)
+    (b : Bool) → IsEnabled facts rules r → IsPassOf r facts q s b → b ≡ false
+    → RunsRule facts rules r q applied s applied
+turn_unchanged facts rules r q s applied b on pass e =
+    unchanged on (subst (λ (c : Bool). IsPassOf r facts q s c) e pass)

@@ -1,6 +1,5 @@
 -- The list has the first candidate and the others.
 use Rattle.std.proofs.Common.{◌∙◌, ◌∷◌, List, map, false, ap, sym, subst}
-use Rattle.std.specs.List.{AllByRecursion}
 use Rattle.std.proofs.lemmas.Result.{IfOk-weaker}
 use Rattle.aql_plan.specs.declared.plan.Plan.{Plan as PlanCode}
 use Rattle.aql_plan.specs.View.{plan_tree}
@@ -37,12 +36,12 @@ returns-clause-best c =
           (ap (λ (q : PlanCode). q ∷ c.in-Some.others.now) c.replace-first.ensures.value ∙ sym parts) h,
     )) c.cheapest_of.ensures.best
 
-pub returns-clause-stands : goal.returns-clause-stands
-returns-clause-stands c =
+pub returns-clause-finished : goal.returns-clause-finished
+returns-clause-finished c =
     let facts = c.args.facts.now in
     let p = plan_tree c.args.plan in
     let both = front_stand facts p c.in_ok-candidates.candidates c.in-Some.first.now c.in-Some.others.now
     (sym c.as_mut_slice.ensures.value ∙ c.in-Some.ensures.cases.0) c.in_ok-candidates.ensures.stand in
     IfOk-weaker c.cheapest_of.result _ _ (λ x h. h p
     (subst (λ (q : PlanCode). StandsFor facts p (plan_tree q)) (sym c.replace-first.ensures.value) both.0)
-    both.1) c.cheapest_of.ensures.stands
+    both.1) c.cheapest_of.ensures.finished

@@ -1,5 +1,5 @@
 -- The first candidate is the cheapest one at first; each further one is or is not.
-use Rattle.std.proofs.Common.{◌+◌, ◌∷◌, List, map, take, false, ap, refl, sym, subst}
+use Rattle.std.proofs.Common.{◌+◌, ◌∷◌, List, map, take, false, refl, sym, subst}
 use Rattle.std.proofs.lemmas.List.{take_all}
 use Rattle.aql_plan.specs.declared.plan.Plan.{Plan as PlanCode}
 use Rattle.aql_plan.specs.Plan.{Plan}
@@ -9,7 +9,8 @@ use Rattle.aql_rules_order.specs.StandsFor.{StandsFor}
 use Rattle.aql_opt.specs.declared.driver.Candidate.{Candidate}
 use Rattle.aql_opt.specs.Chosen.{cost_of}
 use Rattle.aql_opt.specs.laws.Cheapest.{Best, best_first, best_stays, best_changes}
-use Rattle.aql_opt.specs.laws.Tried.{stands_through, holds_at, tried_more, taken_is, taken_out, less_costs, no_less_costs}
+use Rattle.aql_opt.specs.laws.Finished.{finished_through}
+use Rattle.aql_opt.specs.laws.Tried.{holds_at, tried_more, taken_is, taken_out, less_costs, no_less_costs}
 use Rattle.aql_opt.proofs.driver.cheapest_of.Invariants.{IsBestOf}
 use Rattle.aql_opt.proofs.driver.cheapest_of.Goals as goal
 use Rattle.aql_opt.proofs.driver.cheapest_of.Goals.{then-other-best, else-other-best}
@@ -31,7 +32,7 @@ loop-candidate-init c =
       best = record {
         best = best_first facts c.args.rules.now first (plan_tree best.plan) best.applied best.reordered
             finished.reordered finished.runs;
-        stands = λ p h k. stands_through facts p first (plan_tree best.plan) h finished.stands;
+        finished = λ p h k. finished_through facts p first (plan_tree best.plan) h finished.finished;
         cost = finished.cost;
       };
       left = (refl, λ k d h. refl);
@@ -67,8 +68,8 @@ loop-candidate-preserved c =
                   (less_costs other.cost best.cost (cost_of facts (plan_tree other.plan))
                   (cost_of facts (plan_tree best.plan)) finished.cost kept.cost w.if-other-best.true)
                   finished.reordered);
-              stands = λ p h k. stands_through facts p (plan_tree item) (plan_tree other.plan)
-                  (holds_at (StandsFor facts p) all at item within here k) finished.stands;
+              finished = λ p h k. finished_through facts p (plan_tree item) (plan_tree other.plan)
+                  (holds_at (StandsFor facts p) all at item within here k) finished.finished;
               cost = finished.cost;
             })
         | else-other-best w ↦ subst (λ (b : Candidate). IsBestOf facts rules c.args.first all (at + 1) b)
@@ -81,7 +82,7 @@ loop-candidate-preserved c =
                   kept.best finished.runs
                   (no_less_costs other.cost best.cost (cost_of facts (plan_tree other.plan))
                   (cost_of facts (plan_tree best.plan)) finished.cost kept.cost w.if-other-best.false));
-              stands = kept.stands;
+              finished = kept.finished;
               cost = kept.cost;
             })
       ];
@@ -97,6 +98,6 @@ returns c =
       best = subst (λ (cs : List PlanCode). Best facts c.args.rules.now
           (plan_tree c.args.first ∷ map plan_tree cs) (plan_tree best.plan) best.applied best.reordered)
           (take_all c.loop-candidate.candidate-index all c.loop-candidate-test.false) kept.best;
-      stands = kept.stands;
+      finished = kept.finished;
       cost = kept.cost;
     }

@@ -9,6 +9,7 @@ use Rattle.aql_plan.specs.declared.rule_sets.Rules.{Rules}
 use Rattle.aql_opt.specs.declared.driver.Candidate.{Candidate}
 use Rattle.aql_opt.specs.Chosen.{cost_of}
 use Rattle.aql_opt.specs.laws.Cheapest.{Best}
+use Rattle.aql_opt.specs.inner.Later.{Finished}
 use Rattle.aql_opt.specs.laws.Tried.{Untaken}
 use Rattle.aql_opt.proofs.driver.cheapest_of.Given as goal
 
@@ -17,8 +18,8 @@ abbrev pub IsBestOf : Facts → Rules → PlanCode → List PlanCode → ℕ →
 IsBestOf facts rules first others count found = record {
   best : Best facts rules (plan_tree first ∷ map plan_tree (take count others)) (plan_tree found.plan)
       found.applied found.reordered;
-  stands : (p : Plan) → StandsFor facts p (plan_tree first)
-      → AllByRecursion (StandsFor facts p) (map plan_tree others) → StandsFor facts p (plan_tree found.plan);
+  finished : (p : Plan) → StandsFor facts p (plan_tree first)
+      → AllByRecursion (StandsFor facts p) (map plan_tree others) → Finished facts p (plan_tree found.plan);
   cost : found.cost ≡ cost_of facts (plan_tree found.plan);
 }
 

@@ -21,11 +21,17 @@ returns-clause-cost c = c.in_ok-chosen.ensures.cost
 pub returns-clause-refines : goal.returns-clause-refines
 returns-clause-refines c = refines_through_answers c.args.facts.now (plan_tree c.args.plan)
     (plan_tree c.in_ok-plan.field-0.plan) (plan_tree c.in_ok-chosen.chosen.plan)
-    c.in_ok-chosen.ensures.stands.refines c.in_ok-plan.ensures.refines
+    c.in_ok-chosen.ensures.finished.refines c.in_ok-plan.ensures.refines
 
-pub returns-clause-whole : goal.returns-clause-whole
-returns-clause-whole c = c.in_ok-chosen.ensures.stands.whole
+pub returns-clause-well_formed : goal.returns-clause-well_formed
+returns-clause-well_formed c = c.in_ok-chosen.ensures.finished.well_formed
+
+pub returns-clause-on_shards : goal.returns-clause-on_shards
+returns-clause-on_shards c = c.in_ok-chosen.ensures.finished.on_shards
+
+pub returns-clause-alone : goal.returns-clause-alone
+returns-clause-alone c = c.in_ok-chosen.ensures.finished.alone
 
 pub returns-clause-sets : goal.returns-clause-sets
 returns-clause-sets c = sets_through (plan_tree c.args.plan) (plan_tree c.in_ok-plan.field-0.plan)
-    (plan_tree c.in_ok-chosen.chosen.plan) c.in_ok-plan.ensures.sets c.in_ok-chosen.ensures.stands.sets
+    (plan_tree c.in_ok-chosen.chosen.plan) c.in_ok-plan.ensures.sets c.in_ok-chosen.ensures.finished.sets

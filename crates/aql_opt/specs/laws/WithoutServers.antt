@@ -1,0 +1,66 @@
+-- Without servers the rules of a cluster leave each plan as it is, and none of them is told of.
+use Rattle.std.proofs.Common.{◌≡◌, ◌∙◌, List, [], ◌∷◌, Bool, true, false, Option, refl, arith}
+use Rattle.std.specs.List.{AllByRecursion}
+use Rattle.aql_value.specs.laws.Alls.{all_parts}
+use Rattle.aql_meaning.specs.Uses.{Uses}
+use Rattle.aql_plan.specs.declared.facts.Facts.{Facts}
+use Rattle.aql_plan.specs.declared.rules.RuleName.{RuleName}
+use Rattle.aql_plan.specs.declared.rules.RuleName.TheVariants as rule
+use Rattle.aql_plan.specs.declared.rule_sets.Rules.{Rules}
+use Rattle.aql_plan.specs.Plan.{Plan}
+use Rattle.aql_rewrite.specs.declared.swap.Rename.{Rename}
+use Rattle.aql_rewrite.specs.Places.{First, below, here, body, Reaches, at_once, next}
+use Rattle.aql_rules_cluster.specs.ScatterInCluster.{Scatters, enumeration, by_index, in_index_order}
+use Rattle.aql_opt.specs.Passes.{IsPassOf}
+use Rattle.aql_opt.specs.Chosen.{RunsRule, switched_off, unchanged, changed, AfterRules, at_first, and_then, cluster_rules}
+use Rattle.aql_opt.specs.Theorems.{NoneWithoutServers}
+use Rattle.aql_opt.specs.inner.Later.{is_of_cluster}
+
+module _ (facts : Facts) (alone : facts.servers ≡ 0) where
+  none_made : (us : Uses) (p q : Plan) (r : Option Rename) → Scatters facts us p q r → ⊥
+  none_made us _ _ _ (enumeration servers) = omega (arith, servers, alone)
+  none_made us _ _ _ (by_index servers) = omega (arith, servers, alone)
+  none_made us _ _ _ (in_index_order servers) = omega (arith, servers, alone)
+
+  never : {inside : Bool} {us : Uses} {p q : Plan} {r : Option Rename}
+      → First (Scatters facts) inside us p q r → ⊥
+  never (below h) = never h
+  never (here none h) = none_made _ _ _ _ h
+  never (body none stays h) = never h
+
+  unscattered : (p q : Plan) (c : Bool) → Reaches (Scatters facts) p q c → (q ≡ p) × (c ≡ false)
+  unscattered p _ _ at_once = (refl, refl)
+  unscattered p _ _ (next k h) = absurd (never h)
+
+  idle : (r : RuleName) (p q : Plan) (c : Bool) → is_of_cluster r ≡ true → IsPassOf r facts p q c
+      → (q ≡ p) × (c ≡ false)
+  idle rule.ScatterInCluster p q c e h = unscattered p q c h.reached
+  idle rule.DistributeInCluster p q c e h = h
+  idle rule.RestrictToSingleShard p q c e h = h
+  idle rule.DistributeFiltercalcToCluster p q c e h = h
+  idle rule.RemoveUnnecessaryRemoteScatter p q c e h = h
+  idle rule.CollectInCluster p q c e h = h
+  idle rule.DistributeSortToCluster p q c e h = h
+  idle r p q c e h = absurd (cc)
+
+  module _ (rules : Rules) where
+    idle_turn : (r : RuleName) (q s : Plan) (applied more : List RuleName) → is_of_cluster r ≡ true
+        → RunsRule facts rules r q applied s more → (s ≡ q) × (more ≡ applied)
+    idle_turn r q _ applied _ e (switched_off off) = (refl, refl)
+    idle_turn r q s applied _ e (unchanged on h) = ((idle r q s false e h).0, refl)
+    idle_turn r q s applied _ e (changed on h) =
+        let told : true ≡ false = (idle r q s true e h).1 in absurd (cc)
+
+    idle_turns : (p q : Plan) (rs applied : List RuleName)
+        → AllByRecursion (λ (r : RuleName). is_of_cluster r ≡ true) rs → AfterRules facts rules p rs q applied
+        → (q ≡ p) × (applied ≡ [])
+    idle_turns p _ _ _ all at_first = (refl, refl)
+    idle_turns p q _ applied all (and_then {rs = rs} {applied = most} {r = r} {q = m} k t) =
+        let parts = all_parts (λ (x : RuleName). is_of_cluster x ≡ true) rs (r ∷ []) all in
+        let before = idle_turns p m rs most parts.0 k in
+        let turn = idle_turn r m q most applied parts.1.0 t in (turn.0 ∙ before.0, turn.1 ∙ before.1)
+
+pub none_without_servers : NoneWithoutServers
+none_without_servers facts rules p q applied alone h =
+    idle_turns facts alone rules p q cluster_rules applied
+    (refl, (refl, (refl, (refl, (refl, (refl, (refl, tt))))))) h
