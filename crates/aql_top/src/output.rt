@@ -14,6 +14,7 @@ use crate::faults::RunFault;
 use crate::planning::{Planned, plan_query};
 use crate::printing::run_text;
 use aql_engine::Engine;
+use aql_net::Schedule;
 use aql_opt::Optimised;
 use aql_options::Settings;
 use aql_plan::Plan;
@@ -25,7 +26,7 @@ use std::alloc::Global;
 
 /// What is printed of a script: the text of the plan that is chosen for its query, or what the run
 /// of this plan by the engine gives; or the fault where there is none.
-pub(crate) fn output<G: Engine>(
+pub(crate) fn output<G: Engine<Schedule>>(
     alloc: Global,
     script: Loaded,
     settings: &Settings,
@@ -77,7 +78,7 @@ fn explain(alloc: Global, planned: &Planned) -> Result<Vec<u8>, OutOfMemory>
 }
 
 // Has the engine run a plan over the documents of servers, and gives what is printed of its entry.
-fn run_on<G: Engine>(
+fn run_on<G: Engine<Schedule>>(
     alloc: Global,
     mut servers: Servers,
     plan: Plan,
@@ -94,7 +95,8 @@ fn run_on<G: Engine>(
         (G.entries engine.old) (G.entries engine.new) }
 {
     let before = engine.held().len();
-    engine.run(alloc, plan, &mut servers, settings.batch)?;
+    let mut schedule = Schedule::new(0);
+    engine.run(alloc, plan, &mut servers, &mut schedule, settings.batch)?;
     match engine.held().get(before) {
         Some(ran) => run_text(alloc, settings, ran),
         None => unreachable!(),

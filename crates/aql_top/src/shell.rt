@@ -17,6 +17,7 @@ use crate::scripts::load_script;
 use crate::{QueryFault, query_fault_text};
 use aql_engine::Engine;
 use aql_io::{Sink, Source, write_all};
+use aql_net::Schedule;
 use aql_options::{Settings, WordsFault, parse_words};
 use aql_script::{LoadFault, fault_text};
 use aql_value::{Names, OutOfMemory, Text};
@@ -43,7 +44,7 @@ use std::alloc::Global;
 /// (*) unless a read fails or memory runs out. The faults of the script come before those of its
 /// query. Where the script is made, only 0, 7 and 8 come. With any status but 0 and 7 nothing is
 /// written to `out`. A failed write to `err` changes nothing.
-pub fn run_shell<S: Source, K: Sink, E: Sink, G: Engine>(
+pub fn run_shell<S: Source, K: Sink, E: Sink, G: Engine<Schedule>>(
     alloc: Global,
     words: &Names,
     source: &mut S,
@@ -114,7 +115,7 @@ pub fn run_shell<S: Source, K: Sink, E: Sink, G: Engine>(
 
 // All but the line on the error output.
 #[tactic(auto, using(crate::proofs::Settings::refused_lead, crate::proofs::Settings::all_lead))]
-fn run<S: Source, K: Sink, G: Engine>(
+fn run<S: Source, K: Sink, G: Engine<Schedule>>(
     alloc: Global,
     words: &Names,
     source: &mut S,
@@ -160,7 +161,7 @@ fn run<S: Source, K: Sink, G: Engine>(
 
 // The same by the settings of the words.
 #[tactic(auto, using(crate::proofs::Loading::accepted, crate::proofs::Loading::printed, crate::proofs::Loading::at_most_one, crate::proofs::Loading::not_called, crate::proofs::Loading::no_lines_lead, crate::proofs::Loading::no_lines_status))]
-fn run_with<S: Source, K: Sink, G: Engine>(
+fn run_with<S: Source, K: Sink, G: Engine<Schedule>>(
     alloc: Global,
     settings: &Settings,
     source: &mut S,

@@ -1,5 +1,6 @@
 use Rattle.std.proofs.Common.{[], ◌∙◌, false, ap, sym, subst}
 use Rattle.aql_tree.specs.View.{query_tree}
+use Rattle.aql_plan.specs.declared.facts.Facts.{Facts}
 use Rattle.aql_plan.specs.Facts.{Meets}
 use Rattle.aql_plan.specs.View.{plan_tree}
 use Rattle.aql_plan.specs.WellFormed.{IsWellFormed}
@@ -61,8 +62,8 @@ returns-clause-ready c =
       cost = c.in_ok-chosen.ensures.cost ∙ ap (λ f. cost_of f chosen) are;
       servers_are = holds;
       can_run = record {
-        well_formed = subst (λ f. IsWellFormed f [] chosen) are c.in_ok-chosen.ensures.whole.0;
-        without_fragments = c.in_ok-chosen.ensures.whole.1;
+        well_formed = subst (λ f. IsWellFormed f [] chosen) are c.in_ok-chosen.ensures.well_formed;
+        without_fragments = c.in_ok-chosen.ensures.alone (ap (λ (f : Facts). f.servers) are);
       };
       answers = chosen_answers script tree scoped.names is_scoped facts first c.in_ok-plan.ensures.first
           meets are
