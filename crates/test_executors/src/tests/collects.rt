@@ -12,8 +12,8 @@ ghost use Rattle.aql_exec_rows.specs.Settings.{criteria_vars, criteria_trees};
 use crate::tests::driving::{Ran, run};
 use crate::tests::rows::{expect, is_counted, numbers};
 use crate::tests::sources::{Source, Still};
-use aql_exec::Executor;
-use aql_exec_rows::Collect;
+use aql_exec::{Executor, Stream};
+use aql_exec_rows::{Collect, GroupRows};
 use aql_func::BinOp;
 use aql_tree::{AggregateItem, Aggregates, Expr, Ident, Into, Let, Lets, Link, Links};
 use aql_value::{OutOfMemory, Seq, Text, Value};
@@ -54,7 +54,8 @@ fn collect(alloc: Global, groups: bool) -> Result<Collect, OutOfMemory>
     aggregates.push(AggregateItem::new(Ident::Num(4), sum, number))?;
     let number = Some(Expr::Var(Ident::Num(1)));
     let into = Into::new(Ident::Num(5), number, Seq::new(alloc));
-    Ok(Collect::new(alloc, criteria, aggregates, Some(into)))
+    let rows = GroupRows::new(alloc, criteria, aggregates, Some(into));
+    Ok(Stream::new(rows))
 }
 
 // The numbers of the rows, how many groups are skipped, which variable is looked at, and what it is

@@ -39,10 +39,12 @@ fn answer<W: Surroundings, X: Executor<W>>(
     requires valid { X.valid x.old world.old }
     requires node { IsOperator (W.stock world.old).facts (X.node x.old) }
     requires call { IsCall call }
+    requires batch { call.soft ≤ W.batch world.old }
     requires may { X.may x.old 0 call }
     requires idle { X.busy x.old → ⊥ }
     ensures node { X.node x.new ≡ X.node x.old }
     ensures stock { W.stock world.new ≡ W.stock world.old }
+    ensures batch { W.batch world.new ≡ W.batch world.old }
     ensures valid { OnOk result (X.valid x.new world.new) }
     ensures idle { OnOk result (X.busy x.new → ⊥) }
     ensures bounds { IfOk result (λ step. IfSome step (λ step. InCall call step)) }
@@ -96,7 +98,7 @@ pub fn run<W: Surroundings, X: Executor<W>>(
     var: u32,
 ) -> Result<Ran, OutOfMemory>
     requires node { IsOperator (W.stock world.old).facts (X.node x.old) }
-    requires batch { (1 ≤ batch) × (batch ≤ 10000) }
+    requires batch { (1 ≤ batch) × (batch ≤ 10000) × (batch ≤ W.batch world.old) }
 {
     let mut body = Source::new(0, Vec::new(alloc), false);
     let mut tally = Tally::new();

@@ -4,7 +4,7 @@ ghost use Rattle.std.specs.Prelude.{◌<◌};
 
 use aql_block::{Call, Progress};
 use aql_exec::{Delivered, Message, Picker, nothing};
-use aql_net::{ListPicker, LogEntry, Net, Picks, Schedule, Sort};
+use aql_net::{ListPicker, LogEntry, Net, Picks, Schedule, Sort, log_text};
 use aql_value::OutOfMemory;
 use std::alloc::Global;
 
@@ -35,7 +35,7 @@ fn is_log(net: Net, entries: &[LogEntry]) -> bool {
 
 // Two links with an ask on each, of which the newer is taken first.
 fn crossed(alloc: Global) -> Result<bool, OutOfMemory> {
-    let mut net = Net::new(alloc);
+    let mut net = Net::new(alloc, ASK.soft);
     let links = [net.first(Message::Ask(ASK))?, net.first(Message::Ask(ASK))?];
     let before = net.in_flight();
     let taken = [
@@ -60,7 +60,7 @@ fn crossed(alloc: Global) -> Result<bool, OutOfMemory> {
 
 // An ask on a link, and the reply that there is no row.
 fn answered(alloc: Global) -> Result<bool, OutOfMemory> {
-    let mut net = Net::new(alloc);
+    let mut net = Net::new(alloc, ASK.soft);
     let link = net.first(Message::Ask(ASK))?;
     let Some(_) = net.deliver(0) else {
         return Ok(false);
@@ -80,6 +80,45 @@ fn answered(alloc: Global) -> Result<bool, OutOfMemory> {
         },
     ];
     Ok(number == 1 && net.log() == entries.as_slice() && is_log(net, &entries))
+}
+
+// The lines of a log, each kind of entry once.
+fn written(alloc: Global) -> Result<bool, OutOfMemory> {
+    let part = Call {
+        offset: 3,
+        soft: 2,
+        hard: 40,
+    };
+    let sorts = [
+        Sort::Ask(ASK),
+        Sort::Ask(part),
+        Sort::Reply {
+            skipped: 0,
+            rows: 2,
+            progress: Progress::HasMore,
+        },
+        Sort::Reply {
+            skipped: 5,
+            rows: 0,
+            progress: Progress::Done,
+        },
+    ];
+    let mut log = Vec::new(alloc);
+    for (number, what) in (0..).zip(sorts) {
+        log.push(LogEntry::Sent {
+            number,
+            link: 12,
+            what,
+        })?;
+    }
+    log.push(LogEntry::Taken { number: u64::MAX })?;
+    let text = log_text(alloc, &log)?;
+    Ok(
+        text.as_slice()
+            == b"send 0 12 ask 0 2 -\nsend 1 12 ask 3 2 40\nsend 2 12 reply 0 2 more\n\
+             send 3 12 reply 5 0 done\ntake 18446744073709551615\n"
+                .as_slice(),
+    )
 }
 
 // What a picker picks, one after the other, among so many.
@@ -108,6 +147,11 @@ fn asks_cross(rt: HostRuntime) {
 #[test]
 fn ask_is_answered(rt: HostRuntime) {
     assert!(rt; answered(rt.alloc()) == Ok(true));
+}
+
+#[test]
+fn log_is_written(rt: HostRuntime) {
+    assert!(rt; written(rt.alloc()) == Ok(true));
 }
 
 // Worked out apart, by whole numbers without a bound.

@@ -65,6 +65,8 @@ impl Surroundings for OneCollection {
     ghost flight = { λ _ _. no_line };
 
     ghost deliveries = { λ _. record { picks = []; left = 0 } };
+
+    ghost batch = { λ _. 10000 };
 }
 
 // A count is a number of 64 bits.

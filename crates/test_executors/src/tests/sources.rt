@@ -28,6 +28,8 @@ impl Surroundings for Still {
     ghost flight = { λ _ _. no_line };
 
     ghost deliveries = { λ _. record { picks = []; left = 0 } };
+
+    ghost batch = { λ _. 10000 };
 }
 
 impl Still {

@@ -5,13 +5,17 @@ ghost use Rattle.aql_plan.specs.View.{plan_tree};
 ghost use Rattle.aql_rewrite.specs.Placed.{IsWhole};
 
 use crate::tests::checked::{expect_page, is_taken};
+use crate::tests::facts::{facts, indexed};
 use crate::tests::lines::Line::{self, Docs, Filter, FilterBy, Let, Lone, Return, ReturnPart};
 use crate::tests::lines::{plan_of, two_collections};
+use crate::tests::plans::plan;
 use crate::tests::texts::write_plan;
 use aql_opt::{Optimised, optimise};
 use aql_plan::{Facts, Plan, RuleName, Rules};
+use aql_value::OutOfMemory;
 use std::alloc::Global;
 use std::process::Abort;
+use std::test::Fail;
 use test_support::Page;
 
 fn write_optimised(optimised: &Optimised, page: &mut Page) {
@@ -33,10 +37,10 @@ fn write_chosen(alloc: Global, rules: &Rules, plan: Plan, facts: &Facts, page: &
     }
 }
 
-// The plan that is chosen by these rules.
-fn chosen_of(alloc: Global, rules: &Rules, lines: &[Line], facts: &Facts) -> Page {
+// What is chosen for a plan by these rules.
+fn chosen_of(alloc: Global, rules: &Rules, plan: Result<Plan, OutOfMemory>, facts: &Facts) -> Page {
     let mut page = Page::new(alloc);
-    match plan_of(alloc, lines) {
+    match plan {
         Ok(plan) => {
             if is_taken(alloc, &plan, facts) {
                 write_chosen(alloc, rules, plan, facts, &mut page);
@@ -53,7 +57,8 @@ fn check_chosen(rt: &impl Abort, alloc: Global, rules: &Rules, rows: &[(&[Line],
     match two_collections(alloc) {
         Ok(facts) => {
             for (lines, want) in rows {
-                expect_page(rt, &chosen_of(alloc, rules, lines, &facts), want, "a plan");
+                let plan = plan_of(alloc, lines);
+                expect_page(rt, &chosen_of(alloc, rules, plan, &facts), want, "a plan");
             }
         }
         Err(_) => assert!(rt; false, "no memory"),
@@ -164,4 +169,25 @@ fn orders_are_chosen(rt: HostRuntime) {
     let moves = Rules::none().with(RuleName::MoveFiltersIntoEnumerate);
     check_chosen(&rt, alloc, &moves, &BY_MOVES);
     check_chosen(&rt, alloc, &Rules::all(), &BY_ORDER);
+}
+
+// What is chosen for a FOR over a collection of three documents in two shards.
+fn check_read(rt: &impl Abort, alloc: Global, rules: &Rules, facts: &Facts, want: &str) {
+    let plan = plan(alloc, "E10-- R1-");
+    expect_page(rt, &chosen_of(alloc, rules, plan, facts), want, "a plan");
+}
+
+#[test]
+fn plans_of_a_cluster_are_chosen(rt: HostRuntime) -> Result<(), Fail> {
+    let alloc = rt.alloc();
+    let two = facts(alloc, 2, b"k", 3)?;
+    let scattered = "start / scatter 0 / link / docs #1 / link / gather / return #1 costs 16 \
+        + scatter-in-cluster";
+    // also where it is switched off
+    check_read(&rt, alloc, &Rules::none(), &two, scattered);
+    check_read(&rt, alloc, &Rules::all(), &two, scattered);
+    let alone = indexed(alloc, 3, 2, 1)?;
+    let read = "start / docs #1 / return #1 costs 7";
+    check_read(&rt, alloc, &Rules::all(), &alone, read);
+    Ok(())
 }

@@ -9,6 +9,7 @@ use aql_block::Tally;
 use aql_engine::{Engine, Rans};
 use aql_io::MemorySource;
 use aql_local::Local;
+use aql_net::Schedule;
 use aql_plan::Plan;
 use aql_shard::Servers;
 use aql_top::run_shell;
@@ -22,23 +23,24 @@ struct Watched {
     servers: Tally,
 }
 
-impl Engine for Watched {
-    ghost entries = { λ s. ⟦<Local as Engine>⟧.entries s.engine };
+impl Engine<Schedule> for Watched {
+    ghost entries = { λ s. ⟦<Local as Engine<Schedule>>⟧.entries s.engine };
 
     fn run(
         &mut self,
         alloc: Global,
         plan: Plan,
         servers: &mut Servers,
+        picker: &mut Schedule,
         batch: u32,
     ) -> Result<(), OutOfMemory> {
-        let ran = self.engine.run(alloc, plan, servers, batch);
+        let ran = self.engine.run(alloc, plan, servers, picker, batch);
         self.servers = servers.counts();
         ran
     }
 
     fn held(&self) -> &Rans {
-        self.engine.held()
+        <Local as Engine<Schedule>>::held(&self.engine)
     }
 }
 

@@ -12,6 +12,9 @@ turn-requires-clause-node g c =
     let i = c.loop-turn.invariant in
     rw (i.stock, i.node) c.requires.node
 
+pub turn-requires-clause-batch : goal.turn-requires-clause-batch
+turn-requires-clause-batch g c = rw c.loop-turn.invariant.batch c.requires.batch
+
 pub take-requires-clause-node : goal.take-requires-clause-node
 take-requires-clause-node g c = (
   (g.W.Surroundings.stock c.args.world.now).facts,

@@ -10,7 +10,7 @@ returns c =
         refl,
         (λ _. tt),
         (
-          record { stock = refl; deliveries = refl; links = refl; flight = λ l. refl },
+          record { stock = refl; deliveries = refl; batch = refl; links = refl; flight = λ l. refl },
           (
             rose_saturated _ _ _ c.recall_count.ensures (ap (λ (t : Tally). t.scanned_full) counts),
             rose_same _ _ (ap (λ (t : Tally). t.scanned_index) counts),
