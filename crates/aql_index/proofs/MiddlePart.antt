@@ -6,6 +6,8 @@ use Rattle.std.specs.Ordering.{is_lt, is_le, is_eq, ordering_index}
 use Rattle.std.specs.declared.cmp.Ordering.{Ordering}
 use Rattle.std.specs.declared.cmp.Ordering.TheVariants.{Less, Equal, Greater}
 use Rattle.std.proofs.lemmas.List.{length-drop, get_or-drop}
+use Rattle.std.proofs.lemmas.List.Edits.{length-between, get_or-between}
+use Rattle.std.specs.List.{between}
 use Rattle.std.proofs.lemmas.Bool.{cases_lt}
 use Rattle.aql_value.specs.Datum.{Datum}
 use Rattle.aql_index.specs.declared.bounds.Span.{Span}
@@ -82,6 +84,11 @@ high_not Less e = refl
 high_not Equal e = e
 high_not Greater e = refl
 
+pub low_is_up : (o : Ordering) → is_lt o ≡ true → is_le o ≡ true
+low_is_up Less e = refl
+low_is_up Equal e = refl
+low_is_up Greater e = e
+
 not_both : (o : Ordering) → is_lt o ≡ true → is_le o ≡ false → ⊥
 not_both Less e f = true≢false f
 not_both Equal e f = true≢false (sym e)
@@ -136,3 +143,50 @@ module _ (zone : List Datum → Ordering) (entries : List Entry)
     -- from the first that is not below the bounds up to the first above them
     pub selects : Selects entries (λ keys. is_eq (zone keys)) span
     selects = record { within = in_list (cases_lt to from); exactly = these; each = each }
+
+-- A list whose first elements pass, and none behind another place: where those between part, it parts.
+module _ {X : Type 0} (p : X → Bool) (xs : List X) (parted : IsPartitionedBy p xs) (from end : ℕ)
+    (some : from ≤ end) (within : end ≤ length xs)
+    (front : (k : ℕ) (d : X) → k < from → p (get_or xs k d) ≡ true)
+    (above : (d : X) → end < length xs → p (get_or xs end d) ≡ false) where
+  abbrev near : List X
+  near = between from end xs
+
+  pub near_parted : IsPartitionedBy p near
+  near_parted i j d l m e =
+      let inside : from + j < end = omega (arith, m, length-between xs from end within) in
+      ap p (get_or-between xs from end i d (omega arith))
+      ∙ parted (from + i) (from + j) d (omega arith) (omega arith)
+      (sym (ap p (get_or-between xs from end j d inside)) ∙ e)
+
+  beyond : (k : ℕ) (d : X) → end ≤ k → k < length xs → (b : Bool) → p (get_or xs k d) ≡ b → b ≡ false
+  beyond k d l m false e = refl
+  beyond k d l m true e =
+      absurd (true≢false (sym (parted end k d l m e) ∙ above d (omega (arith, l, m))))
+
+  module _ (i : ℕ) (few : i ≤ length near)
+      (point : IsPartitionPoint (λ x. p x ≡ true) (λ x. p x ≡ false) near i) where
+    low : (k : ℕ) (d : X) → k < from + i → (k < from) ⊎ (from ≤ k) → p (get_or xs k d) ≡ true
+    low k d l (inl lt) = front k d lt
+    low k d l (inr le) =
+        let n = length-between xs from end within in
+        let back : from + (k - from) ≡ k = omega arith in
+        ap (λ n. p (get_or xs n d)) (sym back)
+        ∙ sym (ap p (get_or-between xs from end (k - from) d (omega arith)))
+        ∙ point.0 (k - from) d (omega arith) (omega arith)
+
+    high : (k : ℕ) (d : X) → from + i ≤ k → k < length xs → (k < end) ⊎ (end ≤ k)
+        → p (get_or xs k d) ≡ false
+    high k d l m (inl lt) =
+        let n = length-between xs from end within in
+        let back : from + (k - from) ≡ k = omega arith in
+        ap (λ n. p (get_or xs n d)) (sym back)
+        ∙ sym (ap p (get_or-between xs from end (k - from) d (omega arith)))
+        ∙ point.1 (k - from) d (omega arith) (omega arith)
+    high k d l m (inr le) = beyond k d le m _ refl
+
+    pub from_near : IsPartitionPoint (λ x. p x ≡ true) (λ x. p x ≡ false) xs (from + i)
+    from_near = (
+      λ k d l m. low k d m (cases_lt k from),
+      λ k d l m. high k d l m (cases_lt k end),
+    )

@@ -1,6 +1,7 @@
 //! The entries of an index.
 
-ghost use Rattle.std.specs.Prelude.{◌≡◌, ◌<◌, ◌^◌, length, option_map, IfOk, OnOk, IsSortedBy};
+ghost use Rattle.std.specs.Prelude.{◌≡◌, ◌<◌, ◌≤◌, ◌^◌, length, option_map, IfOk, OnOk, IsSortedBy, false, slice_index_or};
+ghost use Rattle.std.specs.Ordering.{is_le};
 ghost use Rattle.std.specs.List.{All};
 ghost use Rattle.aql_value.specs.View.{datums_in};
 ghost use Rattle.aql_value.specs.Compare.{compare};
@@ -8,7 +9,8 @@ ghost use Rattle.aql_value.specs.Contents.{list};
 ghost use Rattle.aql_index.specs.Entries.{entries_of, is_before, standing_at, IsIndex};
 ghost use Rattle.aql_index.specs.IndexOrder.{index_entries, sort};
 ghost use Rattle.aql_index.specs.inner.Places.{Selects};
-ghost use Rattle.aql_index.specs.inner.Zones.{tail_zone, in_zone};
+ghost use Rattle.aql_index.specs.declared.entries.Entry.{Entry};
+ghost use Rattle.aql_index.specs.inner.Zones.{tail_zone, zone, in_zone};
 
 use crate::bounds::{Span, Tail, zone};
 use crate::keys::{Keys, keys_of};
@@ -122,6 +124,25 @@ pub(crate) fn sorted_entries_at(
     Ok(entries)
 }
 
+// A place from `from` on up to which the entries go that are not above these bounds: the next one
+// is above them, or there is none. Steps that double lead there.
+fn end_near(entries: &[Entry], from: usize, equal: &[Value], tail: &Tail<'_>) -> usize
+    requires { from ≤ length entries.now }
+    ensures from { from ≤ result }
+    ensures within { result ≤ length entries.now }
+    ensures above { (d : Entry) → result < length entries.now
+        → is_le (zone (tail_zone tail.now) (datums_in equal.now)
+        (slice_index_or entries.now result d).keys) ≡ false }
+{
+    let mut end = from;
+    let mut step: usize = 1;
+    'steps: while end < entries.len() && zone(entries[end].keys.as_slice(), equal, tail).is_le() {
+        end = entries.len().min(end.saturating_add(step));
+        step = step.saturating_mul(2);
+    }
+    end
+}
+
 /// The span of the entries within these bounds.
 pub(crate) fn span_of(entries: &[Entry], equal: &[Value], tail: &Tail<'_>) -> Span
     requires sorted { IsSortedBy is_before entries.now }
@@ -129,9 +150,11 @@ pub(crate) fn span_of(entries: &[Entry], equal: &[Value], tail: &Tail<'_>) -> Sp
     ensures { Selects entries.now (in_zone (tail_zone tail.now) (datums_in equal.now)) result }
 {
     let from = entries.partition_point(|e| zone(e.keys.as_slice(), equal, tail).is_lt());
-    let to = entries.partition_point(|e| zone(e.keys.as_slice(), equal, tail).is_le());
+    let end = end_near(entries, from, equal, tail);
+    let near = &entries[from..end];
+    let count = near.partition_point(|e| zone(e.keys.as_slice(), equal, tail).is_le());
     Span {
         from: from as u32,
-        to: to as u32,
+        to: (from + count) as u32,
     }
 }

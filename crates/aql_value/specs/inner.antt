@@ -1,3 +1,4 @@
 pub mod NameSearch
+pub mod Texts
 pub mod Tokens
 pub mod Writes

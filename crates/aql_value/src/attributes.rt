@@ -1,4 +1,4 @@
-ghost use Rattle.std.specs.Prelude.{◌≡◌, [], OnOk, OnErr};
+ghost use Rattle.std.specs.Prelude.{◌≡◌, [], IfOk, OnOk, OnErr};
 ghost use Rattle.std.specs.Ordering.{nat_cmp};
 ghost use Rattle.std.specs.Cmp.Lexicographic.{slice_cmp};
 ghost use Rattle.aql_value.specs.Datum.{object_of};
@@ -24,6 +24,16 @@ impl Members {
         ensures { result ≡ [] }
     {
         Members { entries: None }
+    }
+
+    // No attributes, with room for so many.
+    pub(crate) fn with_room(alloc: Global, room: usize) -> Result<Members, OutOfMemory>
+        ensures { IfOk result (λ ms. ms ≡ []) }
+    {
+        let entries = Vec::with_capacity(alloc, room)?;
+        Ok(Members {
+            entries: Some(Rc::new(alloc, entries)?),
+        })
     }
 
     /// How many attributes there are.

@@ -65,6 +65,8 @@ pub fn from_json_line(alloc: Global, line: &[u8]) -> Result<Value, JsonFault>
 #[derive(Drop)]
 pub struct LineReader {
     scratch: Scratch,
+    // how many attributes the object of the next line may have, by that of the last one
+    usual: usize,
 }
 
 impl LineReader {
@@ -72,6 +74,7 @@ impl LineReader {
     pub fn new(alloc: Global) -> LineReader {
         LineReader {
             scratch: Scratch::new(alloc),
+            usual: 1,
         }
     }
 
@@ -83,8 +86,13 @@ impl LineReader {
         ensures value { IfOk result (λ v. json_line line.now ≡ Ok (datum_of v)) }
         ensures fault { IfErr result (λ e. (e ≡ Memory) ⊎ (json_line line.now ≡ Err e)) }
     {
-        match value_in(alloc, line, &mut self.scratch) {
-            Some(value) => Ok(value),
+        match value_in(alloc, line, &mut self.scratch, self.usual) {
+            Some(value) => {
+                if let Value::Object(members) = &value {
+                    self.usual = members.len().saturating_add(1);
+                }
+                Ok(value)
+            }
             None => from_json_line(alloc, line),
         }
     }

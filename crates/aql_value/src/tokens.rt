@@ -18,8 +18,13 @@ const LEVELS: usize = 64;
 const ATTRIBUTES: usize = 128;
 
 // The value that a line writes. `None` says nothing of the line: it may have a fault, or memory
-// ran out.
-pub(crate) fn value_in(alloc: Global, line: &[u8], scratch: &mut Scratch) -> Option<Value>
+// ran out. An object gets room for as many attributes as is usual.
+pub(crate) fn value_in(
+    alloc: Global,
+    line: &[u8],
+    scratch: &mut Scratch,
+    usual: usize,
+) -> Option<Value>
     ensures { IfSome result (λ v. json_line line.now ≡ Ok (datum_of v)) }
 {
     let Ok(text) = str::from_utf8(line) else {
@@ -28,7 +33,7 @@ pub(crate) fn value_in(alloc: Global, line: &[u8], scratch: &mut Scratch) -> Opt
     let Ok(mut reader) = Reader::new(text, scratch) else {
         return None;
     };
-    let value = read(alloc, &mut reader, LEVELS)?;
+    let value = read(alloc, &mut reader, LEVELS, usual)?;
     match reader.next() {
         Some(_) => None,
         None => Some(value),
@@ -36,7 +41,7 @@ pub(crate) fn value_in(alloc: Global, line: &[u8], scratch: &mut Scratch) -> Opt
 }
 
 #[cycle(tokens)]
-fn read(alloc: Global, reader: &mut Reader<'_>, room: usize) -> Option<Value>
+fn read(alloc: Global, reader: &mut Reader<'_>, room: usize, usual: usize) -> Option<Value>
     ensures reads { IfSome result (λ v. ReadsValue room reader.old reader.new (datum_of v)) }
     ensures shorter { OnSome result (length reader.new < length reader.old) }
 {
@@ -61,7 +66,7 @@ fn read(alloc: Global, reader: &mut Reader<'_>, room: usize) -> Option<Value>
             if room == 0 {
                 return None;
             }
-            Some(Value::Object(read_members(alloc, reader, room - 1)?))
+            Some(Value::Object(read_members(alloc, reader, room - 1, usual)?))
         }
         Token::EndArray | Token::EndObject | Token::Key(_) | Token::Bad => None,
     }
@@ -74,7 +79,7 @@ fn read_items(alloc: Global, reader: &mut Reader<'_>, room: usize) -> Option<Ite
 {
     let mut found = Items::new(alloc);
     'items: while !reader.take_end_array() {
-        let item = read(alloc, reader, room)?;
+        let item = read(alloc, reader, room, 1)?;
         if found.push(item).is_err() {
             return None;
         }
@@ -83,11 +88,18 @@ fn read_items(alloc: Global, reader: &mut Reader<'_>, room: usize) -> Option<Ite
 }
 
 #[cycle(tokens)]
-fn read_members(alloc: Global, reader: &mut Reader<'_>, room: usize) -> Option<Members>
+fn read_members(
+    alloc: Global,
+    reader: &mut Reader<'_>,
+    room: usize,
+    usual: usize,
+) -> Option<Members>
     ensures reads { IfSome result (λ fs. ReadsMembers room reader.old reader.new fs) }
     ensures shorter { OnSome result (length reader.new < length reader.old) }
 {
-    let mut found = Members::new(alloc);
+    let Ok(mut found) = Members::with_room(alloc, usual) else {
+        return None;
+    };
     'members: loop {
         let Ok(key) = reader.next_key() else {
             return None;
@@ -101,7 +113,7 @@ fn read_members(alloc: Global, reader: &mut Reader<'_>, room: usize) -> Option<M
         let Ok(name) = Text::new(alloc, key) else {
             return None;
         };
-        let value = read(alloc, reader, room)?;
+        let value = read(alloc, reader, room, 1)?;
         if found.set(name, value).is_err() {
             return None;
         }

@@ -85,7 +85,7 @@ read_items-returns-clause-reads t c =
     c.items.invariant ends
 
 pub read_members-members-init : goal.read_members-members-init
-read_members-members-init t c = rw c.new-found.ensures (no_members_yet c.args.room c.args.reader.now)
+read_members-members-init t c = rw c.in-Ok.ensures (no_members_yet c.args.room c.args.reader.now)
 
 pub read_members-returns-in_default-key-clause-reads :
     goal.read_members-returns-in_default-key-clause-reads
