@@ -7,6 +7,7 @@ ghost use Rattle.aql_plan.specs.View.{plan_tree};
 ghost use Rattle.aql_plan.specs.WellFormed.{IsWellFormed};
 ghost use Rattle.aql_rewrite.specs.Placed.{IsWhole};
 ghost use Rattle.aql_rewrite.specs.Swaps.{SetsNoMore};
+ghost use Rattle.aql_plan.specs.Executable.{HasExecutors};
 ghost use Rattle.aql_rules_cluster.specs.OnShards.{ReadsOnShards};
 ghost use Rattle.aql_opt.specs.Passes.{IsPassOf};
 ghost use Rattle.aql_opt.specs.inner.Later.{is_of_cluster};
@@ -106,6 +107,8 @@ pub(crate) fn cluster_pass_of(
     ensures on_shards { IfOk result
         (λ x. (rule ≡ spec_rule.ScatterInCluster) ⊎ ReadsOnShards facts.now (plan_tree plan)
         → ReadsOnShards facts.now (plan_tree x.plan)) }
+    ensures executors { IfOk result
+        (λ x. HasExecutors (plan_tree plan) → HasExecutors (plan_tree x.plan)) }
     ensures alone { IfOk result
         (λ x. facts.now.servers ≡ 0 → plan_tree x.plan ≡ plan_tree plan) }
 {

@@ -1,2 +1,3 @@
 pub mod SomeMerge
 pub mod SomeRun
+pub mod Executable

@@ -7,4 +7,5 @@ pub mod Scattered
 pub mod StayWell
 pub mod Places
 pub mod Walking
+pub mod Executors
 pub mod Passes

@@ -10,9 +10,11 @@ use Rattle.aql_rewrite.specs.Swaps.{SetsNoMore}
 use Rattle.aql_rewrite.specs.inner.Applications.{Applications, at_once, next}
 use Rattle.aql_rewrite.specs.laws.PassSteps.{is_pass}
 use Rattle.aql_rewrite.specs.laws.Steps.{some_step, refines_through_answers, sets_self, sets_through}
+use Rattle.aql_plan.specs.Executable.{HasExecutors}
 use Rattle.aql_rules_cluster.specs.OnShards.{ReadsOnShards}
 use Rattle.aql_rules_cluster.specs.ScatterInCluster.{Scatters}
 use Rattle.aql_rules_cluster.specs.inner.Walks.{ScatteredOnce, IsScattered}
+use Rattle.aql_rules_cluster.specs.laws.Executors.{executors_stay}
 use Rattle.aql_rules_cluster.specs.laws.Places.{none_alone, no_place_means_on_shards}
 use Rattle.aql_rules_cluster.specs.laws.Scattered.{scatters_refine}
 use Rattle.aql_rules_cluster.specs.laws.StayWell.{scatters_keep}
@@ -24,6 +26,7 @@ pub record Passes (facts : Facts) (p q : Plan) (changed : Bool) : Type 0 where
   pub well_formed : IsWellFormed facts [] q
   pub sets : SetsNoMore p q
   pub on_shards : ReadsOnShards facts q
+  pub executors : HasExecutors p → HasExecutors q
 
 module _ (facts : Facts) where
   record Sound (p q : Plan) : Type 0 where
@@ -57,6 +60,7 @@ module _ (facts : Facts) where
         well_formed = s.well_formed;
         sets = s.sets;
         on_shards = (no_place_means_on_shards facts q s.well_formed).0 (h.ended result_uses);
+        executors = executors_stay facts (h.reached result_uses);
       }
 
   -- ---- without servers
@@ -68,4 +72,5 @@ module _ (facts : Facts) where
     well_formed = well;
     sets = sets_self p;
     on_shards = λ servers. absurd (omega (arith, servers, e));
+    executors = λ h. h;
   }
