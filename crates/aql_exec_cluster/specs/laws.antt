@@ -1,4 +1,5 @@
 pub mod Fragments
+pub mod Locals
 pub mod Remotes
 pub mod Counts
 pub mod Merging

@@ -1,7 +1,7 @@
 //! A list of blocks that several executors read, each at a place of its own.
 
 ghost use Rattle.std.specs.Prelude.{◌≡◌, ◌-◌, ◌*◌, ◌<◌, ◌≤◌, ◌++◌, [], ◌∷◌, length, take, drop};
-ghost use Rattle.std.specs.Prelude.{slice_get, Some, MatchOption, IfOk, OnOk, OnErr};
+ghost use Rattle.std.specs.Prelude.{slice_get, true, Some, MatchOption, IfOk, OnOk, OnErr};
 ghost use Rattle.aql_block.specs.Tables.{rows_of};
 ghost use Rattle.aql_engine.specs.Run.{rows_in};
 ghost use Rattle.aql_exec_cluster.specs.Shared.{rows_at};
@@ -116,6 +116,14 @@ impl Blocks {
         let rows = copy_range(alloc, block, place.row, end)?;
         place.row = end;
         Ok(rows)
+    }
+
+    /// Whether no row is left after a place, which is moved to the next row.
+    pub fn is_over(&self, place: &mut Place) -> bool
+        ensures same { rows_at self.now place.new ≡ rows_at self.now place.old }
+        ensures over { result ≡ true → rows_at self.now place.old ≡ [] }
+    {
+        self.seek(place).is_none()
     }
 
     // Moves a place to the next row, and gives its block: none where no row is left.

@@ -9,9 +9,10 @@ ghost use Rattle.aql_exec.specs.Promises.{SameNode, Begun};
 ghost use Rattle.aql_engine.specs.Run.{rows_in};
 
 use crate::blocks::Blocks;
+use crate::remote::Remote;
 use aql_block::Row;
 use aql_engine::Choice;
-use aql_exec::{Surroundings, Wired};
+use aql_exec::{Executor, Surroundings, Wired, Wires};
 use aql_value::OutOfMemory;
 use std::alloc::Global;
 use std::rc::Rc;
@@ -54,5 +55,16 @@ impl<W: Surroundings, A: Founded<W>, B: Founded<W>> Founded<W> for Choice<A, B> 
             Choice::First(a) => a.begin_over(alloc, start, part),
             Choice::Second(b) => b.begin_over(alloc, start, part),
         }
+    }
+}
+
+impl<W: Wires> Founded<W> for Remote {
+    fn begin_over(
+        &mut self,
+        alloc: Global,
+        start: &Row,
+        _part: &Rc<Blocks>,
+    ) -> Result<(), OutOfMemory> {
+        <Remote as Executor<W>>::begin(self, alloc, start)
     }
 }

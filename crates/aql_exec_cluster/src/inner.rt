@@ -6,33 +6,61 @@ ghost use Rattle.aql_exec_cluster.specs.Fragments.{is_foot};
 use crate::blocks::Blocks;
 use crate::founded::Founded;
 use aql_block::{Call, Row, Step, Tally};
-use aql_exec::{Executor, Message, Surroundings, Turn, Wired};
+use aql_engine::Choice;
+use aql_exec::{
+    Executor, Mapped, Message, NoResults, RowMap, Stream, Surroundings, Transform, Turn, Unlinked,
+    Wired,
+};
 use aql_value::OutOfMemory;
 use std::alloc::Global;
-use std::marker::PhantomData;
 use std::rc::Rc;
 
-/// An executor in a fragment that takes its rows from its inputs alone.
-#[derive(Drop)]
-pub struct Inner<W: Surroundings, X: Wired<W>> {
-    executor: X,
-    over: PhantomData<W>,
-    pub ghost not_foot: { is_foot (X.node executor) ≡ false },
+/// An executor that owns no link and takes its rows from its inputs alone, so it is no foot of a
+/// fragment.
+pub trait AboveFoot<W: Surroundings>: Unlinked<W> {
+    ghost not_foot: { (s : Self) → is_foot (Self.node s) ≡ false };
 }
 
-impl<W: Surroundings, X: Wired<W>> Inner<W, X> {
-    pub fn new(executor: X) -> Inner<W, X>
-        requires { is_foot (X.node executor) ≡ false }
+impl<W: Surroundings, T: Transform<W>> AboveFoot<W> for Stream<T> {
+    ghost use Rattle.std.proofs.Common.{refl};
+
+    ghost not_foot = { λ _. refl };
+}
+
+impl<W: Surroundings, M: RowMap<W>> AboveFoot<W> for Mapped<M> {
+    ghost use Rattle.std.proofs.Common.{refl};
+
+    ghost not_foot = { λ _. refl };
+}
+
+impl<W: Surroundings> AboveFoot<W> for NoResults {
+    ghost use Rattle.std.proofs.Common.{refl};
+
+    ghost not_foot = { λ _. refl };
+}
+
+impl<W: Surroundings, A: AboveFoot<W>, B: AboveFoot<W>> AboveFoot<W> for Choice<A, B> {
+    ghost use Rattle.aql_exec_cluster.specs.laws.Locals.{neither_foot};
+
+    ghost not_foot = { neither_foot A.node B.node A.not_foot B.not_foot };
+}
+
+/// An executor above the foot, where one that may stand at it is asked for: it begins over any rows
+/// as it begins without.
+#[derive(Drop)]
+pub struct Inner<X> {
+    executor: X,
+}
+
+impl<X> Inner<X> {
+    pub fn new(executor: X) -> Inner<X>
         ensures { result.executor ≡ executor }
     {
-        Inner {
-            executor,
-            over: PhantomData,
-        }
+        Inner { executor }
     }
 }
 
-impl<W: Surroundings, X: Wired<W>> Executor<W> for Inner<W, X> {
+impl<W: Surroundings, X: Executor<W>> Executor<W> for Inner<X> {
     ghost gives = { λ s w p body ins r. X.gives s.executor w p body ins r };
 
     ghost node = { λ s. X.node s.executor };
@@ -109,11 +137,13 @@ impl<W: Surroundings, X: Wired<W>> Executor<W> for Inner<W, X> {
     ghost no_link = { λ s. X.no_link s.executor };
 }
 
-impl<W: Surroundings, X: Wired<W>> Wired<W> for Inner<W, X> {
-    ghost serves = { λ s. X.serves s.executor };
+impl<W: Surroundings, X: Unlinked<W>> Wired<W> for Inner<X> {
+    ghost use mathlib.Core.Bool.{false≢true};
 
-    fn owns(&self, link: u64) -> bool {
-        self.executor.owns(link)
+    ghost serves = { λ _. false };
+
+    fn owns(&self, _link: u64) -> bool {
+        false
     }
 
     fn begun(&self, input: u32) -> bool {
@@ -121,28 +151,28 @@ impl<W: Surroundings, X: Wired<W>> Wired<W> for Inner<W, X> {
     }
 
     fn received(&self) -> Option<Call> {
-        self.executor.received()
+        None
     }
 
     fn deliver(
         &mut self,
-        alloc: Global,
-        world: &mut W,
-        tally: &mut Tally,
-        link: u64,
-        message: Message,
+        _alloc: Global,
+        _world: &mut W,
+        _tally: &mut Tally,
+        _link: u64,
+        _message: Message,
     ) -> Result<(), OutOfMemory> {
-        self.executor.deliver(alloc, world, tally, link, message)
+        Ok(())
     }
 
-    ghost stuck_serves = { λ s. X.stuck_serves s.executor };
+    ghost stuck_serves = { λ s k h. absurd (X.not_stuck s.executor k h) };
 
-    ghost may_serve = { λ s. X.may_serve s.executor };
+    ghost may_serve = { λ _ _ h. absurd (false≢true h) };
 
-    ghost serves_port = { λ s. X.serves_port s.executor };
+    ghost serves_port = { λ _ h. absurd (false≢true h) };
 }
 
-impl<W: Surroundings, X: Wired<W>> Founded<W> for Inner<W, X> {
+impl<W: Surroundings, X: AboveFoot<W>> Founded<W> for Inner<X> {
     fn begin_over(
         &mut self,
         alloc: Global,

@@ -21,7 +21,7 @@ mod splits;
 pub use blocks::{Blocks, Place};
 pub use founded::Founded;
 pub use gather::Gather;
-pub use inner::Inner;
+pub use inner::{AboveFoot, Inner};
 pub use local::Local;
 pub use part::Part;
 pub use parted::Parted;

@@ -1,7 +1,7 @@
 //! The foot of a fragment: the rows that came to its shard.
 
-ghost use Rattle.std.specs.Prelude.{◌≡◌, ℕ, ◌+◌, ◌<◌, ◌≤◌, ◌^◌, ◌++◌, List, [], length};
-ghost use Rattle.std.specs.Prelude.{option_map, false, IfOk};
+ghost use Rattle.std.specs.Prelude.{◌≡◌, ◌⊎◌, ℕ, ◌+◌, ◌<◌, ◌≤◌, ◌^◌, ◌++◌, List, [], length};
+ghost use Rattle.std.specs.Prelude.{option_map, true, false, IfOk};
 ghost use Rattle.std.specs.Rc.{rc_value};
 ghost use Rattle.std.proofs.Math.Nat.{le_refl};
 ghost use mathlib.Core.Bool.{false≢true};
@@ -27,13 +27,13 @@ pub struct Part {
     place: Place,
 }
 
-// Nothing more comes where a step tells of no row.
-fn progress_after(reported: u64) -> Progress
-    ensures done { result ≡ Progress.Done → reported ≡ 0 }
+// Nothing more comes where a step tells of no row, or where none is left.
+fn progress_after(reported: u64, is_over: bool) -> Progress
+    ensures done { result ≡ Progress.Done → (reported ≡ 0) ⊎ (is_over ≡ true) }
     ensures more { result ≡ Progress.HasMore → 0 < reported }
     ensures ready { result ≡ Progress.Waiting → ⊥ }
 {
-    if reported == 0 {
+    if reported == 0 || is_over {
         Progress::Done
     } else {
         Progress::HasMore
@@ -70,11 +70,12 @@ impl Part {
             return Ok(Step {
                 skipped,
                 block: Block::empty(alloc),
-                progress: progress_after(skipped),
+                progress: progress_after(skipped, false),
             });
         }
         let block = list.copy_rows(alloc, &mut self.place, call.soft)?;
-        let progress = progress_after(u64::from(block.len()));
+        let is_over = list.is_over(&mut self.place);
+        let progress = progress_after(u64::from(block.len()), is_over);
         Ok(Step {
             skipped: 0,
             block,
