@@ -23,6 +23,7 @@ use aql_shard::Servers;
 use aql_show::plan_text;
 use aql_value::OutOfMemory;
 use std::alloc::Global;
+use std::mem;
 
 /// What is printed of a script: the text of the plan that is chosen for its query, or what the run
 /// of this plan by the engine gives; or the fault where there is none.
@@ -97,6 +98,8 @@ fn run_on<G: Engine<Schedule>>(
     let before = engine.held().len();
     let mut schedule = Schedule::new(0);
     engine.run(alloc, plan, &mut servers, &mut schedule, settings.batch)?;
+    // the program ends soon, and the system then takes all documents back at once
+    mem::forget(servers);
     match engine.held().get(before) {
         Some(ran) => run_text(alloc, settings, ran),
         None => unreachable!(),
