@@ -7,29 +7,32 @@ use Rattle.aql_plan.specs.Runs.{Dataset, result_of}
 use Rattle.aql_plan.specs.Refines.{Answers}
 use Rattle.aql_plan.specs.WellFormed.{IsWellFormed}
 use Rattle.aql_block.specs.declared.tally.Tally.{Tally}
-use Rattle.aql_exec.specs.Rests.{Counter, scanned_full, scanned_index, filtered, Counts, Exact, Rest}
+use Rattle.aql_exec.specs.Rests.{Counter, scanned_full, scanned_index, filtered, sent_on, Counts, Exact, Rest}
 use Rattle.aql_exec.specs.Rising.{Rose, TallyRose}
 use Rattle.aql_exec.specs.Reads.{reads_little}
 use Rattle.aql_exec.specs.Operators.{Produces, exact_tree}
-use Rattle.aql_net.specs.Logs.{IsLog}
+use Rattle.aql_net.specs.declared.logs.LogEntry.{LogEntry}
+use Rattle.aql_net.specs.Logs.{IsLog, rows_on}
 use Rattle.aql_engine.specs.OperatorsOf.{operators_of}
-use Rattle.aql_plan.specs.Shapes.{HasNoFragment}
+use Rattle.aql_plan.specs.Executable.{HasExecutors}
 use Rattle.aql_engine.specs.declared.engine.Ran.{Ran}
 
--- a plan that can be run over these documents: it is well formed and has no fragment
+-- a plan that can be run over these documents: it is well formed, and each of its nodes has an executor
 pub record CanRun (w : Dataset) (plan : Plan) : Type 0 where
   pub well_formed : IsWellFormed w.facts [] (plan_tree plan)
-  pub without_fragments : HasNoFragment (plan_tree plan)
+  pub executors : HasExecutors (plan_tree plan)
 
 abbrev pub no_tally : Tally
 no_tally = record { scanned_full = 0; scanned_index = 0; filtered = 0 }
 
--- a tally counts at most so much, and all of what is exact; each number stays at the largest of 64 bits
-pub record Tallied (e : Exact) (t : Tally) (d : Counts) : Type 0 where
+-- a tally, and a log by the rows that were skipped and sent on each link, count at most so much, and all of
+-- what is exact; each number of the tally stays at the largest of 64 bits
+pub record Tallied (e : Exact) (t : Tally) (log : List LogEntry) (d : Counts) : Type 0 where
   pub added : Counts
   pub most : (c : Counter) → added c ≤ d c
   pub exact : (c : Counter) → e c ≡ true → d c ≤ added c
   pub tally : TallyRose no_tally t (added scanned_full) (added scanned_index) (added filtered)
+  pub sent : (l : ℕ) → rows_on l log ≡ added (sent_on l)
 
 -- the counts of the servers rose by the documents that a tally counts
 pub record OwnCounted (own own' t : Tally) : Type 0 where
@@ -40,14 +43,16 @@ pub record OwnCounted (own own' t : Tally) : Type 0 where
 
 -- the values of an entry are an answer of its plan over these documents, and it counts what the executors of
 -- the plan count on the way to these values: no more, and exactly that where the plan has no LIMIT, but for
--- documents that a traversal finds. A plan that reads little reads no more documents than it gives values. Its
--- log is one of links on which no more rows are asked for at a time than a step may give
+-- documents that a traversal finds. The rows that each link carried are counted so too: no more than the rows of
+-- its Remotes on the way to these values, and as many where there is no LIMIT. The log is one of links on which
+-- no more rows are asked for at a time than a step may give. A plan that reads little reads no more documents
+-- than it gives values
 pub record IsRunOver (w : Dataset) (ran : Ran) : Type 0 where
   pub answer : Answers (plan_tree ran.plan) w empty_row ran.values
   pub rest : Rest
   pub produced : Produces (operators_of w.facts (plan_tree ran.plan)) w empty_row rest
   pub values : ran.values ≡ map result_of rest.rows
-  pub counted : Tallied (exact_tree (operators_of w.facts (plan_tree ran.plan))) ran.tally rest.counts
+  pub counted : Tallied (exact_tree (operators_of w.facts (plan_tree ran.plan))) ran.tally ran.log rest.counts
   pub little : reads_little (operators_of w.facts (plan_tree ran.plan)) ≡ true
       → ran.tally.scanned_full ≤ length ran.values
   pub logged : IsLog ran.batch ran.log
