@@ -1,7 +1,7 @@
 -- Which words of the command line give which settings: the words are those of one simple command, without
 -- positional arguments, in the definition of the crate clap; and the value of each option is in its set. An
 -- option that is left out has its default. The first word is the program's name.
-use Rattle.std.specs.Prelude.{◌≡◌, ◌≤◌, ◌↔◌, ◌⊎◌, ℕ, List, [], map, codes, Bool, true, false, nat_eq, Option, None, Some}
+use Rattle.std.specs.Prelude.{◌≡◌, ◌≤◌, ◌↔◌, ◌⊎◌, ℕ, List, [], ◌∷◌, map, codes, Bool, true, false, nat_eq, Option, None, Some}
 use Rattle.std.specs.List.{slice_split, Contains}
 use Rattle.std.specs.Str.Parse.{IsNumeral, digits_value}
 use Rattle.clap.specs.Words.{App, Rule, Text, new_app, new_rule, with_rule, first_of, matches_of}
@@ -31,10 +31,15 @@ program = on_top (λ (s : Shape). record s {
   disable_version_flag = true;
 }) (new_app (codes "aql_shell"))
 
+-- an application with more options
+abbrev pub with_rules : App → List Rule → App
+with_rules app [] = app
+with_rules app (r ∷ rs) = with_rules (with_rule app r) rs
+
 abbrev pub command : App
-command = with_rule (with_rule (with_rule (with_rule (with_rule program
-    (valued (codes "batch"))) (valued (codes "rules"))) (flag (codes "explain"))) (flag (codes "stats")))
-    (valued (codes "generate"))
+command = with_rules program (valued (codes "servers") ∷ valued (codes "batch")
+    ∷ valued (codes "schedule") ∷ valued (codes "rules") ∷ flag (codes "explain") ∷ flag (codes "trace")
+    ∷ flag (codes "stats") ∷ valued (codes "generate") ∷ [])
 
 -- ---- values
 
@@ -43,9 +48,17 @@ abbrev pub IsNumber : ℕ → ℕ → Text → ℕ → Type 0
 IsNumber least most text n =
     IsNumeral 10 text × (digits_value 10 text ≡ n) × (least ≤ n) × (n ≤ most)
 
+abbrev pub IsServers : Option Text → ℕ → Type 0
+IsServers None n = n ≡ 0
+IsServers (Some text) n = IsNumber 0 16 text n
+
 abbrev pub IsBatch : Option Text → ℕ → Type 0
 IsBatch None n = n ≡ 1000
 IsBatch (Some text) n = IsNumber 1 10000 text n
+
+abbrev pub IsSchedule : Option Text → ℕ → Type 0
+IsSchedule None n = n ≡ 0
+IsSchedule (Some text) n = IsNumber 0 18446744073709551615 text n
 
 abbrev pub HasAll : Rules → Type 0
 HasAll rules = (r : RuleName) → Has rules r
@@ -80,15 +93,14 @@ IsGenerated (Some text) (Some n) = IsNumber 1 100000 text n
 
 -- the settings that the values of the options give, by the options' names
 pub record AreSettings (value_of : Text → Option Text) (settings : Settings) : Type 0 where
+  pub servers : IsServers (value_of (codes "servers")) settings.servers
   pub batch : IsBatch (value_of (codes "batch")) settings.batch
+  pub schedule : IsSchedule (value_of (codes "schedule")) settings.schedule
   pub rules : AreRules (value_of (codes "rules")) settings.rules
   pub explain : IsFlag (value_of (codes "explain")) settings.explain
+  pub trace : IsFlag (value_of (codes "trace")) settings.trace
   pub stats : IsFlag (value_of (codes "stats")) settings.stats
   pub generate : IsGenerated (value_of (codes "generate")) settings.generate
-  -- what no option sets yet
-  pub servers : settings.servers ≡ 0
-  pub schedule : settings.schedule ≡ 0
-  pub trace : settings.trace ≡ false
 
 -- the words give these settings
 pub record Words (words : List Text) (settings : Settings) : Type 0 where

@@ -34,10 +34,13 @@ fn with<'a>(command: Command<'a>, option: Arg<'a>) -> Result<Command<'a>, AllocE
 pub(crate) fn command<'a>(alloc: Global) -> Result<Command<'a>, AllocError>
     ensures { IfOk result (λ c. app_of c ≡ command) }
 {
-    let program = program(alloc);
-    let command = with(program, valued(alloc, "batch"))?;
+    let command = program(alloc);
+    let command = with(command, valued(alloc, "servers"))?;
+    let command = with(command, valued(alloc, "batch"))?;
+    let command = with(command, valued(alloc, "schedule"))?;
     let command = with(command, valued(alloc, "rules"))?;
     let command = with(command, flag(alloc, "explain"))?;
+    let command = with(command, flag(alloc, "trace"))?;
     let command = with(command, flag(alloc, "stats"))?;
     with(command, valued(alloc, "generate"))
 }

@@ -2,7 +2,7 @@
 
 ghost use Rattle.std.specs.Prelude.{◌≡◌, ◌↔◌, IfOk, ℕ, Option, MatchOption, option_map};
 ghost use Rattle.aql_plan.specs.declared.rule_sets.Rules.{Rules};
-ghost use Rattle.aql_options.specs.Words.{IsNumber, IsBatch, IsFlag, IsGenerated, AreRules};
+ghost use Rattle.aql_options.specs.Words.{IsNumber, IsServers, IsBatch, IsSchedule, IsFlag, IsGenerated, AreRules};
 
 use crate::rule_lists::rules_of;
 use aql_plan::Rules;
@@ -23,6 +23,28 @@ fn number(text: &str, least: u32, most: u32) -> Option<u32>
     }
 }
 
+// The number that decimal digits stand for, where it has 64 bits at most.
+fn long_number(text: &str) -> Option<u64>
+    ensures { MatchOption result ((n : ℕ) → IsNumber 0 18446744073709551615 text.now n → ⊥)
+        (IsNumber 0 18446744073709551615 text.now) }
+{
+    if text.as_bytes().first() == Some(&b'+') {
+        return None;
+    }
+    text.parse::<u64>().ok()
+}
+
+pub(crate) fn servers_of(value: Option<&str>) -> Option<u32>
+    ensures { MatchOption result
+        ((n : ℕ) → IsServers (option_map (λ s. s.now) value.entry) n → ⊥)
+        (IsServers (option_map (λ s. s.now) value.entry)) }
+{
+    match value {
+        None => Some(0),
+        Some(text) => number(text, 0, 16),
+    }
+}
+
 pub(crate) fn batch_of(value: Option<&str>) -> Option<u32>
     ensures { MatchOption result
         ((n : ℕ) → IsBatch (option_map (λ s. s.now) value.entry) n → ⊥)
@@ -31,6 +53,17 @@ pub(crate) fn batch_of(value: Option<&str>) -> Option<u32>
     match value {
         None => Some(1000),
         Some(text) => number(text, 1, 10_000),
+    }
+}
+
+pub(crate) fn schedule_of(value: Option<&str>) -> Option<u64>
+    ensures { MatchOption result
+        ((n : ℕ) → IsSchedule (option_map (λ s. s.now) value.entry) n → ⊥)
+        (IsSchedule (option_map (λ s. s.now) value.entry)) }
+{
+    match value {
+        None => Some(0),
+        Some(text) => long_number(text),
     }
 }
 

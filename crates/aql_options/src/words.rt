@@ -10,7 +10,7 @@ ghost use Rattle.aql_options.specs.declared.words.WordsFault.TheVariants.{Memory
 
 use crate::Settings;
 use crate::command::command;
-use crate::values::{batch_of, generate_of, is_on, rules_or_all};
+use crate::values::{batch_of, generate_of, is_on, rules_or_all, schedule_of, servers_of};
 use aql_value::{Names, OutOfMemory};
 use clap::error::ErrorKind;
 use clap::{ArgMatches, Error};
@@ -90,7 +90,13 @@ fn settings_of(alloc: Global, matches: &ArgMatches<'_>) -> Result<Settings, Word
     ensures refused { IsErrOf result WordsFault.Refused → (settings : Settings)
         → AreSettings (first_value (found_of matches.now)) settings → ⊥ }
 {
+    let Some(servers) = servers_of(matches.get_str("servers")) else {
+        return Err(WordsFault::Refused);
+    };
     let Some(batch) = batch_of(matches.get_str("batch")) else {
+        return Err(WordsFault::Refused);
+    };
+    let Some(schedule) = schedule_of(matches.get_str("schedule")) else {
         return Err(WordsFault::Refused);
     };
     let Some(rules) = rules_or_all(alloc, matches.get_str("rules"))? else {
@@ -100,12 +106,12 @@ fn settings_of(alloc: Global, matches: &ArgMatches<'_>) -> Result<Settings, Word
         return Err(WordsFault::Refused);
     };
     Ok(Settings {
-        servers: 0,
+        servers,
         batch,
-        schedule: 0,
+        schedule,
         rules,
         explain: is_on(matches.get_str("explain")),
-        trace: false,
+        trace: is_on(matches.get_str("trace")),
         stats: is_on(matches.get_str("stats")),
         generate,
     })

@@ -2,8 +2,12 @@
 use Rattle.std.proofs.Common.{◌≡◌, ◌∙◌, ◌≤◌, ℕ, List, Bool, true, Option, None, Some, sym, ap, arith}
 use Rattle.std.specs.Prelude.{⊤, MatchOption}
 use Rattle.clap.specs.Words.{Text}
-use Rattle.aql_options.specs.Words.{IsBatch, IsFlag, IsGenerated, Words}
+use Rattle.aql_options.specs.Words.{IsServers, IsBatch, IsFlag, IsGenerated, Words}
 use Rattle.aql_options.specs.declared.settings.Settings.{Settings}
+
+servers_within : (value : Option Text) (n : ℕ) → IsServers value n → n ≤ 16
+servers_within None n e = omega (arith, e)
+servers_within (Some text) n h = h.3
 
 batch_within : (value : Option Text) (n : ℕ) → IsBatch value n → (1 ≤ n) × (n ≤ 10000)
 batch_within None n e = (omega (arith, e), omega (arith, e))
@@ -26,6 +30,9 @@ one_flag : (value : Option Text) (a b : Bool) → IsFlag value a → IsFlag valu
 one_flag value a b h k on = k.1 (h.0 on)
 
 module _ (words : List Text) where
+  pub servers_bound : (s : Settings) → Words words s → s.servers ≤ 16
+  servers_bound s w = servers_within _ s.servers w.values.servers
+
   pub batch_bounds : (s : Settings) → Words words s → (1 ≤ s.batch) × (s.batch ≤ 10000)
   batch_bounds s w = batch_within _ s.batch w.values.batch
 
