@@ -1,7 +1,7 @@
--- The operators of a plan that can be run are a tree: each of its nodes fits, and it has no fragment. And what
--- the tally of a run counts.
+-- A plan that can be run has a tree: each of its nodes fits and stands where it should, and what its COLLECTs
+-- set are numbers. And what the tally of a run counts.
 use Rattle.std.specs.List.{AllByRecursion}
-use Rattle.std.proofs.Common.{subst, ℕ, ◌≡◌}
+use Rattle.std.proofs.Common.{subst, ℕ, ◌≡◌, List, arith}
 use Rattle.aql_value.specs.laws.Alls.{all_parts}
 use Rattle.aql_block.specs.declared.tally.Tally.{Tally}
 use Rattle.aql_plan.specs.declared.facts.Facts.{Facts}
@@ -13,12 +13,11 @@ use Rattle.aql_plan.specs.Shapes.{Shape, IsOuter, ReadsFragment, ReadsShard, Kee
 use Rattle.aql_exec.specs.Rests.{Counter, scanned_full, scanned_index, filtered, Counts, Exact}
 use Rattle.aql_exec.specs.Rising.{Rose, TallyRose, IsExact, Rises}
 use Rattle.aql_exec.specs.declared.surroundings.Surroundings
+use Rattle.aql_net.specs.declared.logs.LogEntry.{LogEntry}
+use Rattle.aql_net.specs.Logs.{rows_on}
 use Rattle.aql_engine.specs.Engine.{no_tally, Tallied, OwnCounted}
-use Rattle.aql_exec.specs.Operators.{IsTree}
 use Rattle.aql_engine.specs.EachFits.{EachFits, BodyFits}
-use Rattle.aql_engine.specs.OperatorsOf.{operators_of}
-use Rattle.aql_plan.specs.Shapes.{HasNoFragment, IsNoFragment}
-use Rattle.aql_engine.specs.laws.Trees.{plain_tree}
+use Rattle.aql_plan.specs.Executable.{HasExecutors, HasExecutor}
 use Rattle.aql_local.specs.Building.{SetsNumbers, NodeSetsNumbers}
 
 -- ---- each node fits
@@ -63,22 +62,16 @@ shaped_fits facts p s (joining {b = b} h) = (shaped_fits facts b _ h, tt, tt)
 shaped_fits facts p s (finishing {b = b} f h) = (shaped_fits facts b _ h, f, tt)
 shaped_fits facts p s (returning {b = b} f h) = (shaped_fits facts b _ h, f, tt)
 
--- ---- the operators are a tree
-
-pub runs_tree : (facts : Facts) (p : Plan) (s : Shape) → Shaped facts p s → HasNoFragment p
-    → IsTree facts (operators_of facts p)
-runs_tree facts p s h e = plain_tree facts p e (shaped_fits facts p s h)
-
 -- ---- what a COLLECT sets are numbers
 
 mutual
-  pub sets_numbers : (p : Plan) → HasNoFragment p → AllByRecursion IsNumber (vars_set p) → SetsNumbers p
+  pub sets_numbers : (p : Plan) → HasExecutors p → AllByRecursion IsNumber (vars_set p) → SetsNumbers p
   sets_numbers Singleton h a = tt
   sets_numbers (Over b n) h a =
       let both = all_parts IsNumber (set_once n) (vars_set b) a in
       (sets_numbers b h.0 both.1, node_sets_numbers n h.1 both.0)
 
-  node_sets_numbers : (n : Node) → IsNoFragment n → AllByRecursion IsNumber (set_once n) → NodeSetsNumbers n
+  node_sets_numbers : (n : Node) → HasExecutor n → AllByRecursion IsNumber (set_once n) → NodeSetsNumbers n
   node_sets_numbers (Subquery x body) h a = sets_numbers body h a.1
   node_sets_numbers (Collect xs es gs i stage.Whole) h a = a
   node_sets_numbers (Collect xs es gs i stage.Partial) h a = absurd h
@@ -89,13 +82,16 @@ mutual
 
 -- what a tally that began at nothing counts
 pub counted_from_none : {W : Type 0} (p : Surroundings.Ghosts W) (e : Exact) (t t' : Tally) (w w' : W) (d : Counts)
-    → t ≡ no_tally → Rises p (IsExact e) t w t' w' d → Tallied e t' d
-counted_from_none p e t t' w w' d k h = record {
+    (log : List LogEntry) → ((l : ℕ) → (p.flight w l).sent ≡ 0)
+    → ((l : ℕ) → rows_on l log ≡ (p.flight w' l).sent)
+    → t ≡ no_tally → Rises p (IsExact e) t w t' w' d → Tallied e t' log d
+counted_from_none p e t t' w w' d log none sent k h = record {
   added = h.added;
   most = h.most;
   exact = h.exact;
   tally = subst (λ (z : Tally). TallyRose z t' (h.added scanned_full) (h.added scanned_index) (h.added filtered))
       k (h.full, h.index, h.dropped);
+  sent = λ l. (let a = none l in let b = sent l in let s = h.sent l in omega (arith, a, b, s));
 }
 
 -- and the servers count the same

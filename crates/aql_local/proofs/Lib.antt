@@ -1,6 +1,9 @@
 pub mod Returned
 pub mod CanRun
+pub mod Apart
 pub mod Trees
+pub mod OnShards
+pub mod Reached
 pub mod Looked
 pub mod Places
 pub mod Ways

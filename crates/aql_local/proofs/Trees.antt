@@ -1,17 +1,17 @@
 -- The operators of a plan by its top node, its input and its body; and what holds of a body.
-use Rattle.std.proofs.Common.{◌≡◌, ◌≤◌, ◌+◌, Some, None, false, refl, ap, subst, arith}
+use Rattle.std.proofs.Common.{◌≡◌, ◌≤◌, ◌+◌, Some, None, true, false, refl, ap, subst, arith}
 use Rattle.aql_plan.specs.declared.facts.Facts.{Facts}
 use Rattle.aql_plan.specs.Nodes.{weight, weight_in, body_in}
 use Rattle.aql_plan.specs.Plan.{Plan, Singleton, Over, Node, Subquery, NoResults, Scatter, Distribute, Remote, Gather, top}
 use Rattle.aql_exec.specs.Operators.{NoRows, leaf, within}
 use Rattle.aql_engine.specs.EachFits.{EachFits, BodyFits}
 use Rattle.aql_engine.specs.OperatorsOf.{operators_of}
-use Rattle.aql_plan.specs.Shapes.{HasNoFragment, IsNoFragment}
+use Rattle.aql_local.specs.Fragments.{IsFragment, StandsApart, FootStandsApart, StandsOutside, is_gather}
 use Rattle.aql_local.specs.Building.{operator_of, body_operators, gives_none, SetsNumbers, NodeSetsNumbers}
 
 -- ---- operators
 
-pub node_operators : (facts : Facts) (b : Plan) (n : Node) → IsNoFragment n → gives_none (Over b n) ≡ false
+pub node_operators : (facts : Facts) (b : Plan) (n : Node) → StandsOutside n → gives_none (Over b n) ≡ false
     → within (operator_of n) (operators_of facts b) (body_operators facts n) ≡ operators_of facts (Over b n)
 node_operators facts b NoResults h e = absurd (cc)
 node_operators facts b (Scatter coll only) h e = absurd h
@@ -29,11 +29,23 @@ pub no_body : (facts : Facts) (n : Node) → body_in n ≡ None → leaf NoRows 
 no_body facts (Subquery x t) e = absurd (cc)
 no_body facts n e = refl
 
+-- ---- inputs
+
+pub apart_below : (b : Plan) (n : Node) → is_gather n ≡ false → StandsApart (Over b n)
+    → StandsApart b × StandsOutside n
+apart_below b (Gather directions es) e h = absurd (cc)
+apart_below b n e h = h
+
+pub apart_fragment : (b : Plan) (n : Node) → is_gather n ≡ true → StandsApart (Over b n)
+    → IsFragment b × FootStandsApart b
+apart_fragment b (Gather directions es) e h = h
+apart_fragment b n e h = absurd (cc)
+
 -- ---- bodies
 
-pub body_without_fragments : (n : Node) (s : Plan) → body_in n ≡ Some s → IsNoFragment n → HasNoFragment s
-body_without_fragments (Subquery x t) s e h = let k : t ≡ s = cc in subst HasNoFragment k h
-body_without_fragments n s e h = absurd (cc)
+pub body_apart : (n : Node) (s : Plan) → body_in n ≡ Some s → StandsOutside n → StandsApart s
+body_apart (Subquery x t) s e h = let k : t ≡ s = cc in subst StandsApart k h
+body_apart n s e h = absurd (cc)
 
 pub body_fits : (facts : Facts) (n : Node) (s : Plan) → body_in n ≡ Some s → BodyFits facts n → EachFits facts s
 body_fits facts (Subquery x t) s e h = let k : t ≡ s = cc in subst (EachFits facts) k h

@@ -1,36 +1,39 @@
 //! The tree of executors of a plan.
 
-ghost use Rattle.std.specs.Prelude.{◌≡◌, IfOk};
-ghost use Rattle.aql_tree.specs.declared.syntax.Ident.TheVariants.{Num};
+ghost use Rattle.std.specs.Prelude.{◌≡◌, ◌<◌, ◌^◌, length, true, IfOk};
 ghost use Rattle.aql_plan.specs.declared.facts.Facts.{Facts};
 ghost use Rattle.aql_plan.specs.Plan as spec;
 ghost use Rattle.aql_plan.specs.Fits.{Fits};
-ghost use Rattle.aql_plan.specs.View.{maybe_tree, node_tree, plan_tree};
-ghost use Rattle.aql_exec.specs.Operators.{StartRow, NoRows, OnRows, within};
-ghost use Rattle.aql_exec_scan.specs.Scans as scans;
+ghost use Rattle.aql_plan.specs.View.{node_tree, plan_tree};
+ghost use Rattle.aql_exec.specs.Operators.{StartRow, NoRows, OnRows};
 ghost use Rattle.aql_exec_graph.specs.Searches as graph;
 ghost use Rattle.aql_engine.specs.EachFits.{EachFits, BodyFits};
 ghost use Rattle.aql_engine.specs.OperatorsOf.{operators_of};
-ghost use Rattle.aql_plan.specs.Shapes.{HasNoFragment, IsNoFragment};
+ghost use Rattle.aql_shard.specs.Datasets.{stock};
 ghost use Rattle.aql_local.specs.Building.{operator_of, body_operators, gives_none, node_gives_none};
 ghost use Rattle.aql_local.specs.Building.{IsIndexNode, IsTraversal, SetsNumbers, NodeSetsNumbers};
+ghost use Rattle.aql_local.specs.Fragments.{StandsApart, StandsOutside, is_gather};
+ghost use Rattle.aql_local.specs.Fragments.{gather_operator};
 
 use crate::World;
 use crate::bounds::copy_last;
+use crate::fragments::{ShardExecutor, below_foot, foot_of, with_body};
+use crate::gathers::{OfNode, gather_executor, unlinked};
 use crate::nodes::{
-    NodeExecutor, calculation, collect, distinct_results, enumerate_collection, enumerate_list,
+    UnlinkedNode, calculation, collect, distinct_results, enumerate_collection, enumerate_list,
     filter, index, limit, no_results, results, sort, start_row, subquery, traversal,
 };
+use crate::reach::shards_reached;
+use crate::readings::reading_of;
 use aql_engine::Tree;
-use aql_exec::{Executor, Feed, Wired};
+use aql_exec::{Executor, Feed, Unlinked, Wired};
 use aql_exec_graph::Search;
-use aql_exec_scan::Reading;
 use aql_plan::{Node, Plan};
+use aql_shard::Servers;
 use aql_tree::{
-    Expr, copy_aggregates, copy_colls, copy_expr, copy_exprs, copy_into, copy_keys, copy_lets,
-    copy_maybe, copy_maybe_texts,
+    copy_aggregates, copy_colls, copy_expr, copy_exprs, copy_into, copy_keys, copy_lets, copy_maybe,
 };
-use aql_value::{CollNo, Names, OutOfMemory};
+use aql_value::OutOfMemory;
 use std::alloc::Global;
 
 /// Executors of which the tree of a plan is made. The tree is made of any such type, so its proof
@@ -44,36 +47,88 @@ pub trait PlanExecutor: Wired<World> + Drop {
     fn no_results() -> Self
         ensures { Self.node result ≡ NoRows };
 
-    /// The executor of the node at the top of a plan.
+    /// The executor of the node at the top of a plan, where that is no Gather.
     fn of_node(alloc: Global, plan: &Plan) -> Result<Self, OutOfMemory>
-        requires no_fragment { IsNoFragment (spec.top (plan_tree plan.now)) }
+        requires outside { StandsOutside (spec.top (plan_tree plan.now)) }
+        requires fits { (facts : Facts) × Fits facts (spec.top (plan_tree plan.now)) }
+        requires numbers { NodeSetsNumbers (spec.top (plan_tree plan.now)) }
+        ensures { IfOk result (λ x. Self.node x ≡ operator_of (spec.top (plan_tree plan.now))) };
+
+    /// The executor of a Gather at the top of a plan, with its fragment on each of these shards.
+    fn of_gather(alloc: Global, plan: &Plan, shards: Vec<u32>) -> Result<Self, OutOfMemory>
+        requires gather { is_gather (spec.top (plan_tree plan.now)) ≡ true }
+        requires apart { StandsApart (plan_tree plan.now) }
+        requires few { length shards.items < 2 ^ 32 }
+        ensures { IfOk result (λ x. (facts : Facts) → Self.node x
+            ≡ gather_operator facts shards.items (plan_tree plan.now)) };
+}
+
+/// Those of them that own no link.
+pub trait UnlinkedExecutor: Unlinked<World> + Drop {
+    /// The executor of the start row.
+    fn start_row() -> Self
+        ensures { Self.node result ≡ StartRow };
+
+    /// The executor that gives no row.
+    fn no_results() -> Self
+        ensures { Self.node result ≡ NoRows };
+
+    /// The executor of the node at the top of a plan, where that is no Gather.
+    fn of_node(alloc: Global, plan: &Plan) -> Result<Self, OutOfMemory>
+        requires outside { StandsOutside (spec.top (plan_tree plan.now)) }
         requires fits { (facts : Facts) × Fits facts (spec.top (plan_tree plan.now)) }
         requires numbers { NodeSetsNumbers (spec.top (plan_tree plan.now)) }
         ensures { IfOk result (λ x. Self.node x ≡ operator_of (spec.top (plan_tree plan.now))) };
 }
 
-impl PlanExecutor for NodeExecutor {
-    fn start_row() -> NodeExecutor {
+impl UnlinkedExecutor for UnlinkedNode {
+    fn start_row() -> UnlinkedNode {
         start_row()
     }
 
-    fn no_results() -> NodeExecutor {
+    fn no_results() -> UnlinkedNode {
         no_results()
     }
 
-    fn of_node(alloc: Global, plan: &Plan) -> Result<NodeExecutor, OutOfMemory> {
+    fn of_node(alloc: Global, plan: &Plan) -> Result<UnlinkedNode, OutOfMemory> {
         top_executor(alloc, plan)
     }
 }
 
-/// The executors of a plan as one tree.
+impl<U: UnlinkedExecutor, X: ShardExecutor> PlanExecutor for OfNode<U, X> {
+    fn start_row() -> OfNode<U, X> {
+        unlinked(U::start_row())
+    }
+
+    fn no_results() -> OfNode<U, X> {
+        unlinked(U::no_results())
+    }
+
+    fn of_node(alloc: Global, plan: &Plan) -> Result<OfNode<U, X>, OutOfMemory> {
+        Ok(unlinked(U::of_node(alloc, plan)?))
+    }
+
+    fn of_gather(
+        alloc: Global,
+        plan: &Plan,
+        shards: Vec<u32>,
+    ) -> Result<OfNode<U, X>, OutOfMemory> {
+        gather_executor(alloc, plan, shards)
+    }
+}
+
+/// The executors of a plan as one tree, over these servers.
 #[cycle(tree)]
-pub fn tree_of<X: PlanExecutor>(alloc: Global, plan: &Plan) -> Result<Tree<X>, OutOfMemory>
-    requires no_fragment { HasNoFragment (plan_tree plan.now) }
-    requires fits { (facts : Facts) × EachFits facts (plan_tree plan.now) }
+pub fn tree_of<X: PlanExecutor>(
+    alloc: Global,
+    servers: &Servers,
+    plan: &Plan,
+) -> Result<Tree<X>, OutOfMemory>
+    requires apart { StandsApart (plan_tree plan.now) }
+    requires fits { EachFits (stock servers.now).facts (plan_tree plan.now) }
     requires numbers { SetsNumbers (plan_tree plan.now) }
-    ensures { IfOk result (λ t. (facts : Facts) → ⟦<Tree<X> as Feed<World>>⟧.plan t
-        ≡ operators_of facts (plan_tree plan.now)) }
+    ensures { IfOk result (λ t. ⟦<Tree<X> as Feed<World>>⟧.plan t
+        ≡ operators_of (stock servers.now).facts (plan_tree plan.now)) }
 {
     match plan.below() {
         None => Ok(Tree::Leaf(X::start_row())),
@@ -81,26 +136,72 @@ pub fn tree_of<X: PlanExecutor>(alloc: Global, plan: &Plan) -> Result<Tree<X>, O
             if is_no_results(plan) {
                 return Ok(Tree::Leaf(X::no_results()));
             }
+            if has_gather(plan) {
+                return gather_tree(alloc, servers, plan, below);
+            }
             let executor = X::of_node(alloc, plan)?;
-            let below = tree_of(alloc, below)?;
-            let body = body_of(alloc, plan)?;
+            let below = tree_of(alloc, servers, below)?;
+            let body = body_of(alloc, servers, plan)?;
             with_body(alloc, executor, below, body)
         }
     }
 }
 
+// The tree of a plan with a Gather at its top: over what stands below the foot of its fragment.
+#[cycle(tree)]
+fn gather_tree<X: PlanExecutor>(
+    alloc: Global,
+    servers: &Servers,
+    plan: &Plan,
+    fragment: &Plan,
+) -> Result<Tree<X>, OutOfMemory>
+    requires fragment { plan_tree plan.now
+        ≡ spec.Over (plan_tree fragment.now) (spec.top (plan_tree plan.now)) }
+    requires gather { is_gather (spec.top (plan_tree plan.now)) ≡ true }
+    requires apart { StandsApart (plan_tree plan.now) }
+    requires fits { EachFits (stock servers.now).facts (plan_tree plan.now) }
+    requires numbers { SetsNumbers (plan_tree plan.now) }
+    ensures { IfOk result (λ t. ⟦<Tree<X> as Feed<World>>⟧.plan t
+        ≡ operators_of (stock servers.now).facts (plan_tree plan.now)) }
+{
+    let shards = shards_reached(alloc, servers, foot_of(fragment))?;
+    let executor = X::of_gather(alloc, plan, shards)?;
+    let below = tree_of(alloc, servers, below_foot(fragment))?;
+    let body = Tree::Leaf(X::no_results());
+    with_body(alloc, executor, below, body)
+}
+
 // The tree of the body of a plan's top node. Where it has none, this is a leaf that never begins.
 #[cycle(tree)]
-fn body_of<X: PlanExecutor>(alloc: Global, plan: &Plan) -> Result<Tree<X>, OutOfMemory>
-    requires no_fragment { IsNoFragment (spec.top (plan_tree plan.now)) }
-    requires fits { (facts : Facts) × BodyFits facts (spec.top (plan_tree plan.now)) }
+fn body_of<X: PlanExecutor>(
+    alloc: Global,
+    servers: &Servers,
+    plan: &Plan,
+) -> Result<Tree<X>, OutOfMemory>
+    requires outside { StandsOutside (spec.top (plan_tree plan.now)) }
+    requires fits { BodyFits (stock servers.now).facts (spec.top (plan_tree plan.now)) }
     requires numbers { NodeSetsNumbers (spec.top (plan_tree plan.now)) }
-    ensures { IfOk result (λ t. (facts : Facts) → ⟦<Tree<X> as Feed<World>>⟧.plan t
-        ≡ body_operators facts (spec.top (plan_tree plan.now))) }
+    ensures { IfOk result (λ t. ⟦<Tree<X> as Feed<World>>⟧.plan t
+        ≡ body_operators (stock servers.now).facts (spec.top (plan_tree plan.now))) }
 {
     match plan.body() {
-        Some(body) => tree_of(alloc, body),
+        Some(body) => tree_of(alloc, servers, body),
         None => Ok(Tree::Leaf(X::no_results())),
+    }
+}
+
+fn node_is_gather(node: &Node) -> bool
+    ensures { result ≡ is_gather (node_tree node.now) }
+{
+    matches!(node, Node::Gather { .. })
+}
+
+fn has_gather(plan: &Plan) -> bool
+    ensures { result ≡ is_gather (spec.top (plan_tree plan.now)) }
+{
+    match plan {
+        Plan::Over { node, .. } => node_is_gather(node),
+        _ => false,
     }
 }
 
@@ -119,26 +220,12 @@ fn is_no_results(plan: &Plan) -> bool
     }
 }
 
-fn with_body<X: PlanExecutor>(
-    alloc: Global,
-    executor: X,
-    below: Tree<X>,
-    body: Tree<X>,
-) -> Result<Tree<X>, OutOfMemory>
-    ensures { IfOk result (λ t. ⟦<Tree<X> as Feed<World>>⟧.plan t ≡ within (X.node executor)
-        (⟦<Tree<X> as Feed<World>>⟧.plan below) (⟦<Tree<X> as Feed<World>>⟧.plan body)) }
-{
-    let below = Box::new(alloc, below)?;
-    let body = Box::new(alloc, body)?;
-    Ok(Tree::Sub(executor, below, body))
-}
-
 // The executor of the node at the top of a plan.
-fn top_executor(alloc: Global, plan: &Plan) -> Result<NodeExecutor, OutOfMemory>
-    requires no_fragment { IsNoFragment (spec.top (plan_tree plan.now)) }
+fn top_executor(alloc: Global, plan: &Plan) -> Result<UnlinkedNode, OutOfMemory>
+    requires outside { StandsOutside (spec.top (plan_tree plan.now)) }
     requires fits { (facts : Facts) × Fits facts (spec.top (plan_tree plan.now)) }
     requires numbers { NodeSetsNumbers (spec.top (plan_tree plan.now)) }
-    ensures { IfOk result (λ x. ⟦<NodeExecutor as Executor<World>>⟧.node x
+    ensures { IfOk result (λ x. ⟦<UnlinkedNode as Executor<World>>⟧.node x
         ≡ operator_of (spec.top (plan_tree plan.now))) }
 {
     match plan {
@@ -149,11 +236,11 @@ fn top_executor(alloc: Global, plan: &Plan) -> Result<NodeExecutor, OutOfMemory>
 }
 
 // The executor of a node without a body.
-fn executor_of(alloc: Global, node: &Node) -> Result<NodeExecutor, OutOfMemory>
-    requires no_fragment { IsNoFragment (node_tree node.now) }
+fn executor_of(alloc: Global, node: &Node) -> Result<UnlinkedNode, OutOfMemory>
+    requires outside { StandsOutside (node_tree node.now) }
     requires fits { (facts : Facts) × Fits facts (node_tree node.now) }
     requires numbers { NodeSetsNumbers (node_tree node.now) }
-    ensures { IfOk result (λ x. ⟦<NodeExecutor as Executor<World>>⟧.node x
+    ensures { IfOk result (λ x. ⟦<UnlinkedNode as Executor<World>>⟧.node x
         ≡ operator_of (node_tree node.now)) }
 {
     match node {
@@ -202,36 +289,10 @@ fn executor_of(alloc: Global, node: &Node) -> Result<NodeExecutor, OutOfMemory>
     }
 }
 
-// How documents are read.
-fn reading_of(
-    alloc: Global,
-    var: u32,
-    coll: CollNo,
-    filter: &Option<Expr>,
-    attrs: &Option<Names>,
-    shard: Option<u32>,
-) -> Result<Reading, OutOfMemory>
-    ensures { IfOk result (λ r. scans.reading r ≡ record {
-      var = Num var;
-      coll = coll.0;
-      filter = maybe_tree filter.now;
-      attrs = attrs.now;
-      shard = shard;
-    }) }
-{
-    Ok(Reading {
-        var,
-        coll,
-        filter: copy_maybe(alloc, filter)?,
-        attrs: copy_maybe_texts(alloc, attrs)?,
-        shard,
-    })
-}
-
 // FOR over a collection by an index.
-fn index_of(alloc: Global, node: &Node) -> Result<NodeExecutor, OutOfMemory>
+fn index_of(alloc: Global, node: &Node) -> Result<UnlinkedNode, OutOfMemory>
     requires index { IsIndexNode (node_tree node.now) }
-    ensures { IfOk result (λ x. ⟦<NodeExecutor as Executor<World>>⟧.node x
+    ensures { IfOk result (λ x. ⟦<UnlinkedNode as Executor<World>>⟧.node x
         ≡ OnRows (node_tree node.now)) }
 {
     match node {

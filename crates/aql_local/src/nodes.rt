@@ -1,4 +1,4 @@
-//! The executors of the nodes of a tree.
+//! The executors of the nodes that own no link.
 
 ghost use Rattle.std.specs.Prelude.{◌≡◌, ◌+◌, ◌<◌, ◌^◌, true, false};
 ghost use Rattle.std.specs.List.{AllByRecursion};
@@ -17,8 +17,8 @@ ghost use Rattle.aql_exec_scan.specs.Scans as scans;
 use crate::World;
 use aql_engine::Choice;
 use aql_exec::{
-    AsWired, Calculation, Executor, Filter, FirstResults, Keep, Let, Limit, Mapped, NoResults,
-    Results, Return, ReturnDistinct, Singleton, Stream,
+    Calculation, Executor, Filter, FirstResults, Keep, Let, Limit, Mapped, NoResults, Results,
+    Return, ReturnDistinct, Singleton, Stream,
 };
 use aql_exec_graph::{Paths, Search, Traversal};
 use aql_exec_rows::{Collect, GroupRows, Order, Sort, Subquery};
@@ -41,47 +41,47 @@ type Enumeration = Choice<Choice<EnumerateList, EnumerateCollection>, Choice<Ind
 /// Those that hold rows, or what they need of them.
 type Holder = Choice<Choice<Sort, Subquery>, Choice<Collect, ReturnDistinct>>;
 
-/// The executor of any node.
-pub type NodeExecutor = AsWired<Choice<Choice<Leaf, RowWise>, Choice<Enumeration, Holder>>>;
+/// The executor of any node that owns no link.
+pub type UnlinkedNode = Choice<Choice<Leaf, RowWise>, Choice<Enumeration, Holder>>;
 
 /// The start row.
-pub fn start_row() -> NodeExecutor
-    ensures { ⟦<NodeExecutor as Executor<World>>⟧.node result ≡ StartRow }
+pub fn start_row() -> UnlinkedNode
+    ensures { ⟦<UnlinkedNode as Executor<World>>⟧.node result ≡ StartRow }
 {
-    AsWired::new(Choice::First(Choice::First(Choice::First(Singleton::new()))))
+    Choice::First(Choice::First(Choice::First(Singleton::new())))
 }
 
 /// No row.
-pub fn no_results() -> NodeExecutor
-    ensures { ⟦<NodeExecutor as Executor<World>>⟧.node result ≡ NoRows }
+pub fn no_results() -> UnlinkedNode
+    ensures { ⟦<UnlinkedNode as Executor<World>>⟧.node result ≡ NoRows }
 {
-    AsWired::new(Choice::First(Choice::First(Choice::Second(NoResults))))
+    Choice::First(Choice::First(Choice::Second(NoResults)))
 }
 
-fn holder(executor: Holder) -> NodeExecutor
-    ensures { ⟦<NodeExecutor as Executor<World>>⟧.node result
+fn holder(executor: Holder) -> UnlinkedNode
+    ensures { ⟦<UnlinkedNode as Executor<World>>⟧.node result
         ≡ ⟦<Holder as Executor<World>>⟧.node executor }
 {
-    AsWired::new(Choice::Second(Choice::Second(executor)))
+    Choice::Second(Choice::Second(executor))
 }
 
-fn enumeration(executor: Enumeration) -> NodeExecutor
-    ensures { ⟦<NodeExecutor as Executor<World>>⟧.node result
+fn enumeration(executor: Enumeration) -> UnlinkedNode
+    ensures { ⟦<UnlinkedNode as Executor<World>>⟧.node result
         ≡ ⟦<Enumeration as Executor<World>>⟧.node executor }
 {
-    AsWired::new(Choice::Second(Choice::First(executor)))
+    Choice::Second(Choice::First(executor))
 }
 
-fn row_wise(executor: RowWise) -> NodeExecutor
-    ensures { ⟦<NodeExecutor as Executor<World>>⟧.node result
+fn row_wise(executor: RowWise) -> UnlinkedNode
+    ensures { ⟦<UnlinkedNode as Executor<World>>⟧.node result
         ≡ ⟦<RowWise as Executor<World>>⟧.node executor }
 {
-    AsWired::new(Choice::First(Choice::Second(executor)))
+    Choice::First(Choice::Second(executor))
 }
 
 /// LET.
-pub fn calculation(alloc: Global, var: u32, expr: Expr) -> NodeExecutor
-    ensures { ⟦<NodeExecutor as Executor<World>>⟧.node result
+pub fn calculation(alloc: Global, var: u32, expr: Expr) -> UnlinkedNode
+    ensures { ⟦<UnlinkedNode as Executor<World>>⟧.node result
         ≡ OnRows (plan.Calculation (Num var) (tree expr)) }
 {
     let executor = Mapped::new(alloc, Let { var, expr });
@@ -89,8 +89,8 @@ pub fn calculation(alloc: Global, var: u32, expr: Expr) -> NodeExecutor
 }
 
 /// RETURN without DISTINCT.
-pub fn results(alloc: Global, expr: Expr) -> NodeExecutor
-    ensures { ⟦<NodeExecutor as Executor<World>>⟧.node result
+pub fn results(alloc: Global, expr: Expr) -> UnlinkedNode
+    ensures { ⟦<UnlinkedNode as Executor<World>>⟧.node result
         ≡ OnRows (plan.Return false (tree expr)) }
 {
     let executor = Mapped::new(alloc, Results { expr });
@@ -98,8 +98,8 @@ pub fn results(alloc: Global, expr: Expr) -> NodeExecutor
 }
 
 /// FILTER.
-pub fn filter(alloc: Global, cond: Expr) -> NodeExecutor
-    ensures { ⟦<NodeExecutor as Executor<World>>⟧.node result
+pub fn filter(alloc: Global, cond: Expr) -> UnlinkedNode
+    ensures { ⟦<UnlinkedNode as Executor<World>>⟧.node result
         ≡ OnRows (plan.Filter (tree cond)) }
 {
     let executor = Stream::new(Keep::new(alloc, cond));
@@ -107,17 +107,17 @@ pub fn filter(alloc: Global, cond: Expr) -> NodeExecutor
 }
 
 /// LIMIT.
-pub fn limit(alloc: Global, offset: u64, count: u64) -> NodeExecutor
+pub fn limit(alloc: Global, offset: u64, count: u64) -> UnlinkedNode
     requires { offset + count < 2 ^ 64 }
-    ensures { ⟦<NodeExecutor as Executor<World>>⟧.node result
+    ensures { ⟦<UnlinkedNode as Executor<World>>⟧.node result
         ≡ OnRows (plan.Limit offset count) }
 {
     row_wise(Choice::Second(Choice::Second(Limit::new(alloc, offset, count))))
 }
 
 /// FOR over an array.
-pub fn enumerate_list(alloc: Global, var: u32, list: Expr) -> NodeExecutor
-    ensures { ⟦<NodeExecutor as Executor<World>>⟧.node result
+pub fn enumerate_list(alloc: Global, var: u32, list: Expr) -> UnlinkedNode
+    ensures { ⟦<UnlinkedNode as Executor<World>>⟧.node result
         ≡ OnRows (plan.EnumerateList (Num var) (tree list)) }
 {
     let executor = Stream::new(Elements::new(alloc, var, list));
@@ -125,8 +125,8 @@ pub fn enumerate_list(alloc: Global, var: u32, list: Expr) -> NodeExecutor
 }
 
 /// FOR over a collection.
-pub fn enumerate_collection(alloc: Global, reading: Reading) -> NodeExecutor
-    ensures { ⟦<NodeExecutor as Executor<World>>⟧.node result
+pub fn enumerate_collection(alloc: Global, reading: Reading) -> UnlinkedNode
+    ensures { ⟦<UnlinkedNode as Executor<World>>⟧.node result
         ≡ OnRows (plan.EnumerateCollection (scans.reading reading)) }
 {
     let executor = Stream::new(Documents::new(alloc, reading));
@@ -141,8 +141,8 @@ pub fn index(
     equal: Exprs,
     last: Last,
     ordered: Option<bool>,
-) -> NodeExecutor
-    ensures { ⟦<NodeExecutor as Executor<World>>⟧.node result
+) -> UnlinkedNode
+    ensures { ⟦<UnlinkedNode as Executor<World>>⟧.node result
         ≡ OnRows (plan.Index (scans.reading reading) index (expr_trees equal) (last_tree last)
         ordered) }
 {
@@ -151,16 +151,16 @@ pub fn index(
 }
 
 /// A traversal.
-pub fn traversal(alloc: Global, search: Search) -> NodeExecutor
-    ensures { ⟦<NodeExecutor as Executor<World>>⟧.node result ≡ OnRows (graph.node_of search) }
+pub fn traversal(alloc: Global, search: Search) -> UnlinkedNode
+    ensures { ⟦<UnlinkedNode as Executor<World>>⟧.node result ≡ OnRows (graph.node_of search) }
 {
     let executor = Stream::new(Paths::new(alloc, search));
     enumeration(Choice::Second(Choice::Second(executor)))
 }
 
 /// SORT.
-pub fn sort(alloc: Global, keys: Keys, limit: Option<u64>) -> NodeExecutor
-    ensures { ⟦<NodeExecutor as Executor<World>>⟧.node result
+pub fn sort(alloc: Global, keys: Keys, limit: Option<u64>) -> UnlinkedNode
+    ensures { ⟦<UnlinkedNode as Executor<World>>⟧.node result
         ≡ OnRows (plan.Sort (directions keys) (key_trees keys) limit) }
 {
     let executor = Stream::new(Order::new(alloc, keys, limit));
@@ -168,8 +168,8 @@ pub fn sort(alloc: Global, keys: Keys, limit: Option<u64>) -> NodeExecutor
 }
 
 /// A subquery.
-pub fn subquery(alloc: Global, var: u32) -> NodeExecutor
-    ensures { ⟦<NodeExecutor as Executor<World>>⟧.node result ≡ WithBody (Num var) }
+pub fn subquery(alloc: Global, var: u32) -> UnlinkedNode
+    ensures { ⟦<UnlinkedNode as Executor<World>>⟧.node result ≡ WithBody (Num var) }
 {
     let executor = Subquery::new(alloc, var);
     holder(Choice::First(Choice::Second(executor)))
@@ -181,9 +181,9 @@ pub fn collect(
     criteria: Lets,
     aggregates: Aggregates,
     into: Option<Into>,
-) -> NodeExecutor
+) -> UnlinkedNode
     requires { AllByRecursion IsNumber (sets (node_of criteria aggregates into)) }
-    ensures { ⟦<NodeExecutor as Executor<World>>⟧.node result
+    ensures { ⟦<UnlinkedNode as Executor<World>>⟧.node result
         ≡ OnRows (node_of criteria aggregates into) }
 {
     let executor = Stream::new(GroupRows::new(alloc, criteria, aggregates, into));
@@ -191,8 +191,8 @@ pub fn collect(
 }
 
 /// RETURN DISTINCT.
-pub fn distinct_results(alloc: Global, expr: Expr) -> NodeExecutor
-    ensures { ⟦<NodeExecutor as Executor<World>>⟧.node result
+pub fn distinct_results(alloc: Global, expr: Expr) -> UnlinkedNode
+    ensures { ⟦<UnlinkedNode as Executor<World>>⟧.node result
         ≡ OnRows (plan.Return true (tree expr)) }
 {
     let executor = Stream::new(FirstResults::new(alloc, expr));

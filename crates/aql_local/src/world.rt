@@ -43,6 +43,7 @@ impl World {
         ensures servers { self.new.servers ≡ self.old.servers }
         ensures log { result ≡ self.old.net.log }
         ensures lawful { IsLog self.old.net.batch result }
+        ensures net { self.new.net ≡ no_traffic 1 }
     {
         let none = Net::new(alloc, 1);
         mem::replace(&mut self.net, none).into_log()

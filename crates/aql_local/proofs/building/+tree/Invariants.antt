@@ -8,3 +8,6 @@ decreases-tree_of g l = weight (plan_tree l.plan.now) + (weight (plan_tree l.pla
 
 abbrev pub decreases-body_of : goal.decreases-body_of
 decreases-body_of g l = weight (plan_tree l.plan.now) + weight (plan_tree l.plan.now)
+
+abbrev pub decreases-gather_tree : goal.decreases-gather_tree
+decreases-gather_tree g l = weight (plan_tree l.plan.now) + weight (plan_tree l.plan.now)

@@ -7,22 +7,23 @@ use Rattle.aql_plan.specs.Shapes.{Result}
 use Rattle.aql_plan.specs.View.{plan_tree}
 use Rattle.aql_block.specs.Rows.{row_of}
 use Rattle.aql_exec.specs.Operators.{OperatorTree, IsTree, Produces, exact_tree}
-use Rattle.aql_net.specs.Logs.{IsLog, picks_in}
+use Rattle.aql_net.specs.Logs.{IsLog, picks_in, rows_on}
 use Rattle.aql_net.specs.Traffic.{Traffic}
 use Rattle.aql_engine.specs.Engine.{Tallied, OwnCounted}
 use Rattle.aql_engine.specs.Run.{rows_in, PickedBy}
 use Rattle.aql_engine.specs.OperatorsOf.{operators_of}
 use Rattle.aql_engine.specs.laws.Sound.{produces_runs}
+use Rattle.aql_engine.specs.laws.Trees.{shaped_tree}
 use Rattle.aql_shard.specs.Holding.{Holding}
 use Rattle.aql_shard.specs.Datasets.{stock}
-use Rattle.aql_local.proofs.CanRun.{runs_tree, counted_from_none, own_from_none}
+use Rattle.aql_local.proofs.CanRun.{counted_from_none, own_from_none}
 use Rattle.aql_local.proofs.plans.run_operators.Goals as goal
 
 pub run_feed-requires-clause-plan : goal.run_feed-requires-clause-plan
 run_feed-requires-clause-plan g c =
     let facts = (stock c.args.world.now.servers).facts in
     subst (λ (t : OperatorTree). IsTree facts t) (sym c.requires.feed)
-    (runs_tree facts (plan_tree c.args.plan) Result c.requires.plan.well_formed.1 c.requires.plan.without_fragments)
+    (shaped_tree facts (plan_tree c.args.plan) Result c.requires.plan.well_formed.1 refl c.requires.few)
 
 pub returns-clause-run : goal.returns-clause-run
 returns-clause-run g c =
@@ -39,10 +40,12 @@ returns-clause-run g c =
         rest = run.0;
         produced = produced;
         values = values;
-        counted = subst (λ (t : OperatorTree). Tallied (exact_tree t) c.run_feed.new.tally run.0.counts)
-            c.requires.feed
+        counted = subst (λ (t : OperatorTree). Tallied (exact_tree t) c.run_feed.new.tally c.take_log-log.result
+            run.0.counts) c.requires.feed
             (counted_from_none _ _ c.new-tally.result c.run_feed.new.tally c.args.world.now
-            c.run_feed.new.world run.0.counts c.new-tally.ensures run.3);
+            c.run_feed.new.world run.0.counts c.take_log-log.result
+            (λ l. ap (λ (t : Traffic). rows_on l t.log) c.requires.fresh)
+            (λ l. ap (rows_on l) c.take_log-log.ensures.log) c.new-tally.ensures run.3);
         logged = subst (λ b. IsLog b c.take_log-log.result)
             (c.run_feed.ensures.batch ∙ ap (λ (t : Traffic). t.batch) c.requires.fresh) c.take_log-log.ensures.lawful;
         little = λ e. (let a = c.in_ok-blocks.ensures.reads (rw c.requires.feed e) in

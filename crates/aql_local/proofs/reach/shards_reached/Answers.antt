@@ -1,0 +1,9 @@
+-- There are as many numbers as were asked for.
+use Rattle.std.proofs.Common.{◌≡◌, ◌∙◌, ◌<◌, ℕ, length, ap, subst, sym, arith}
+use Rattle.aql_shard.specs.laws.Numbers.{length-numbers_below}
+use Rattle.aql_local.proofs.Returned.{if_map}
+use Rattle.aql_local.proofs.reach.shards_reached.Goals as goal
+
+pub returns-in-None-clause-few : goal.returns-in-None-clause-few
+returns-in-None-clause-few c = if_map c.numbers_to.result c.numbers_to.ensures
+    (λ shards e. omega (arith, ap length e, length-numbers_below c.shards.result, c.shards.type_inv))
