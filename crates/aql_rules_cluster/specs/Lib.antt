@@ -1,6 +1,10 @@
 pub mod ScatterInCluster
+pub mod DistributeFiltercalcToCluster
+pub mod DistributeSortToCluster
 pub mod OnShards
 pub mod Measures
+pub mod FiltersOutside
+pub mod SortsOutside
 pub mod Theorems
 pub mod inner
 pub mod laws

@@ -1,2 +1,5 @@
+pub mod Fragments
+pub mod FilterParts
+pub mod Sortings
 pub mod Gathers
 pub mod Walks

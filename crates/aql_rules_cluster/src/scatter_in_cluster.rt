@@ -1,24 +1,20 @@
 //! Each node outside fragments that reads a collection reads in a fragment on all of the
 //! collection's shards.
 
-ghost use Rattle.std.specs.Prelude.{◌≡◌, ◌≤◌, [], true, false, IfOk};
-ghost use Rattle.aql_plan.specs.Above.{input_inside as spec_input_inside};
-ghost use Rattle.aql_plan.specs.Plan.{top};
+ghost use Rattle.std.specs.Prelude.{◌≡◌, [], IfOk};
 ghost use Rattle.aql_plan.specs.Refines.{Refines};
-ghost use Rattle.aql_plan.specs.View.{node_tree, plan_tree};
+ghost use Rattle.aql_plan.specs.View.{plan_tree};
 ghost use Rattle.aql_plan.specs.WellFormed.{IsWellFormed};
 ghost use Rattle.aql_rewrite.specs.Places.{IsPass};
 ghost use Rattle.aql_rewrite.specs.Swaps.{SetsNoMore};
 ghost use Rattle.aql_plan.specs.Executable.{HasExecutors};
 ghost use Rattle.aql_rules_cluster.specs.OnShards.{ReadsOnShards};
 ghost use Rattle.aql_rules_cluster.specs.ScatterInCluster.{Scatters};
-ghost use Rattle.aql_rules_cluster.specs.inner.Walks.{IsScattered};
 
+use crate::cluster_pass::{ClusterRule, run_cluster_pass};
 use crate::gathers::{gathering_of, on_all_shards};
-use aql_plan::{Facts, Node, Passed, Plan, Uses};
-use aql_rewrite::{
-    Rule, Swap, has_body, is_start, replace_below, replace_body, with_below, with_body,
-};
+use aql_plan::{Facts, Passed, Plan, Uses};
+use aql_rewrite::{Rule, Swap};
 use aql_value::OutOfMemory;
 use std::alloc::Global;
 
@@ -64,69 +60,28 @@ impl Rule for ScatterInCluster {
     ghost falls = { λ _ facts p q r whole h. scatters_fall facts p q r whole h };
 }
 
-fn node_input_inside(node: &Node, inside: bool) -> bool
-    ensures { result ≡ spec_input_inside (node_tree node.now) inside }
-{
-    match node {
-        Node::Gather { .. } => true,
-        Node::Scatter { .. } | Node::Distribute { .. } => false,
-        _ => inside,
-    }
-}
+impl ClusterRule for ScatterInCluster {
+    ghost use Rattle.aql_rules_cluster.specs.laws.Passing.{scatter_in_cluster};
 
-// Whether the input of the top node stands in a fragment, where `inside` tells it of the node.
-fn input_inside(plan: &Plan, inside: bool) -> bool
-    ensures { result ≡ spec_input_inside (top (plan_tree plan.now)) inside }
-{
-    match plan {
-        Plan::Over { node, .. } => node_input_inside(node, inside),
-        _ => inside,
-    }
-}
+    type Memory = Global;
 
-// The plan with the rule applied until it has no place, from its lowest node up. `inside` tells
-// whether the plan stands in a fragment. No node is copied.
-#[cycle(scatter)]
-fn scatter(
-    alloc: Global,
-    plan: Plan,
-    inside: bool,
-    facts: &Facts,
-    changed: &mut bool,
-) -> Result<Plan, OutOfMemory>
-    requires { 1 ≤ facts.now.servers }
-    ensures { IfOk result (λ p. IsScattered facts.now inside (plan_tree plan) (plan_tree p)
-        changed.old changed.new) }
-{
-    if is_start(&plan) {
-        return Ok(plan);
-    }
-    let mut node = plan;
-    let within = input_inside(&node, inside);
-    let below = replace_below(&mut node, Plan::Singleton);
-    let below = scatter(alloc, below, within, facts, changed)?;
-    if inside {
-        return Ok(with_below(node, below));
-    }
-    if has_body(&node) {
-        let body = replace_body(&mut node, Plan::Singleton);
-        let body = scatter(alloc, body, false, facts, changed)?;
-        let node = with_body(node, body);
-        return Ok(with_below(node, below));
-    }
-    let part = with_below(node, below);
-    let Some(gathering) = gathering_of(alloc, &part, facts)? else {
-        return Ok(part);
-    };
-    *changed = true;
-    on_all_shards(alloc, part, gathering)
-}
+    type Failure = OutOfMemory;
 
-fn has_server(facts: &Facts) -> bool
-    ensures there { result ≡ true → 1 ≤ facts.now.servers }
-    ensures alone { result ≡ false → facts.now.servers ≡ 0 }
-{
-    facts.servers > 0
+    fn rewrite(
+        &self,
+        alloc: Global,
+        part: Plan,
+        facts: &Facts,
+        changed: &mut bool,
+    ) -> Result<Plan, OutOfMemory> {
+        let Some(gathering) = gathering_of(alloc, &part, facts)? else {
+            return Ok(part);
+        };
+        *changed = true;
+        on_all_shards(alloc, part, gathering)
+    }
+
+    ghost for_cluster = { λ _ facts. scatter_in_cluster facts };
 }
 
 /// The plan after scatter-in-cluster was applied at its first place again and again, until it has
@@ -145,13 +100,5 @@ pub fn run_scatter_pass(alloc: Global, plan: Plan, facts: &Facts) -> Result<Pass
     ensures alone { IfOk result
         (λ x. facts.now.servers ≡ 0 → plan_tree x.plan ≡ plan_tree plan) }
 {
-    if !has_server(facts) {
-        return Ok(Passed {
-            plan,
-            changed: false,
-        });
-    }
-    let mut changed = false;
-    let plan = scatter(alloc, plan, false, facts, &mut changed)?;
-    Ok(Passed { plan, changed })
+    run_cluster_pass(alloc, &ScatterInCluster, plan, facts)
 }

@@ -1,19 +1,21 @@
--- A part to which scatter-in-cluster was applied again and again at its first place, until there is none: for
--- the contracts of private functions alone. Two flags tell whether there was an application before, and
--- whether there is one by then.
-use Rattle.std.specs.Prelude.{Bool, None}
+-- A part to which a rule was applied again and again at its first place, until there is none, whatever is
+-- used above: for the contracts of private functions alone. The rule renames nothing.
+use Rattle.std.specs.Prelude.{Bool, true, None}
 use Rattle.aql_meaning.specs.Uses.{Uses}
-use Rattle.aql_plan.specs.declared.facts.Facts.{Facts}
 use Rattle.aql_plan.specs.Plan.{Plan}
-use Rattle.aql_rewrite.specs.Places.{First, NoPlace}
+use Rattle.aql_rewrite.specs.Places.{Rewriting, Stays, First, NoPlace}
 use Rattle.aql_rewrite.specs.inner.Applications.{Applications}
-use Rattle.aql_rules_cluster.specs.ScatterInCluster.{Scatters}
 
 -- one application, where `inside` tells whether the part stands in a fragment
-abbrev pub ScatteredOnce : Facts → Bool → Uses → Plan → Plan → Type 0
-ScatteredOnce facts inside us p q = First (Scatters facts) inside us p q None
+abbrev pub AppliedOnce : Rewriting → Bool → Uses → Plan → Plan → Type 0
+AppliedOnce R inside us p q = First R inside us p q None
 
--- whatever is used above
-pub record IsScattered (facts : Facts) (inside : Bool) (p q : Plan) (x y : Bool) : Type 0 where
-  pub reached : (us : Uses) → Applications Plan (ScatteredOnce facts inside us) p q x y
-  pub ended : (us : Uses) → NoPlace (Scatters facts) inside us q
+-- two flags tell whether there was an application before, and whether there is one by then
+pub record IsWalked (R : Rewriting) (inside : Bool) (p q : Plan) (x y : Bool) : Type 0 where
+  pub reached : (us : Uses) → Applications Plan (AppliedOnce R inside us) p q x y
+  pub ended : (us : Uses) → NoPlace R inside us q
+
+-- one application at the top node, or none where the rule does not apply there
+pub data IsRewritten (R : Rewriting) (p : Plan) : Plan → Bool → Bool → Type 0 where
+  applied : {q : Plan} {x : Bool} → ((us : Uses) → R us p q None) → IsRewritten R p q x true
+  stayed : {x : Bool} → ((us : Uses) → Stays R us p) → IsRewritten R p p x x

@@ -5,23 +5,23 @@ use Rattle.std.specs.Prelude.{filter, flat_map, IsPermutation, IsSortedBy, Optio
 use Rattle.std.specs.Cmp.{IsStrictWeakOrder}
 use Rattle.std.specs.List.{AllByRecursion, AllZip}
 use Rattle.std.specs.Ordering.{is_lt}
-use Rattle.std.proofs.lemmas.List.{append-nil, map-append}
+use Rattle.std.proofs.lemmas.List.{append-nil}
 use Rattle.std.proofs.lemmas.List.Sorted.{IsPermutation-refl, IsPermutation-trans, IsPermutation-append}
 use Rattle.aql_value.specs.Datum.{Datum}
-use Rattle.aql_value.specs.laws.Alls.{all_more, all_mapped}
 use Rattle.aql_tree.specs.declared.syntax.Ident.{Ident}
 use Rattle.aql_meaning.specs.AtRows.{keys_of, row_before}
 use Rattle.aql_meaning.specs.Clauses.{keys_cmp}
 use Rattle.aql_meaning.specs.Documents.{projection, documents_kept, index_keys, ScannedInOrder}
 use Rattle.aql_meaning.specs.Merges.{Merged}
 use Rattle.aql_meaning.specs.Row.{Row, bind}
-use Rattle.aql_meaning.specs.laws.Shuffles.{shuffle, flat_permuted, alike_permutation}
+use Rattle.aql_meaning.specs.laws.Shuffles.{shuffle, flat_permuted}
 use Rattle.aql_meaning.specs.laws.SomeOrder.{keyed_order}
 use Rattle.aql_plan.specs.Fits.{KeepsOrder, attribute_keys}
 use Rattle.aql_plan_laws.proofs.MergedOrder.{merge_does_not_descend}
 use Rattle.aql_index.specs.laws.Passing.{InPairs, pairs_filter, in_pairs, from_pairs}
 use Rattle.aql_rewrite.specs.laws.Flat.{filter_flat}
 use Rattle.aql_rules_filter.specs.laws.Inserted.{sorted_filter_of}
+use Rattle.aql_rules_cluster.specs.laws.Mapped.{map_of_all, unmapped, pairs_map, pairs_unmap}
 use Rattle.aql_rules_cluster.specs.laws.Merging.{all_of, merged_permutes}
 use Rattle.aql_rules_cluster.specs.laws.Projections.{keys_kept}
 
@@ -45,50 +45,6 @@ module _ {X : Type 0} (test : X → Bool) where
       (subst (λ (zs : List X). IsPermutation (flat_map (λ x. cond (test x) (x ∷ []) []) xs) zs)
       (sym (each_passing ys)) (flat_permuted (λ x. cond (test x) (x ∷ []) []) (shuffle xs ys p)))
 
-module _ {X : Type 0} (f : X → Row) where
-  map_of_all : (lists : List (List X)) → all_of (map (map f) lists) ≡ map f (all_of lists)
-  map_of_all [] = refl
-  map_of_all (l ∷ lists) = ap (λ ys. map f l ++ ys) (map_of_all lists) ∙ sym (map-append f l (all_of lists))
-
-  abbrev IsOf : Row → X → Type 0
-  IsOf row x = row ≡ f x
-
-  each_is : (xs : List X) → AllZip IsOf (map f xs) xs
-  each_is [] = tt
-  each_is (x ∷ xs) = (refl, each_is xs)
-
-  all_are : (rows : List Row) (xs : List X) → AllZip IsOf rows xs → rows ≡ map f xs
-  all_are [] [] h = refl
-  all_are [] (x ∷ xs) h = absurd h
-  all_are (r ∷ rows) [] h = absurd h
-  all_are (r ∷ rows) (x ∷ xs) h = ap₂ (λ s ss. s ∷ ss) h.0 (all_are rows xs h.1)
-
-  unmapped : (xs : List X) (out : List Row) → IsPermutation (map f xs) out
-      → (ys : List X) × IsPermutation xs ys × (out ≡ map f ys)
-  unmapped xs out p =
-      let a = alike_permutation IsOf (map f xs) out xs p (each_is xs) in
-      (a.0, a.1, all_are out a.0 a.2)
-
-  -- ---- pairs in order
-
-  module _ (lt : Row → Row → Bool) (less : X → X → Bool) (same : (a b : X) → lt (f a) (f b) ≡ less a b) where
-    pairs_map : (xs : List X) → InPairs less xs → InPairs lt (map f xs)
-    pairs_map [] h = tt
-    pairs_map (x ∷ xs) h = (
-      all_mapped (λ row. lt row (f x) ≡ false) f xs
-          (all_more (λ y. less y x ≡ false) (λ y. lt (f y) (f x) ≡ false) (λ y k. same y x ∙ k) xs h.0),
-      pairs_map xs h.1,
-    )
-
-    none_before : (x : X) (xs : List X) → AllByRecursion (λ row. lt row (f x) ≡ false) (map f xs)
-        → AllByRecursion (λ y. less y x ≡ false) xs
-    none_before x [] h = tt
-    none_before x (y ∷ xs) h = (sym (same y x) ∙ h.0, none_before x xs h.1)
-
-    pairs_unmap : (xs : List X) → InPairs lt (map f xs) → InPairs less xs
-    pairs_unmap [] h = tt
-    pairs_unmap (x ∷ xs) h = (none_before x xs h.0, pairs_unmap xs h.1)
-
 -- ---- one row
 
 module _ (v : Ident) (pass : Row → Bool) (attrs : Option (List (List ℕ))) (names : List (List ℕ))
@@ -111,7 +67,7 @@ module _ (v : Ident) (pass : Row → Bool) (attrs : Option (List (List ℕ))) (n
   order_by_row : IsStrictWeakOrder by_row
   order_by_row = keyed_order (map (λ name. descending) names) (keys_of (attribute_keys v names))
 
-  same_order : (a b : Datum) → by_row (bound a) (bound b) ≡ by_index a b
+  pub same_order : (a b : Datum) → by_row (bound a) (bound b) ≡ by_index a b
   same_order a b = ap₂ (λ ks ls. is_lt (keys_cmp (map (λ name. descending) names) ks ls))
       (keys_kept attrs descending v row a names keeps) (keys_kept attrs descending v row b names keeps)
 
@@ -127,7 +83,8 @@ module _ (v : Ident) (pass : Row → Bool) (attrs : Option (List (List ℕ))) (n
   Passed documents out = (kept : List Datum) × IsPermutation (filter passing documents) kept
       × InPairs by_index kept × (out ≡ map bound kept)
 
-  passed : (documents : Row → List Datum) (out : List Row) → Scans documents out → Passed (documents row) out
+  pub passed : (documents : Row → List Datum) (out : List Row) → Scans documents out
+      → Passed (documents row) out
   passed documents out ([], each, is) = absurd each
   passed documents out (list ∷ other ∷ lists, each, is) = absurd each.1
   passed documents out (list ∷ [], each, is) =

@@ -2,6 +2,7 @@
 use Rattle.std.proofs.Common.{◌≡◌, ℕ, zero, suc, List, [], ◌∷◌, ◌++◌, Bool, refl, ap₂, sym, subst}
 use Rattle.std.specs.Prelude.{Some, slice_get, slice_set, IsPermutation}
 use Rattle.std.specs.List.{AllByRecursion}
+use Rattle.std.proofs.lemmas.Option.{same_Some}
 use Rattle.std.proofs.lemmas.List.Sorted.{IsPermutation-refl, IsPermutation-cons, IsPermutation-trans, IsPermutation-append_right, IsPermutation-middle}
 use Rattle.aql_meaning.specs.Row.{Row}
 use Rattle.aql_meaning.specs.Merges.{Merged}
@@ -11,16 +12,13 @@ abbrev pub all_of : {X : Type 0} → List (List X) → List X
 all_of [] = []
 all_of (l ∷ lists) = l ++ all_of lists
 
-same_list : {X : Type 0} (l m : List X) → Some l ≡ Some m → l ≡ m
-same_list l m e = cc
-
 taken_out : (lists : List (List Row)) (place : ℕ) (row : Row) (rest : List Row)
     → slice_get lists place ≡ Some (row ∷ rest)
     → IsPermutation (all_of lists) (row ∷ all_of (slice_set lists place rest))
 taken_out [] place row rest e = cc
 taken_out (l ∷ lists) zero row rest e =
     subst (λ (m : List Row). IsPermutation (m ++ all_of lists) (row ∷ (rest ++ all_of lists)))
-    (sym (same_list l (row ∷ rest) e)) (IsPermutation-refl (row ∷ (rest ++ all_of lists)))
+    (sym (same_Some l (row ∷ rest) e)) (IsPermutation-refl (row ∷ (rest ++ all_of lists)))
 taken_out (l ∷ lists) (suc place) row rest e = IsPermutation-trans _ _ _
     (IsPermutation-append_right l _ _ (taken_out lists place row rest e))
     (IsPermutation-middle l row (all_of (slice_set lists place rest)))

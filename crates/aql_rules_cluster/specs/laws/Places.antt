@@ -1,6 +1,7 @@
 -- Where scatter-in-cluster applies: each application leaves fewer places, and where there is none, the plan
 -- reads on shards alone.
-use Rattle.std.proofs.Common.{◌≡◌, ◌∙◌, ℕ, zero, suc, ◌≤◌, ◌<◌, List, [], Bool, true, false, true≢false, Option, Some, None, refl, ap, sym, subst, arith}
+use Rattle.std.proofs.Common.{◌≡◌, ◌∙◌, ℕ, zero, suc, ◌≤◌, ◌<◌, Bool, true, false, true≢false, Option, Some, None, refl, ap, sym, subst, arith}
+use Rattle.std.proofs.lemmas.Option.{same_Some}
 use Rattle.aql_tree.specs.declared.syntax.Ident.{Ident}
 use Rattle.aql_meaning.specs.Uses.{Uses}
 use Rattle.aql_plan.specs.declared.facts.Facts.{Facts}
@@ -11,14 +12,15 @@ use Rattle.aql_plan.specs.Shapes.{Shape, Result, Shaped, with_subquery, plain_ro
 use Rattle.aql_plan_laws.specs.laws.ShapesKept.{under_top, body_shaped}
 use Rattle.aql_rewrite.specs.declared.swap.Rename.{Rename}
 use Rattle.aql_rewrite.specs.Placed.{IsWhole}
-use Rattle.aql_rewrite.specs.Places.{renamed_by, Stays, NoPlace, NoPlaceAt, First}
-use Rattle.aql_rewrite.specs.laws.Carried.{first_carried}
-use Rattle.aql_rewrite.specs.laws.PlacedBelow.{whole_placed}
-use Rattle.aql_rules_cluster.specs.Measures.{readers_outside}
+use Rattle.aql_rewrite.specs.Places.{Stays, NoPlace, NoPlaceAt, First}
+use Rattle.aql_rules_cluster.specs.Measures.{readers_outside, reads_outside}
 use Rattle.aql_rules_cluster.specs.OnShards.{ReadsInFragments, ReadsOnShards}
 use Rattle.aql_rules_cluster.specs.ScatterInCluster.{on_all_shards, Scatters, enumeration, by_index, in_index_order}
 use Rattle.aql_rules_cluster.specs.Theorems.{NoPlaceMeansOnShards}
 use Rattle.aql_rules_cluster.specs.inner.Gathers.{Gathering, gathering_by, gathering, IsOnAllShards}
+use Rattle.aql_rules_cluster.specs.laws.Falling.{falls}
+use Rattle.aql_rules_cluster.specs.laws.Passes.{KeepsRunning}
+use Rattle.aql_rules_cluster.specs.laws.Walking.{nowhere, NoPlaces, none_below}
 
 -- ---- what the rule sees
 
@@ -28,9 +30,6 @@ stays facts us _ h _ _ (enumeration servers) = absurd (cc)
 stays facts us _ h _ _ (by_index servers) = absurd (cc)
 stays facts us _ h _ _ (in_index_order servers) = absurd (cc)
 
-some_same : {X : Type 0} (x y : X) → Some x ≡ Some y → x ≡ y
-some_same x y e = cc
-
 module _ (facts : Facts) (us : Uses) (b : Plan) (n : Node) where
   abbrev On : Gathering → Type 0
   On g = Scatters facts us (Over b n) (on_all_shards g.coll g.directions g.keys n b) None
@@ -38,7 +37,7 @@ module _ (facts : Facts) (us : Uses) (b : Plan) (n : Node) where
   put : (k g : Gathering) (q : Plan) → On k → Some k ≡ Some g → IsOnAllShards g (Over b n) q
       → Scatters facts us (Over b n) q None
   put k g q h e is = subst (λ (o : Plan). Scatters facts us (Over b n) o None) (sym (is b refl))
-      (subst On (some_same k g e) h)
+      (subst On (same_Some k g e) h)
 
 made : (facts : Facts) → 1 ≤ facts.servers → (us : Uses) (b : Plan) (n : Node) (g : Gathering)
     → gathering facts n ≡ Some g → (q : Plan) → IsOnAllShards g (Over b n) q
@@ -60,15 +59,6 @@ made_at facts servers us (Over b n) q g e h = made facts servers us b n g e q h
 
 -- ---- fewer places
 
-abbrev Fewer : Bool → List Ident → Uses → Plan → Plan → Option Rename → Type 0
-Fewer inside outer us p q r = (r ≡ None) × (readers_outside inside q < readers_outside inside p)
-
-over_fewer : (inside : Bool) (b c : Plan) (n : Node) (r : Option Rename) → r ≡ None
-    → readers_outside (input_inside n inside) c < readers_outside (input_inside n inside) b
-    → readers_outside inside (Over c (renamed_by r n)) < readers_outside inside (Over b n)
-over_fewer inside b c n None e h = omega (arith, h)
-over_fewer inside b c n (Some r) e h = absurd (cc)
-
 fewer_at : (facts : Facts) (us : Uses) (p q : Plan) (r : Option Rename) → Scatters facts us p q r
     → (r ≡ None) × (readers_outside false q < readers_outside false p)
 fewer_at facts _ _ _ _ (enumeration servers) = (refl, omega arith)
@@ -77,12 +67,8 @@ fewer_at facts _ _ _ _ (in_index_order servers) = (refl, omega arith)
 
 pub scatters_fall : (facts : Facts) (p q : Plan) (r : Option Rename) → IsWhole true facts p
     → First (Scatters facts) false result_uses p q r → readers_outside false q < readers_outside false p
-scatters_fall facts p q r whole h =
-    (first_carried true facts (Scatters facts) Fewer (record {
-      over = λ inside outer away us n b c r placed k. (k.0, over_fewer inside b c n r k.0 k.1);
-      with = λ outer away us x b s t r placed k. (refl, omega (arith, k.1));
-    }) (λ outer away us p q r placed k. fewer_at facts us p q r k) h [] []
-    (whole_placed true facts p whole)).1
+scatters_fall facts p q r whole h = falls readers_outside reads_outside (λ inside b n. refl) (λ x s. refl)
+    facts (Scatters facts) (fewer_at facts) p q r whole h
 
 -- ---- no place
 
@@ -155,21 +141,10 @@ none_there facts false us (Over b n) h =
     (none_there facts (input_inside n false) (under n us) b h.0, stays facts us (Over b n) refl)
 
 -- without servers there is none anywhere
-stays_alone : (facts : Facts) → facts.servers ≡ 0 → (us : Uses) (p : Plan) → Stays (Scatters facts) us p
+pub stays_alone : (facts : Facts) → facts.servers ≡ 0 → (us : Uses) (p : Plan) → Stays (Scatters facts) us p
 stays_alone facts e us _ _ _ (enumeration servers) = omega (arith, servers, e)
 stays_alone facts e us _ _ _ (by_index servers) = omega (arith, servers, e)
 stays_alone facts e us _ _ _ (in_index_order servers) = omega (arith, servers, e)
-
-pub none_alone : (facts : Facts) → facts.servers ≡ 0 → (inside : Bool) (us : Uses) (p : Plan)
-    → NoPlace (Scatters facts) inside us p
-none_alone facts e inside us Singleton = tt
-none_alone facts e true us (Over b n) = (none_alone facts e (input_inside n true) (under n us) b, tt)
-none_alone facts e false us (Over b (Subquery x s)) = (
-  none_alone facts e false (under (Subquery x s) us) b,
-  (stays_alone facts e us (Over b (Subquery x s)), none_alone facts e false result_uses s),
-)
-none_alone facts e false us (Over b n) =
-    (none_alone facts e (input_inside n false) (under n us) b, stays_alone facts e us (Over b n))
 
 -- in a well-formed plan the rule has no place exactly where the plan reads on shards alone
 pub no_place_means_on_shards : NoPlaceMeansOnShards
@@ -179,5 +154,39 @@ no_place_means_on_shards facts p well = (
 )
   where
     by : (n : ℕ) → facts.servers ≡ n → ReadsOnShards facts p → NoPlace (Scatters facts) false result_uses p
-    by zero e h = none_alone facts e false result_uses p
+    by zero e h = nowhere (Scatters facts) (stays_alone facts e) false result_uses p
     by (suc n) e h = none_there facts false result_uses p (h (omega (arith, e)))
+
+-- a reader in a fragment has no place, where the part has none below it
+pub none_scattered : (facts : Facts) {vs : Uses} {p q : Plan} {r : Option Rename} → Scatters facts vs p q r
+    → (c : Plan) (n : Node) → p ≡ Over c n → NoPlaces (Scatters facts) (input_inside n false) c
+    → NoPlaces (Scatters facts) false q
+none_scattered facts (enumeration {b = b} {x = x} servers) c n e none us =
+    let there = none_below (Scatters facts) b c (EnumerateCollection x) n e none in
+    (((((there _, tt), tt), tt), tt), stays facts us _ refl)
+none_scattered facts (by_index {b = b} servers) c n e none us =
+    let there = none_below (Scatters facts) b c _ n e none in
+    (((((there _, tt), tt), tt), tt), stays facts us _ refl)
+none_scattered facts (in_index_order {b = b} servers) c n e none us =
+    let there = none_below (Scatters facts) b c _ n e none in
+    (((((there _, tt), tt), tt), tt), stays facts us _ refl)
+
+-- ---- what stays
+
+pub runs_on : (facts : Facts) (us : Uses) (p q : Plan) (r : Option Rename) → Scatters facts us p q r
+    → KeepsRunning false p q r
+runs_on facts _ _ _ _ (enumeration servers) = record {
+  nameless = refl;
+  executors = λ h. (((((h.0, tt), tt), tt), tt), tt);
+  readers = λ h. absurd (true≢false (sym h.1));
+}
+runs_on facts _ _ _ _ (by_index servers) = record {
+  nameless = refl;
+  executors = λ h. (((((h.0, tt), tt), tt), tt), tt);
+  readers = λ h. absurd (true≢false (sym h.1));
+}
+runs_on facts _ _ _ _ (in_index_order servers) = record {
+  nameless = refl;
+  executors = λ h. (((((h.0, tt), tt), tt), tt), tt);
+  readers = λ h. absurd (true≢false (sym h.1));
+}

@@ -74,7 +74,7 @@ one_of_one P row [] h = absurd h
 one_of_one P row (r ∷ []) h = (r, refl)
 one_of_one P row (r ∷ s ∷ out) h = absurd h.1
 
-single_row : (facts : Facts) {p : Plan} → Shaped facts p (Rows true) → (w : Dataset) (start : Row)
+pub single_row : (facts : Facts) {p : Plan} → Shaped facts p (Rows true) → (w : Dataset) (start : Row)
     (rows : List Row) → Runs p w Outside start rows → (row : Row) × (rows ≡ row ∷ [])
 single_row facts one_row w start rows g = (start, g)
 single_row facts (calculated {x = x} {e = e} f h) w start rows g =

@@ -24,7 +24,7 @@ keys_plain x [] = tt
 keys_plain x (name ∷ names) = ((tt, tt), keys_plain x names)
 
 -- the keys use the document's variable alone
-keys_found : (x : Ident) (names : List (List ℕ)) (xs : List Ident)
+pub keys_found : (x : Ident) (names : List (List ℕ)) (xs : List Ident)
     → are_among (all_uses (attribute_keys x names)) (x ∷ xs) ≡ true
 keys_found x [] xs = refl
 keys_found x (name ∷ names) xs =

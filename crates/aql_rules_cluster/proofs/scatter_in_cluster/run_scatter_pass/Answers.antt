@@ -1,24 +1,15 @@
-use Rattle.std.proofs.Common.{◌≤◌, arith}
+use Rattle.std.specs.Prelude.{Result, Ok, Err, IfOk}
 use Rattle.aql_plan.specs.View.{plan_tree}
-use Rattle.aql_rules_cluster.specs.laws.Passes.{alone_passes, walked_passes}
+use Rattle.aql_rules_cluster.specs.laws.Places.{no_place_means_on_shards}
 use Rattle.aql_rules_cluster.proofs.scatter_in_cluster.run_scatter_pass.Goals as goal
 
-pub returns-then-not-has_server-clause-passed : goal.returns-then-not-has_server-clause-passed
-returns-then-not-has_server-clause-passed c =
-    (alone_passes c.args.facts.now (c.has_server.ensures.alone c.if-not-has_server.true)
-    (plan_tree c.args.plan) c.requires).passed
+-- what two facts of a value give
+from_both : {T E : Type 0} (P Q S : T → Type 0) → ((x : T) → P x → Q x → S x) → (r : Result T E) → IfOk r P
+    → IfOk r Q → IfOk r S
+from_both P Q S f (Ok x) h k = f x h k
+from_both P Q S f (Err e) h k = tt
 
-pub returns : goal.returns
-returns c =
-    let facts = c.args.facts.now in
-    let servers : 1 ≤ facts.servers = c.has_server.ensures.there c.if-not-has_server.false in
-    let k = walked_passes facts servers (plan_tree c.args.plan) (plan_tree c.in_ok-plan.plan)
-    c.scatter.new.changed c.requires c.in_ok-plan.ensures in record {
-      passed = k.passed;
-      refines = k.refines;
-      well_formed = k.well_formed;
-      sets = k.sets;
-      on_shards = k.on_shards;
-      executors = k.executors;
-      alone = λ e. absurd (omega (arith, servers, e));
-    }
+pub returns-clause-on_shards : goal.returns-clause-on_shards
+returns-clause-on_shards c = from_both _ _ _
+    (λ x passed well. (no_place_means_on_shards c.args.facts.now (plan_tree x.plan) well).0 passed.ended)
+    c.run_cluster_pass.result c.run_cluster_pass.ensures.passed c.run_cluster_pass.ensures.well_formed
