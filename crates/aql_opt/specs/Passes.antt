@@ -21,6 +21,8 @@ use Rattle.aql_rules_index.specs.UseIndexes.{UsesIndex}
 use Rattle.aql_rules_index.specs.RemoveFilterCoveredByIndex.{RemovesCovered}
 use Rattle.aql_rules_index.specs.UseIndexForSort.{SortsByIndex}
 use Rattle.aql_rules_cluster.specs.ScatterInCluster.{Scatters}
+use Rattle.aql_rules_cluster.specs.DistributeFiltercalcToCluster.{MovesInside}
+use Rattle.aql_rules_cluster.specs.DistributeSortToCluster.{SortsInside}
 use Rattle.aql_rules_filter.specs.MoveFiltersUp.{MovesUp}
 use Rattle.aql_rules_filter.specs.RemoveUnnecessaryFilters.{Removes as RemovesFilter}
 use Rattle.aql_rules_filter.specs.FuseFilters.{Fuses}
@@ -47,4 +49,6 @@ IsPassOf rule.SortLimit facts p q changed = IsPass Limits p q changed
 IsPassOf rule.MoveFiltersIntoEnumerate facts p q changed = IsPass MovesIn p q changed
 IsPassOf rule.ReduceExtractionToProjection facts p q changed = IsPass (Reduces facts) p q changed
 IsPassOf rule.ScatterInCluster facts p q changed = IsPass (Scatters facts) p q changed
+IsPassOf rule.DistributeFiltercalcToCluster facts p q changed = IsPass (MovesInside facts) p q changed
+IsPassOf rule.DistributeSortToCluster facts p q changed = IsPass (SortsInside facts) p q changed
 IsPassOf r facts p q changed = (q ≡ p) × (changed ≡ false)

@@ -20,7 +20,7 @@ use aql_rules_calc::{
     MoveCalculationsUp, ReduceExtractionToProjection, RemoveRedundantCalculations,
     RemoveUnnecessaryCalculations, ReplaceOrWithIn, SimplifyConditions,
 };
-use aql_rules_cluster::run_scatter_pass;
+use aql_rules_cluster::{run_filtercalc_pass, run_scatter_pass, run_sort_pass};
 use aql_rules_filter::{
     FuseFilters, MoveFiltersIntoEnumerate, MoveFiltersUp, OptimizeTraversals,
     RemoveUnnecessaryFilters,
@@ -114,6 +114,8 @@ pub(crate) fn cluster_pass_of(
 {
     match rule {
         RuleName::ScatterInCluster => run_scatter_pass(alloc, plan, facts),
+        RuleName::DistributeFiltercalcToCluster => Ok(run_filtercalc_pass(plan, facts)),
+        RuleName::DistributeSortToCluster => run_sort_pass(alloc, plan, facts),
         _ => Ok(Passed {
             plan,
             changed: false,

@@ -9,38 +9,49 @@ use Rattle.aql_plan.specs.declared.rules.RuleName.TheVariants as rule
 use Rattle.aql_plan.specs.declared.rule_sets.Rules.{Rules}
 use Rattle.aql_plan.specs.Plan.{Plan}
 use Rattle.aql_rewrite.specs.declared.swap.Rename.{Rename}
-use Rattle.aql_rewrite.specs.Places.{First, below, here, body, Reaches, at_once, next}
+use Rattle.aql_rewrite.specs.Places.{Rewriting, First, below, here, body, Reaches, at_once, next}
 use Rattle.aql_rules_cluster.specs.ScatterInCluster.{Scatters, enumeration, by_index, in_index_order}
+use Rattle.aql_rules_cluster.specs.DistributeFiltercalcToCluster.{MovesInside, filter_inside, calculation_inside}
+use Rattle.aql_rules_cluster.specs.DistributeSortToCluster.{SortsInside, sorted, sorted_first}
 use Rattle.aql_opt.specs.Passes.{IsPassOf}
 use Rattle.aql_opt.specs.Chosen.{RunsRule, switched_off, unchanged, changed, AfterRules, at_first, and_then, cluster_rules}
 use Rattle.aql_opt.specs.Theorems.{NoneWithoutServers}
 use Rattle.aql_opt.specs.inner.Later.{is_of_cluster}
 
-module _ (facts : Facts) (alone : facts.servers ≡ 0) where
-  none_made : (us : Uses) (p q : Plan) (r : Option Rename) → Scatters facts us p q r → ⊥
-  none_made us _ _ _ (enumeration servers) = omega (arith, servers, alone)
-  none_made us _ _ _ (by_index servers) = omega (arith, servers, alone)
-  none_made us _ _ _ (in_index_order servers) = omega (arith, servers, alone)
-
-  never : {inside : Bool} {us : Uses} {p q : Plan} {r : Option Rename}
-      → First (Scatters facts) inside us p q r → ⊥
+-- a rule that has no place leaves each plan as it is
+module _ (R : Rewriting) (none : (us : Uses) (p q : Plan) (r : Option Rename) → R us p q r → ⊥) where
+  never : {inside : Bool} {us : Uses} {p q : Plan} {r : Option Rename} → First R inside us p q r → ⊥
   never (below h) = never h
-  never (here none h) = none_made _ _ _ _ h
-  never (body none stays h) = never h
+  never (here free h) = none _ _ _ _ h
+  never (body free stays h) = never h
 
-  unscattered : (p q : Plan) (c : Bool) → Reaches (Scatters facts) p q c → (q ≡ p) × (c ≡ false)
-  unscattered p _ _ at_once = (refl, refl)
-  unscattered p _ _ (next k h) = absurd (never h)
+  left_alone : (p q : Plan) (c : Bool) → Reaches R p q c → (q ≡ p) × (c ≡ false)
+  left_alone p _ _ at_once = (refl, refl)
+  left_alone p _ _ (next k h) = absurd (never h)
+
+module _ (facts : Facts) (alone : facts.servers ≡ 0) where
+  none_scattered : (us : Uses) (p q : Plan) (r : Option Rename) → Scatters facts us p q r → ⊥
+  none_scattered us _ _ _ (enumeration servers) = omega (arith, servers, alone)
+  none_scattered us _ _ _ (by_index servers) = omega (arith, servers, alone)
+  none_scattered us _ _ _ (in_index_order servers) = omega (arith, servers, alone)
+
+  none_moved : (us : Uses) (p q : Plan) (r : Option Rename) → MovesInside facts us p q r → ⊥
+  none_moved us _ _ _ (filter_inside servers) = omega (arith, servers, alone)
+  none_moved us _ _ _ (calculation_inside servers) = omega (arith, servers, alone)
+
+  none_sorted : (us : Uses) (p q : Plan) (r : Option Rename) → SortsInside facts us p q r → ⊥
+  none_sorted us _ _ _ (sorted servers) = omega (arith, servers, alone)
+  none_sorted us _ _ _ (sorted_first servers) = omega (arith, servers, alone)
 
   idle : (r : RuleName) (p q : Plan) (c : Bool) → is_of_cluster r ≡ true → IsPassOf r facts p q c
       → (q ≡ p) × (c ≡ false)
-  idle rule.ScatterInCluster p q c e h = unscattered p q c h.reached
+  idle rule.ScatterInCluster p q c e h = left_alone (Scatters facts) none_scattered p q c h.reached
   idle rule.DistributeInCluster p q c e h = h
   idle rule.RestrictToSingleShard p q c e h = h
-  idle rule.DistributeFiltercalcToCluster p q c e h = h
+  idle rule.DistributeFiltercalcToCluster p q c e h = left_alone (MovesInside facts) none_moved p q c h.reached
   idle rule.RemoveUnnecessaryRemoteScatter p q c e h = h
   idle rule.CollectInCluster p q c e h = h
-  idle rule.DistributeSortToCluster p q c e h = h
+  idle rule.DistributeSortToCluster p q c e h = left_alone (SortsInside facts) none_sorted p q c h.reached
   idle r p q c e h = absurd (cc)
 
   module _ (rules : Rules) where
