@@ -28,11 +28,13 @@ use Rattle.aql_shard.specs.Known.{facts_of}
 use Rattle.aql_build.specs.Resolved.{IsResolved}
 use Rattle.aql_build.specs.Theorem.{ScopingGivesIt}
 use Rattle.aql_build.specs.TextLimits.{TextLimitsEnd}
-use Rattle.aql_plan.specs.declared.rule_sets.Rules.{Rules}
 use Rattle.aql_shard.specs.Theorem.{FactsFit}
 use Rattle.aql_opt.specs.Chosen.{Chosen}
 use Rattle.aql_engine.specs.declared.engine.Ran.{Ran}
 use Rattle.aql_engine.specs.Engine.{Adds}
+use Rattle.aql_engine.specs.Run.{PickedBy}
+use Rattle.aql_net.specs.Logs.{picks_in}
+use Rattle.aql_net.specs.Picking.{seed_of, SchedulePicks}
 use Rattle.aql_top.specs.declared.query_faults.QueryFault.{QueryFault}
 use Rattle.aql_top.specs.declared.query_faults.QueryFault.TheVariants.{TooLong, Lexical, TooDeep, TooManyClauses, NotInGrammar, TraversalTooDeep, Scope, Memory}
 use Rattle.aql_top.specs.Reading.{IsWritten, IsScoped, Refuses}
@@ -41,7 +43,7 @@ use Rattle.aql_scope.specs.Lifting.{scope_query}
 use Rattle.aql_options.specs.declared.settings.Settings.{Settings}
 use Rattle.aql_top.specs.Forms.{HasQuery}
 use Rattle.aql_top.specs.Entries.{known, holding, stored, IsChosenFor, IsPlanned, IsRunOf}
-use Rattle.aql_top.specs.inner.Ready.{IsReady}
+use Rattle.aql_top.specs.inner.Ready.{IsReady, Added}
 use Rattle.aql_top.specs.declared.planning.Planned.{Planned}
 use Rattle.aql_top.specs.Output.{run_text, IsOutput, IsPlanText, IsRunText}
 use Rattle.aql_top.specs.Faults.{of_query, HasNoLines}
@@ -51,7 +53,7 @@ pub is_lifted : (held : List Held) (text : List ℕ) (tree : QueryTree) (names :
 is_lifted held text tree names s = subst IsLifted (sym s.lifted) (scoped_is_lifted [] 1 s.spelled)
 
 -- the scoped query of a loaded script, with its first plan by facts that are true of the collections
-module _ (loaded : Loaded) (tree : QueryTree) (names : List (List ℕ))
+module _ (settings : Settings) (loaded : Loaded) (tree : QueryTree) (names : List (List ℕ))
     (s : IsScoped loaded.catalog loaded.query tree names) (facts : Facts) (plan : spec.Plan)
     (first : plan ≡ first_plan facts tree) where
   abbrev pub has_query : HasQuery loaded
@@ -68,10 +70,10 @@ module _ (loaded : Loaded) (tree : QueryTree) (names : List (List ℕ))
   -- what the values of a plan are
   abbrev GivesAnswers : spec.Plan → Type 0
   GivesAnswers p = (values : List value.Datum)
-      → PlanAnswers p (dataset (known loaded) (database loaded.catalog)) empty_row values
+      → PlanAnswers p (dataset (known settings loaded) (database loaded.catalog)) empty_row values
       → (q : QueryTree) → IsWritten loaded.query q → IsAnswer (database loaded.catalog) q empty_row values
 
-  plan_answers : Meets facts (database loaded.catalog) → facts ≡ known loaded → KeepsAnswers
+  plan_answers : Meets facts (database loaded.catalog) → facts ≡ known settings loaded → KeepsAnswers
       → GivesAnswers plan
   plan_answers meets are keeps values a q written =
       keeps q written (database loaded.catalog) values
@@ -80,7 +82,7 @@ module _ (loaded : Loaded) (tree : QueryTree) (names : List (List ℕ))
       (subst (λ f. PlanAnswers plan (dataset f (database loaded.catalog)) empty_row values) (sym are) a)))
 
   -- the values of a plan that refines it
-  pub chosen_answers : Meets facts (database loaded.catalog) → facts ≡ known loaded → KeepsAnswers
+  pub chosen_answers : Meets facts (database loaded.catalog) → facts ≡ known settings loaded → KeepsAnswers
       → (chosen : spec.Plan) → Refines facts chosen plan → GivesAnswers chosen
   chosen_answers meets are keeps chosen refines values a q written =
       let db = database loaded.catalog in
@@ -89,22 +91,23 @@ module _ (loaded : Loaded) (tree : QueryTree) (names : List (List ℕ))
       (refines db meets empty_row values
       (subst (λ f. PlanAnswers chosen (dataset f db) empty_row values) (sym are) a))) q written
 
-  pub is_planned : facts ≡ known loaded → (rules : Rules) (chosen : spec.Plan) (applied : List RuleName)
-      → Chosen facts rules plan chosen applied → IsPlanned rules loaded names chosen applied
-  is_planned are rules chosen applied h = record {
+  pub is_planned : facts ≡ known settings loaded → (chosen : spec.Plan) (applied : List RuleName)
+      → Chosen facts settings.rules plan chosen applied → IsPlanned settings loaded names chosen applied
+  is_planned are chosen applied h = record {
     has_query = has_query;
     names_are = s.variable_names;
-    chosen = subst (λ f. Chosen f rules (first_plan f (scope_query [] 1 s.spelled).tree) chosen applied) are
-        (subst (λ p. Chosen facts rules p chosen applied) (first ∙ ap (first_plan facts) s.lifted) h);
+    chosen = subst (λ f. Chosen f settings.rules (first_plan f (scope_query [] 1 s.spelled).tree) chosen applied) are
+        (subst (λ p. Chosen facts settings.rules p chosen applied) (first ∙ ap (first_plan facts) s.lifted) h);
   }
 
 -- the scoped query may be planned
 pub resolved : ScopingGivesIt → TextLimitsEnd → FactsFit
-    → (loaded : Loaded) (tree : QueryTree) (names : List (List ℕ)) → IsScoped loaded.catalog loaded.query tree names → IsWithinLimits loaded.catalog → (facts : Facts)
-    → facts ≡ facts_of 0 loaded.catalog → IsResolved facts tree
-resolved scoping limits fit loaded tree names s within facts are =
-    let known = facts_of 0 loaded.catalog in
-    let fits = fit 0 loaded.catalog within in
+    → (settings : Settings) (loaded : Loaded) (tree : QueryTree) (names : List (List ℕ))
+    → IsScoped loaded.catalog loaded.query tree names → IsWithinLimits loaded.catalog → (facts : Facts)
+    → facts ≡ known settings loaded → IsResolved facts tree
+resolved scoping limits fit settings loaded tree names s within facts are =
+    let known = facts_of settings.servers loaded.catalog in
+    let fits = fit settings.servers loaded.catalog within in
     subst (λ f. IsResolved f tree) (sym are)
     (subst (IsResolved known) (sym s.lifted)
     (scoping known loaded.catalog fits.1 fits.0 (few (length known.collections) fits.2) s.spelled s.no_fault
@@ -119,6 +122,12 @@ at_end : (before : List Ran) (ran : Ran) → slice_get (before ++ ran ∷ []) (l
 at_end [] ran = refl
 at_end (other ∷ before) ran = at_end before ran
 
+last_same : (before : List Ran) (x y : Ran) → before ++ x ∷ [] ≡ before ++ y ∷ [] → x ≡ y
+last_same before x y e =
+    let same : Some x ≡ Some y = sym (at_end before x) ∙ ap (λ list. slice_get list (length before)) e
+    ∙ at_end before y in
+    cc
+
 module _ (w : Dataset) (plan : Plan) (batch : ℕ) (before after : List Ran)
     (a : Adds w plan batch before after)
   where
@@ -130,50 +139,67 @@ module _ (w : Dataset) (plan : Plan) (batch : ℕ) (before after : List Ran)
         ∙ ap (λ n. slice_get (before ++ a.ran ∷ []) n) (here ∙ ap length is)
         ∙ at_end before a.ran
 
+-- the entry that was added is the one whose messages a schedule delivered
+pub added_entry : (settings : Settings) (w : Dataset) (plan : Plan) (before after : List Ran)
+    → Adds w plan settings.batch before after → (start end : Option ℕ) → start ≡ seed_of settings.schedule
+    → (ran : Ran) × (after ≡ before ++ ran ∷ []) × PickedBy SchedulePicks start (picks_in ran.log) end
+    → Added settings w plan before after
+added_entry settings w plan before after a start end is h = record {
+  adds = a;
+  delivered = (
+    end,
+    subst (λ (r : Ran). PickedBy SchedulePicks (seed_of settings.schedule) (picks_in r.log) end)
+        (last_same before h.0 a.ran (sym h.1 ∙ a.added))
+        (subst (λ s. PickedBy SchedulePicks s (picks_in h.0.log) end) is h.2),
+  );
+}
+
 -- the text of the entry that is found is that of the entry that was added
-pub entry_prints : (w : Dataset) (settings : Settings) (plan : Plan) (batch : ℕ) (before after : List Ran)
-    → (a : Adds w plan batch before after) (ran : Ran) → ran ≡ a.ran
+pub entry_prints : (settings : Settings) (w : Dataset) (plan : Plan) (before after : List Ran)
+    → (a : Added settings w plan before after) (ran : Ran) → ran ≡ a.adds.ran
     → {V E : Type 0} (bytes : V → List ℕ) (r : Result V E) → IfOk r (λ text. bytes text ≡ run_text settings ran)
-    → IfOk r (λ text. (added : Adds w plan batch before after)
-    × (bytes text ≡ run_text settings added.ran))
-entry_prints w settings plan batch before after a ran same bytes (Err e) is = tt
-entry_prints w settings plan batch before after a ran same bytes (Ok text) is =
+    → IfOk r (λ text. (added : Added settings w plan before after)
+    × (bytes text ≡ run_text settings added.adds.ran))
+entry_prints settings w plan before after a ran same bytes (Err e) is = tt
+entry_prints settings w plan before after a ran same bytes (Ok text) is =
     (a, is ∙ ap (run_text settings) same)
 
 -- ---- what is printed
 
-module _ (loaded : Loaded) (settings : Settings) (p : Planned) (ready : IsReady settings.rules loaded p) where
-  run_of : (before after : List Ran) (a : Adds (stored loaded) p.chosen.plan settings.batch before after)
-      → IsRunOf settings loaded a.ran
-  run_of before after a = record {
+module _ (loaded : Loaded) (settings : Settings) (p : Planned) (ready : IsReady settings loaded p) where
+  run_of : (before after : List Ran) (added : Added settings (stored settings loaded) p.chosen.plan before after)
+      → IsRunOf settings loaded added.adds.ran
+  run_of before after added = let a = added.adds in record {
     has_query = ready.planned.has_query;
     applied = p.chosen.applied;
     chosen = subst
-        (λ (x : Plan). IsChosenFor settings.rules loaded ready.planned.has_query.query (plan_tree x)
+        (λ (x : Plan). IsChosenFor settings loaded ready.planned.has_query.query (plan_tree x)
         p.chosen.applied)
         (sym a.same_plan) ready.planned.chosen;
     batch = a.same_batch;
     answer = ready.answers a.ran.values
-        (subst (λ (x : Plan). PlanAnswers (plan_tree x) (stored loaded) empty_row a.ran.values) a.same_plan
+        (subst (λ (x : Plan). PlanAnswers (plan_tree x) (stored settings loaded) empty_row a.ran.values) a.same_plan
         a.over.answer)
         ready.planned.has_query.query ready.planned.has_query.is_written;
+    logged = a.over.logged;
+    delivered = added.delivered;
   }
 
   -- what is printed of an entry that was added over the servers of the plan
   pub run_output : settings.explain ≡ false → (before after : List Ran) (text : List ℕ)
-      → (a : Adds (stock p.servers) p.chosen.plan settings.batch before after)
-      × (text ≡ run_text settings a.ran)
+      → (a : Added settings (stock p.servers) p.chosen.plan before after)
+      × (text ≡ run_text settings a.adds.ran)
       → IsOutput settings loaded before after text
   run_output off before after text h =
       let over_script = subst
-      (λ (s : Holding). (a : Adds (stock s) p.chosen.plan settings.batch before after)
-      × (text ≡ run_text settings a.ran))
+      (λ (s : Holding). (a : Added settings (stock s) p.chosen.plan before after)
+      × (text ≡ run_text settings a.adds.ran))
       ready.servers_are h in
-      subst (λ on. MatchBool on ((after ≡ before) × IsPlanText settings.rules loaded text)
+      subst (λ on. MatchBool on ((after ≡ before) × IsPlanText settings loaded text)
       (IsRunText settings loaded before after text)) (sym off)
       (record {
-        ran = over_script.0.ran;
-        added = over_script.0.added;
+        ran = over_script.0.adds.ran;
+        added = over_script.0.adds.added;
         of = run_of before after over_script.0;
         is = over_script.1;
       })
@@ -182,7 +208,7 @@ module _ (loaded : Loaded) (settings : Settings) (p : Planned) (ready : IsReady 
       → text ≡ plan_text p.names p.facts (plan_tree p.chosen.plan) p.chosen.applied p.chosen.cost
       → IsOutput settings loaded entries entries text
   plan_output on entries text is =
-      subst (λ b. MatchBool b ((entries ≡ entries) × IsPlanText settings.rules loaded text)
+      subst (λ b. MatchBool b ((entries ≡ entries) × IsPlanText settings loaded text)
       (IsRunText settings loaded entries entries text)) (sym on) (
         refl,
         record {
@@ -196,11 +222,11 @@ module _ (loaded : Loaded) (settings : Settings) (p : Planned) (ready : IsReady 
       )
 
   pub run_at_most : settings.explain ≡ false → (before after : List Ran)
-      → (after ≡ before) ⊎ Adds (stock p.servers) p.chosen.plan settings.batch before after
+      → (after ≡ before) ⊎ Added settings (stock p.servers) p.chosen.plan before after
       → (after ≡ before) ⊎ ((text : List ℕ) × IsOutput settings loaded before after text)
   run_at_most off before after (inl same) = inl same
   run_at_most off before after (inr a) =
-      inr (run_text settings a.ran, run_output off before after (run_text settings a.ran) (a, refl))
+      inr (run_text settings a.adds.ran, run_output off before after (run_text settings a.adds.ran) (a, refl))
 
 -- ---- a query that is refused
 

@@ -1,5 +1,5 @@
 -- What is printed of a script with its settings, and what the engine's list gains by it: the lines of an
--- answer, or how many they are, and the counts of the run; or the plan alone, which is not run.
+-- answer, or how many they are, the log of the run and its counts; or the plan alone, which is not run.
 use Rattle.std.specs.Prelude.{◌≡◌, ◌⊎◌, ℕ, List, [], ◌∷◌, ◌++◌, length, codes, cond, MatchBool, Option, Some, None, IfSome}
 use Rattle.std.specs.Fmt.{decimal}
 use Rattle.aql_value.specs.Datum.{Datum}
@@ -8,8 +8,8 @@ use Rattle.aql_script.specs.declared.loading.Loaded.{Loaded}
 use Rattle.aql_plan.specs.declared.rules.RuleName.{RuleName}
 use Rattle.aql_plan.specs.Plan.{Plan}
 use Rattle.aql_show.specs.PlanText.{plan_text}
+use Rattle.aql_net.specs.LogText.{log_text}
 use Rattle.aql_block.specs.declared.tally.Tally.{Tally}
-use Rattle.aql_plan.specs.declared.rule_sets.Rules.{Rules}
 use Rattle.aql_opt.specs.Chosen.{cost_of}
 use Rattle.aql_options.specs.declared.settings.Settings.{Settings}
 use Rattle.aql_engine.specs.declared.engine.Ran.{Ran}
@@ -34,18 +34,18 @@ stats_text tally = codes "stats scannedFull=" ++ (decimal tally.scanned_full ++ 
 
 -- what is printed of a run
 abbrev pub run_text : Settings → Ran → List ℕ
-run_text settings ran =
-    rows_text settings.generate ran.values ++ cond settings.stats (stats_text ran.tally) []
+run_text settings ran = (rows_text settings.generate ran.values ++ cond settings.trace (log_text ran.log) [])
+    ++ cond settings.stats (stats_text ran.tally) []
 
 -- ---- the script with its settings
 
 -- the text of the chosen plan, with the names of the rules that changed it and its cost
-pub record IsPlanText (rules : Rules) (loaded : Loaded) (text : List ℕ) : Type 0 where
+pub record IsPlanText (settings : Settings) (loaded : Loaded) (text : List ℕ) : Type 0 where
   pub names : List (List ℕ)
   pub plan : Plan
   pub applied : List RuleName
-  pub planned : IsPlanned rules loaded names plan applied
-  pub is : text ≡ plan_text names (known loaded) plan applied (cost_of (known loaded) plan)
+  pub planned : IsPlanned settings loaded names plan applied
+  pub is : text ≡ plan_text names (known settings loaded) plan applied (cost_of (known settings loaded) plan)
 
 -- exactly one entry is new, and this is what is printed of it
 pub record IsRunText (settings : Settings) (loaded : Loaded) (before after : List Ran) (text : List ℕ)
@@ -57,7 +57,7 @@ pub record IsRunText (settings : Settings) (loaded : Loaded) (before after : Lis
 
 abbrev pub IsOutput : Settings → Loaded → List Ran → List Ran → List ℕ → Type 0
 IsOutput settings loaded before after text = MatchBool settings.explain
-    ((after ≡ before) × IsPlanText settings.rules loaded text)
+    ((after ≡ before) × IsPlanText settings loaded text)
     (IsRunText settings loaded before after text)
 
 -- this was written, of the script that the source has left or that was made

@@ -4,9 +4,10 @@ ghost use Rattle.std.specs.Prelude.{◌≡◌, ◌≢◌, ◌⊎◌, ◌≤◌, 
 ghost use Rattle.aql_plan.specs.View.{plan_tree};
 ghost use Rattle.aql_show.specs.PlanText.{plan_text};
 ghost use Rattle.aql_shard.specs.Datasets.{stock};
-ghost use Rattle.aql_engine.specs.Engine.{Adds, CanRun};
+ghost use Rattle.aql_engine.specs.Engine.{CanRun};
 ghost use Rattle.aql_top.specs.Forms.{HasQuery};
 ghost use Rattle.aql_top.specs.Output.{IsOutput, run_text};
+ghost use Rattle.aql_top.specs.inner.Ready.{Added};
 ghost use Rattle.aql_top.specs.Faults.{HasNoLines};
 ghost use Rattle.aql_top.specs.declared.faults.RunFault.TheVariants.{Memory};
 
@@ -33,7 +34,8 @@ pub(crate) fn output<G: Engine<Schedule>>(
     settings: &Settings,
     engine: &mut G,
 ) -> Result<Vec<u8>, RunFault>
-    requires { (1 ≤ settings.now.batch) × (settings.now.batch ≤ 10000) }
+    requires batch { (1 ≤ settings.now.batch) × (settings.now.batch ≤ 10000) }
+    requires servers { settings.now.servers ≤ 16 }
     ensures query { OnOk result (HasQuery script) }
     ensures output { IfOk result (λ text. IsOutput settings.now script
         (G.entries engine.old) (G.entries engine.new) text.items) }
@@ -44,7 +46,7 @@ pub(crate) fn output<G: Engine<Schedule>>(
         (G.entries engine.old) (G.entries engine.new) text) }
     ensures not_run { settings.now.explain ≡ true → engine.new ≡ engine.old }
 {
-    let planned = plan_query(alloc, script, &settings.rules)?;
+    let planned = plan_query(alloc, script, settings)?;
     if settings.explain {
         return Ok(explain(alloc, &planned)?);
     }
@@ -88,15 +90,14 @@ fn run_on<G: Engine<Schedule>>(
 ) -> Result<Vec<u8>, OutOfMemory>
     requires batch { (1 ≤ settings.now.batch) × (settings.now.batch ≤ 10000) }
     requires plan { CanRun (stock servers) plan }
-    ensures added { IfOk result (λ text. (added : Adds (stock servers) plan settings.now.batch
+    ensures added { IfOk result (λ text. (added : Added settings.now (stock servers) plan
         (G.entries engine.old) (G.entries engine.new))
-        × (text.items ≡ run_text settings.now added.ran)) }
+        × (text.items ≡ run_text settings.now added.adds.ran)) }
     ensures at_most { (G.entries engine.new ≡ G.entries engine.old)
-        ⊎ Adds (stock servers) plan settings.now.batch
-        (G.entries engine.old) (G.entries engine.new) }
+        ⊎ Added settings.now (stock servers) plan (G.entries engine.old) (G.entries engine.new) }
 {
     let before = engine.held().len();
-    let mut schedule = Schedule::new(0);
+    let mut schedule = Schedule::new(settings.schedule);
     engine.run(alloc, plan, &mut servers, &mut schedule, settings.batch)?;
     // the program ends soon, and the system then takes all documents back at once
     mem::forget(servers);

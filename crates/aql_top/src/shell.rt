@@ -26,9 +26,10 @@ use std::alloc::Global;
 /// All that the program does: it reads the settings off the words, loads the script from the
 /// source, reads the script's query, has the engine run the plan that the optimiser chooses, writes
 /// the lines of the values that came of it to `out`, which are one answer of the query, and answers
-/// the exit status. By the settings it prints the counts of the run after these lines, or the plan
-/// alone and runs nothing, or makes the script and prints how many rows and bytes the answer's
-/// lines are. With status 0 nothing is written to `err`; with any other status one line is.
+/// the exit status. The documents are on as many servers as the settings say, and the messages
+/// between these are delivered by the schedule of the settings. By the settings it prints the log of
+/// the run and its counts after the answer's lines, or the plan alone and runs nothing, or makes the
+/// script and prints how many rows and bytes the answer's lines are. With status 0 nothing is written to `err`; with any other status one line is.
 ///
 /// | Status | It comes |
 /// |---|---|
@@ -169,6 +170,7 @@ fn run_with<S: Source, K: Sink, G: Engine<Schedule>>(
     engine: &mut G,
 ) -> Result<(), RunFault>
     requires batch { (1 ≤ settings.now.batch) × (settings.now.batch ≤ 10000) }
+    requires servers { settings.now.servers ≤ 16 }
     requires made { MatchOption settings.now.generate ⊤ (λ n. (1 ≤ n) × (n ≤ 100000)) }
     ensures accepts { OnOk result
         (IfSome (script_bytes settings.now (S.left source.old)) Accepts) }

@@ -21,7 +21,7 @@ initial_plan-requires c =
     let is_scoped = subst (λ text. IsScoped script.catalog text tree scoped.names) c.as_str.ensures
     c.in_ok-scoped.ensures.query in
     let are = c.in_ok-facts.ensures.known ∙ ap (λ (h : Holding). (stock h).facts) c.in_ok-servers.ensures in
-    resolved c.scoping_gives_it.ensures c.text_limits_end.ensures c.facts_fit.ensures script tree
+    resolved c.scoping_gives_it.ensures c.text_limits_end.ensures c.facts_fit.ensures c.args.settings.now script tree
     scoped.names is_scoped c.recall_limits.ensures c.in_ok-facts.facts are
 
 pub optimise-requires : goal.optimise-requires
@@ -39,7 +39,7 @@ returns-clause-query c =
     let script = c.args.script in
     let is_scoped = subst (λ text. IsScoped script.catalog text tree scoped.names) c.as_str.ensures
     c.in_ok-scoped.ensures.query in
-    has_query script tree scoped.names is_scoped c.in_ok-facts.facts (plan_tree c.in_ok-plan.plan)
+    has_query c.args.settings.now script tree scoped.names is_scoped c.in_ok-facts.facts (plan_tree c.in_ok-plan.plan)
     c.in_ok-plan.ensures.first
 
 pub returns-clause-ready : goal.returns-clause-ready
@@ -56,16 +56,16 @@ returns-clause-ready c =
     let are = c.in_ok-facts.ensures.known ∙ ap (λ (h : Holding). (stock h).facts) holds in
     let meets = subst (λ (h : Holding). Meets facts (stock h).db) holds c.in_ok-facts.ensures.meets in
     record {
-      planned = is_planned script tree scoped.names is_scoped facts first c.in_ok-plan.ensures.first are
-          c.args.rules.now chosen c.in_ok-chosen.chosen.applied c.in_ok-chosen.ensures.chosen;
+      planned = is_planned c.args.settings.now script tree scoped.names is_scoped facts first
+          c.in_ok-plan.ensures.first are chosen c.in_ok-chosen.chosen.applied c.in_ok-chosen.ensures.chosen;
       known_facts = are;
       cost = c.in_ok-chosen.ensures.cost ∙ ap (λ f. cost_of f chosen) are;
       servers_are = holds;
       can_run = record {
         well_formed = subst (λ f. IsWellFormed f [] chosen) are c.in_ok-chosen.ensures.well_formed;
-        without_fragments = c.in_ok-chosen.ensures.alone (ap (λ (f : Facts). f.servers) are);
+        executors = c.in_ok-chosen.ensures.executors;
       };
-      answers = chosen_answers script tree scoped.names is_scoped facts first c.in_ok-plan.ensures.first
+      answers = chosen_answers c.args.settings.now script tree scoped.names is_scoped facts first c.in_ok-plan.ensures.first
           meets are
           (λ q written. c.in_ok-scoped.ensures.answers q
           (subst (λ text. IsWritten text q) (sym c.as_str.ensures) written))
