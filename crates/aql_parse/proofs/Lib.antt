@@ -1,2 +1,3 @@
 mod ParseLaws
 mod Levels
+mod Each

@@ -4,3 +4,4 @@ mod Compared
 mod NodeForms
 mod RenamingSteps
 mod InPlace
+mod Passed

@@ -1,13 +1,16 @@
 -- What an access uses, and what a ternary uses, whose middle may be missing.
-use Rattle.std.proofs.Common.{◌≡◌, ◌∙◌, [], ◌∷◌, ◌++◌, map, option_map, ap, sym, append_assoc}
+use Rattle.std.proofs.Common.{◌≡◌, ◌∙◌, ◌+◌, List, [], ◌∷◌, ◌++◌, map, option_map, drop, refl, ap, sym, append_assoc}
 use Rattle.std.proofs.lemmas.List.{map-append, append-nil}
 use Rattle.std.proofs.lemmas.Result.{on_ok_weaker}
 use Rattle.aql_tree.specs.Tree.{access}
-use Rattle.aql_tree.specs.View.{tree, maybe, steps, step_part}
-use Rattle.aql_tree.specs.laws.Parts.{access_form, ternary_form}
-use Rattle.aql_meaning.specs.Uses.{uses, maybe_uses, step_uses}
+use Rattle.aql_tree.specs.View.{tree, trees, maybe, steps, step_part, links, link_part, LinkPart}
+use Rattle.aql_tree.specs.declared.syntax.Expr.{Expr}
+use Rattle.aql_tree.specs.declared.syntax.Link.{Link}
+use Rattle.aql_tree.specs.laws.Parts.{access_form, ternary_form, link_is}
+use Rattle.aql_meaning.specs.Uses.{Uses, uses, all_uses, maybe_uses, step_uses, link_uses}
 use Rattle.aql_plan.specs.Used.{use_tree, uses_tree, attribute_used}
 use Rattle.aql_plan.proofs.AccessUses.{used_whole, used_part, three_appended}
+use Rattle.aql_plan.proofs.Appended.{one_passed, all_passed}
 use Rattle.aql_plan.proofs.uses.+uses.Goals as goal
 use Rattle.aql_plan.proofs.uses.+uses.Goals.{add_uses-in-Some+in_ok-push-in-Some, add_uses-in-None+in_ok-add_uses-in-None}
 use Rattle.aql_plan.proofs.uses.+uses.Goals.{add_uses-in-Some-yes+in_ok-add_uses-in-Some-yes, add_uses-in-None-yes}
@@ -65,3 +68,34 @@ add_uses-returns-after-yes t c =
     (h ∙ ap (λ x. uses_tree c.match-yes.to ++ uses (tree x)) c.deref-in-Cond-2.ensures)
     ∙ sym (ap (λ d. before ++ uses d) (ternary_form c.args.expr.now n.test n.yes n.no n.is)))
     c.add_uses-in-Cond-2.ensures
+
+abbrev of_exprs : List Expr → Uses
+of_exprs es = all_uses (trees (map tree es))
+
+pub add_all_uses-loop-expr-preserved : goal.add_all_uses-loop-expr-preserved
+add_all_uses-loop-expr-preserved t c =
+    let item = c.expr-item.result in
+    one_passed of_exprs c.args.exprs.now c.loop-expr.expr-index item (uses_tree c.loop-expr.to) _
+    (uses (tree item)) _ c.loop-expr-test.true c.expr-item.is refl c.in_ok-add_uses.ensures
+    c.loop-expr.invariant
+
+pub add_all_uses-returns : goal.add_all_uses-returns
+add_all_uses-returns t c =
+    all_passed of_exprs c.args.exprs.now c.loop-expr.expr-index _ _ c.loop-expr-test.false refl
+    c.loop-expr.invariant
+
+abbrev of_links : List Link → Uses
+of_links ls = link_uses (links (map link_part ls))
+
+pub add_link_uses-loop-link-preserved : goal.add_link_uses-loop-link-preserved
+add_link_uses-loop-link-preserved t c =
+    let item = c.link-item.result in
+    let after = of_links (drop (c.loop-link.link-index + 1) c.args.all.now) in
+    one_passed of_links c.args.all.now c.loop-link.link-index item (uses_tree c.loop-link.to) _
+    (uses (tree item.right)) _ c.loop-link-test.true c.link-item.is
+    (ap (λ (p : LinkPart). uses p.1 ++ after) (link_is item)) c.in_ok-add_uses.ensures c.loop-link.invariant
+
+pub add_link_uses-returns : goal.add_link_uses-returns
+add_link_uses-returns t c =
+    all_passed of_links c.args.all.now c.loop-link.link-index _ _ c.loop-link-test.false refl
+    c.loop-link.invariant
