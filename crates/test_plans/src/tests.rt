@@ -1,6 +1,7 @@
 mod calculations;
 mod checked;
 mod chosen;
+mod cluster_sorts;
 mod clusters;
 mod conditions;
 mod estimates;
@@ -8,6 +9,7 @@ mod expressions;
 mod exprs;
 mod facts;
 mod filters;
+mod filters_inside;
 mod indexes;
 mod lines;
 mod loops;

@@ -1,5 +1,6 @@
 mod catalogs;
 mod counts;
+mod fragments;
 mod pages;
 mod rule_sets;
 mod scoping;

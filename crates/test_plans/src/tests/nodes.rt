@@ -117,16 +117,28 @@ fn traversal(alloc: Global, fields: &[u8; 9]) -> Made {
     })
 }
 
+// A plan of these nodes, with blanks between them.
+fn plan_by(alloc: Global, words: &str) -> Result<Plan, OutOfMemory> {
+    let mut plan = Plan::Singleton;
+    for word in words.split(' ') {
+        plan = large_node(alloc, word.as_bytes())?.over(alloc, plan)?;
+    }
+    Ok(plan)
+}
+
 // The body of a subquery: a Return of this expression, or of null for each document of collection 0
-// at `d`, or none at `x`.
+// at `d`, gathered and filtered at `g`, and in order at `o`, or none at `x`.
 fn body(alloc: Global, of: u8) -> Result<Plan, OutOfMemory> {
     if of == b'x' {
         return Ok(Plan::Singleton);
     }
-    let below = if of == b'd' {
-        scan(alloc, b"10--")?.over(alloc, Plan::Singleton)?
-    } else {
-        Plan::Singleton
+    if of == b'o' {
+        return plan_by(alloc, "A0- > E10-- > Ga Saa R_-");
+    }
+    let below = match of {
+        b'd' => scan(alloc, b"10--")?.over(alloc, Plan::Singleton)?,
+        b'g' => plan_by(alloc, "A0- > E10-- > Ga F1")?,
+        _ => Plan::Singleton,
     };
     let result = Node::Return {
         expr: expr(alloc, of)?,
@@ -260,12 +272,17 @@ fn small_node(alloc: Global, word: &[u8]) -> Made {
     }
 }
 
-// S and G have a direction and keys; A a collection and a shard, D a collection and expressions.
+// S and G have a direction and keys, P a limit before these; A a collection and a shard, D a
+// collection and expressions.
 fn cluster_node(alloc: Global, word: &[u8]) -> Made {
     match word {
         [b'S', direction, letters @ ..] => Ok(Node::Sort {
             keys: keys(alloc, *direction, letters)?,
             limit: None,
+        }),
+        [b'P', limit, direction, letters @ ..] => Ok(Node::Sort {
+            keys: keys(alloc, *direction, letters)?,
+            limit: Some(count(*limit)),
         }),
         [b'G', direction, letters @ ..] => Ok(Node::Gather {
             order: keys(alloc, *direction, letters)?,

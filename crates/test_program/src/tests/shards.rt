@@ -61,7 +61,7 @@ static LINES: [&str; 4] = [
 ];
 
 // A collection of these documents, with so many shards.
-fn catalog(alloc: Global, shards: u32) -> Option<Catalog> {
+pub(crate) fn catalog(alloc: Global, shards: u32) -> Option<Catalog> {
     let mut catalog = Catalog::new(alloc);
     declare(alloc, &mut catalog, "c", false, shards, &["_key"]).ok()?;
     for line in &LINES {

@@ -1,0 +1,270 @@
+//! Runs of plans with fragments over several servers, worked out by hand, with messages delivered in
+//! hostile orders.
+
+ghost use Rattle.std.specs.Prelude.{IsTrue, IfOk};
+ghost use Rattle.aql_plan.specs.View.{node_tree, plan_tree};
+ghost use Rattle.aql_plan.specs.Executable.{HasExecutors, HasExecutor};
+ghost use Rattle.aql_shard.specs.Datasets.{stock};
+ghost use Rattle.aql_engine.specs.Engine.{CanRun};
+
+use crate::tests::pages::{Page, expect_page};
+use crate::tests::shards::catalog;
+use aql_engine::Ran;
+use aql_local::run_plan;
+use aql_net::{ListPicker, Picks};
+use aql_plan::{Node, Plan, Stage};
+use aql_plan_check::well_formed;
+use aql_shard::{Servers, split};
+use aql_tree::{Expr, Ident, Key, Keys, Step};
+use aql_value::{CollNo, OutOfMemory, Seq, Text, Value};
+use std::alloc::Global;
+
+// A node of a plan, with its variable or the variable whose key it uses.
+#[derive(Clone, Copy)]
+enum Part {
+    Scatter,
+    Link,
+    Docs(u32),
+    Sort(u32),
+    Gather,
+    GatherBy(u32),
+    Return(u32),
+}
+
+fn key_of(alloc: Global, var: u32) -> Result<Expr, OutOfMemory> {
+    let mut steps = Seq::new(alloc);
+    steps.push(Step::Name(Text::new(alloc, "_key")?))?;
+    Expr::access(alloc, Expr::Var(Ident::Num(var)), steps)
+}
+
+fn by_key(alloc: Global, var: u32) -> Result<Keys, OutOfMemory> {
+    let mut keys = Seq::new(alloc);
+    keys.push(Key::new(key_of(alloc, var)?, false))?;
+    Ok(keys)
+}
+
+fn node_of(alloc: Global, part: Part) -> Result<Node, OutOfMemory> {
+    match part {
+        Part::Scatter => Ok(Node::Scatter {
+            coll: CollNo(0),
+            only: None,
+        }),
+        Part::Link => Ok(Node::Remote),
+        Part::Docs(var) => Ok(Node::EnumerateCollection {
+            var,
+            coll: CollNo(0),
+            filter: None,
+            attrs: None,
+            shard: None,
+        }),
+        Part::Sort(var) => Ok(Node::Sort {
+            keys: by_key(alloc, var)?,
+            limit: None,
+        }),
+        Part::Gather => Ok(Node::Gather {
+            order: Seq::new(alloc),
+        }),
+        Part::GatherBy(var) => Ok(Node::Gather {
+            order: by_key(alloc, var)?,
+        }),
+        Part::Return(var) => Ok(Node::Return {
+            expr: key_of(alloc, var)?,
+            distinct: false,
+        }),
+    }
+}
+
+fn plan_of(alloc: Global, parts: &[Part]) -> Result<Plan, OutOfMemory> {
+    let mut plan = Plan::Singleton;
+    for part in parts {
+        plan = node_of(alloc, *part)?.over(alloc, plan)?;
+    }
+    Ok(plan)
+}
+
+fn has_executor(node: &Node) -> bool
+    ensures { IsTrue result → HasExecutor (node_tree node.now) }
+{
+    match node {
+        Node::Collect { stage, .. } => match stage {
+            Stage::Whole => true,
+            _ => false,
+        },
+        Node::Distribute { .. } => false,
+        _ => true,
+    }
+}
+
+fn has_executors(plan: &Plan) -> bool
+    ensures { IsTrue result → HasExecutors (plan_tree plan.now) }
+{
+    match plan {
+        Plan::Singleton => true,
+        Plan::Over { below, node } => has_executor(node) && has_executors(below),
+        Plan::Subquery { below, body, .. } => has_executors(below) && has_executors(body),
+    }
+}
+
+// Whether a plan can be run over the documents of these servers.
+fn can_run(alloc: Global, plan: &Plan, servers: &Servers) -> Result<bool, OutOfMemory>
+    ensures { IfOk result (λ answer. IsTrue answer → CanRun (stock servers.now) plan.now) }
+{
+    let facts = servers.facts(alloc)?;
+    let is_well_formed = well_formed(alloc, plan, &facts)?;
+    if !is_well_formed {
+        return Ok(false);
+    }
+    Ok(has_executors(plan))
+}
+
+fn put_ran(page: &mut Page, ran: &Ran) {
+    for value in ran.values.as_slice() {
+        if let Value::Text(text) = value {
+            page.put(text.as_str());
+        }
+    }
+    page.put(" full ");
+    page.put_shown(&ran.tally.scanned_full);
+    page.put(if ran.log.len() == 0 { " at once" } else { "" });
+}
+
+// Which messages are delivered: how many picks, the first one, and by what each is multiplied to
+// give the next.
+#[derive(Clone, Copy)]
+struct Order {
+    count: u32,
+    first: u64,
+    factor: u64,
+}
+
+fn picks(alloc: Global, order: Order) -> Result<Picks, OutOfMemory> {
+    let mut all = Seq::new(alloc);
+    let mut pick = order.first;
+    for _ in 0..order.count {
+        all.push(pick)?;
+        pick = pick.wrapping_mul(order.factor);
+    }
+    Ok(all)
+}
+
+// Runs a plan over a collection of three shards, and writes its values, how many documents it read,
+// and whether no message was sent.
+fn run(
+    alloc: Global,
+    parts: &[Part],
+    servers: u32,
+    order: Order,
+    batch: u32,
+    page: &mut Page,
+) -> Result<(), OutOfMemory> {
+    let Some(catalog) = catalog(alloc, 3) else {
+        return Err(OutOfMemory);
+    };
+    if servers > 16 || batch < 1 || batch > 10000 {
+        return Ok(());
+    }
+    let plan = plan_of(alloc, parts)?;
+    let mut servers = split(alloc, catalog, servers)?;
+    if !can_run(alloc, &plan, &servers)? {
+        page.put("no such plan");
+        return Ok(());
+    }
+    let mut picker = ListPicker::new(picks(alloc, order)?);
+    let ran = run_plan(alloc, plan, &mut servers, &mut picker, batch)?;
+    put_ran(page, &ran);
+    Ok(())
+}
+
+// Plans over the documents a, b, c and d, and what is written of their runs.
+static RUNS: [(&[Part], &str); 5] = [
+    (
+        &[Part::Docs(1), Part::Sort(1), Part::Return(1)],
+        "abcd full 4 at once",
+    ),
+    (
+        &[
+            Part::Scatter,
+            Part::Link,
+            Part::Docs(1),
+            Part::Link,
+            Part::Gather,
+            Part::Sort(1),
+            Part::Return(1),
+        ],
+        "abcd full 4",
+    ),
+    (
+        &[
+            Part::Scatter,
+            Part::Link,
+            Part::Docs(1),
+            Part::Sort(1),
+            Part::Link,
+            Part::GatherBy(1),
+            Part::Return(1),
+        ],
+        "abcd full 4",
+    ),
+    // each document again for each of the four rows below
+    (
+        &[
+            Part::Docs(2),
+            Part::Scatter,
+            Part::Link,
+            Part::Docs(1),
+            Part::Link,
+            Part::Gather,
+            Part::Sort(1),
+            Part::Return(1),
+        ],
+        "aaaabbbbccccdddd full 20",
+    ),
+    (
+        &[
+            Part::Scatter,
+            Part::Link,
+            Part::Docs(1),
+            Part::Link,
+            Part::Gather,
+            Part::Scatter,
+            Part::Link,
+            Part::Docs(2),
+            Part::Link,
+            Part::Gather,
+            Part::Sort(2),
+            Part::Return(2),
+        ],
+        "aaaabbbbccccdddd full 20",
+    ),
+];
+
+// The oldest message each time, the place that the largest number picks, and a thousand places.
+static ORDERS: [Order; 3] = [
+    Order {
+        count: 0,
+        first: 0,
+        factor: 0,
+    },
+    Order {
+        count: 1000,
+        first: u64::MAX,
+        factor: 1,
+    },
+    Order {
+        count: 1000,
+        first: 7,
+        factor: 6_364_136_223_846_793_005,
+    },
+];
+
+#[test]
+fn fragments_are_run(rt: HostRuntime) {
+    for (parts, want) in &RUNS {
+        for (servers, order, batch) in [(2, 0, 1000), (3, 1, 1), (3, 2, 3), (16, 2, 1000)] {
+            let mut page = Page::new(rt.alloc());
+            let ran = run(rt.alloc(), parts, servers, ORDERS[order], batch, &mut page);
+            page.put(if ran.is_err() { "memory" } else { "" });
+            expect_page(&rt, &page, want, want);
+        }
+    }
+}
