@@ -174,7 +174,7 @@ fn error_output_fails(rt: HostRuntime) {
 #[test]
 fn words_fail(rt: HostRuntime) {
     let alloc = rt.alloc();
-    let words = names(alloc, &["aql_shell", "--trace"]);
+    let words = names(alloc, &["aql_shell", "--help"]);
     let mut err = sink(alloc, 4, Some(6), 100);
     let mut out = MemorySink::new(alloc, 1, None);
     let status = run_on(alloc, &words, FIRST.as_bytes(), None, &mut out, &mut err);
