@@ -29,7 +29,8 @@ use std::alloc::Global;
 /// the exit status. The documents are on as many servers as the settings say, and the messages
 /// between these are delivered by the schedule of the settings. By the settings it prints the log of
 /// the run and its counts after the answer's lines, or the plan alone and runs nothing, or makes the
-/// script and prints how many rows and bytes the answer's lines are. With status 0 nothing is written to `err`; with any other status one line is.
+/// script and prints how many rows and bytes the answer's lines are. With status 0 nothing is written
+/// to `err`; with any other status one line is.
 ///
 /// | Status | It comes |
 /// |---|---|
