@@ -1,3 +1,4 @@
 pub mod SomeMerge
 pub mod SomeRun
 pub mod Executable
+pub mod Paired

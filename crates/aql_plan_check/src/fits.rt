@@ -2,7 +2,7 @@
 
 ghost use Rattle.std.specs.Prelude.{◌≡◌, ◌↔◌, ◌≤◌, ◌<◌, ◌^◌, IsTrue, MatchOption, length, map, eqb, option_map, option_copied};
 ghost use Rattle.std.specs.List.{AllByRecursion, IsDistinct};
-ghost use Rattle.aql_tree.specs.View.{tree, trees, maybe};
+ghost use Rattle.aql_tree.specs.View.{let_part, tree, trees, maybe};
 ghost use Rattle.aql_meaning.specs.Plain.{AllPlain, IsPlain, MaybePlain};
 ghost use Rattle.aql_meaning.specs.View.{last_tree};
 ghost use Rattle.aql_plan.specs.Facts.{keys_in};
@@ -15,7 +15,7 @@ use crate::bounds::{index_fits, last_plain};
 use crate::collections::{are_distinct, are_edge_collections, is_shard, key_count};
 use crate::plain::{all_plain, is_plain, keys_plain, lets_plain, maybe_plain};
 use aql_plan::{Facts, IndexFact, Last, Node, Plan, index_of};
-use aql_tree::Expr;
+use aql_tree::{Expr, Let};
 use aql_value::{CollNo, Names};
 
 // How many expressions there are.
@@ -95,6 +95,12 @@ fn distribution_fits(facts: &Facts, coll: CollNo, exprs: &[Expr]) -> bool
     all_plain(exprs) && count(exprs) == key_count(facts, coll)
 }
 
+// Each variable of a COLLECT stands with its expression.
+fn recall_pairs(_groups: &[Let])
+    ensures { exprs_in (trees (map (λ l. l.1) (map let_part _groups.now)))
+        ≡ length (map (λ l. l.0) (map let_part _groups.now)) }
+{}
+
 fn node_fits(node: &Node, facts: &Facts) -> bool
     ensures { IsTrue result ↔ Fits facts.now (node_tree node.now) }
 {
@@ -147,6 +153,7 @@ fn node_fits(node: &Node, facts: &Facts) -> bool
             into,
             ..
         } => {
+            recall_pairs(groups.as_slice());
             lets_plain(groups.as_slice()) && all_known(aggregates.as_slice()) && into_plain(into)
         }
         Node::Return { expr, .. } => is_plain(expr),

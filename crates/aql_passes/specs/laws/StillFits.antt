@@ -1,5 +1,5 @@
 -- A node fits over new expressions that stand for the old ones.
-use Rattle.std.proofs.Common.{◌≡◌, ℕ, ◌+◌, List, [], ◌++◌, length, refl, ap, subst}
+use Rattle.std.proofs.Common.{◌≡◌, ◌∙◌, ℕ, ◌+◌, List, [], ◌++◌, length, refl, ap, sym, subst}
 use Rattle.std.specs.Prelude.{Bool, Option, Some, None, slice_get, MatchOption}
 use Rattle.aql_func.specs.Aggregates.{Aggregate, count, aggregate_named}
 use Rattle.aql_tree.specs.Tree.{ExprTree, ExprTrees, no_exprs, expr_then, MaybeExpr, no_expr, one_expr}
@@ -162,6 +162,7 @@ still_fits facts (Collect xs es gs j s) ps h i f =
       plain_list es (aggregate_exprs gs ++ into_exprs j) ps h,
       known_aggregates gs (into_exprs j) qs k f.1,
       plain_into j [] rs (alone StandsFor (into_exprs j) rs l) f.2,
+      sym (same_number es ps) ∙ f.3,
     )
 still_fits facts (Return distinct e) ps h i f = (first_stands e [] ps h).plain
 still_fits facts NoResults ps h i f = tt

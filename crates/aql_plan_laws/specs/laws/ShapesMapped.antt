@@ -1,5 +1,5 @@
 -- A plan without fragments keeps its shape with a function at each of its expressions that leaves them plain.
-use Rattle.std.proofs.Common.{◌≡◌, ℕ, ◌+◌, Bool, true, false, true≢false, refl, ap, sym, subst}
+use Rattle.std.proofs.Common.{◌≡◌, ◌∙◌, ℕ, ◌+◌, Bool, true, false, true≢false, refl, ap, sym, subst}
 use Rattle.std.specs.Prelude.{Option, Some, None, option_map, MatchOption, slice_get, length}
 use Rattle.aql_func.specs.Aggregates.{Aggregate, count, aggregate_named}
 use Rattle.aql_tree.specs.Tree.{ExprTree, ExprTrees, no_exprs, expr_then, MaybeExpr, no_expr, one_expr, AggregateTrees, no_aggregates, aggregate_then, IntoTree, no_into, into}
@@ -101,7 +101,8 @@ module _ (f : ExprTree → ExprTree) (plain : (e : ExprTree) → IsPlain e → I
   mapped_fit facts (Filter e) h = plain e h
   mapped_fit facts (Sort directions es n) h = (exprs_plain es h.0, h.1)
   mapped_fit facts (Limit offset most) h = h
-  mapped_fit facts (Collect xs es gs i s) h = (exprs_plain es h.0, all_known gs h.1, into_fit i h.2)
+  mapped_fit facts (Collect xs es gs i s) h =
+      (exprs_plain es h.0, all_known gs h.1, into_fit i h.2, counted es ∙ h.3)
   mapped_fit facts (Return distinct e) h = plain e h
   mapped_fit facts NoResults h = tt
   mapped_fit facts (Scatter coll only) h = h

@@ -59,7 +59,7 @@ less_shaped : (facts : Facts) (us : Uses) (b : Plan) (xs : List Ident) (es : Exp
     → KeepsShape false facts (Over b (Collect xs es (used_aggregates us gs) (used_into us i) stage.Whole))
     (Over b (Collect xs es gs i stage.Whole))
 less_shaped facts us b xs es gs i s o (plain_rows j f h) =
-    plain_rows tt (f.0, still_known us gs f.1, still_plain us i f.2) h
+    plain_rows tt (f.0, still_known us gs f.1, still_plain us i f.2, f.3) h
 less_shaped facts us b xs es gs i s o (lowest j f h) = absurd j
 less_shaped facts us b xs es gs i s o (other_reading j f h) = absurd j
 less_shaped facts us b xs es gs i s o (passing j f h) = absurd j
