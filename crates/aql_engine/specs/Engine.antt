@@ -14,13 +14,11 @@ use Rattle.aql_exec.specs.Operators.{Produces, exact_tree}
 use Rattle.aql_net.specs.declared.logs.LogEntry.{LogEntry}
 use Rattle.aql_net.specs.Logs.{IsLog, rows_on}
 use Rattle.aql_engine.specs.OperatorsOf.{operators_of}
-use Rattle.aql_plan.specs.Executable.{HasExecutors}
 use Rattle.aql_engine.specs.declared.engine.Ran.{Ran}
 
--- a plan that can be run over these documents: it is well formed, and each of its nodes has an executor
-pub record CanRun (w : Dataset) (plan : Plan) : Type 0 where
-  pub well_formed : IsWellFormed w.facts [] (plan_tree plan)
-  pub executors : HasExecutors (plan_tree plan)
+-- a plan that can be run over these documents: one that is well formed
+abbrev pub CanRun : Dataset → Plan → Type 0
+CanRun w plan = IsWellFormed w.facts [] (plan_tree plan)
 
 abbrev pub no_tally : Tally
 no_tally = record { scanned_full = 0; scanned_index = 0; filtered = 0 }

@@ -2,8 +2,6 @@
 //! hostile orders.
 
 ghost use Rattle.std.specs.Prelude.{IsTrue, IfOk};
-ghost use Rattle.aql_plan.specs.View.{node_tree, plan_tree};
-ghost use Rattle.aql_plan.specs.Executable.{HasExecutors, HasExecutor};
 ghost use Rattle.aql_shard.specs.Datasets.{stock};
 ghost use Rattle.aql_engine.specs.Engine.{CanRun};
 
@@ -12,7 +10,7 @@ use crate::tests::shards::catalog;
 use aql_engine::Ran;
 use aql_local::run_plan;
 use aql_net::{ListPicker, Picks};
-use aql_plan::{Node, Plan, Stage};
+use aql_plan::{Node, Plan};
 use aql_plan_check::well_formed;
 use aql_shard::{Servers, split};
 use aql_tree::{Expr, Ident, Key, Keys, Step};
@@ -82,39 +80,12 @@ fn plan_of(alloc: Global, parts: &[Part]) -> Result<Plan, OutOfMemory> {
     Ok(plan)
 }
 
-fn has_executor(node: &Node) -> bool
-    ensures { IsTrue result → HasExecutor (node_tree node.now) }
-{
-    match node {
-        Node::Collect { stage, .. } => match stage {
-            Stage::Whole => true,
-            _ => false,
-        },
-        Node::Distribute { .. } => false,
-        _ => true,
-    }
-}
-
-fn has_executors(plan: &Plan) -> bool
-    ensures { IsTrue result → HasExecutors (plan_tree plan.now) }
-{
-    match plan {
-        Plan::Singleton => true,
-        Plan::Over { below, node } => has_executor(node) && has_executors(below),
-        Plan::Subquery { below, body, .. } => has_executors(below) && has_executors(body),
-    }
-}
-
 // Whether a plan can be run over the documents of these servers.
 fn can_run(alloc: Global, plan: &Plan, servers: &Servers) -> Result<bool, OutOfMemory>
     ensures { IfOk result (λ answer. IsTrue answer → CanRun (stock servers.now) plan.now) }
 {
     let facts = servers.facts(alloc)?;
-    let is_well_formed = well_formed(alloc, plan, &facts)?;
-    if !is_well_formed {
-        return Ok(false);
-    }
-    Ok(has_executors(plan))
+    well_formed(alloc, plan, &facts)
 }
 
 fn put_ran(page: &mut Page, ran: &Ran) {

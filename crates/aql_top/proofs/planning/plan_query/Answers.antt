@@ -61,10 +61,7 @@ returns-clause-ready c =
       known_facts = are;
       cost = c.in_ok-chosen.ensures.cost ∙ ap (λ f. cost_of f chosen) are;
       servers_are = holds;
-      can_run = record {
-        well_formed = subst (λ f. IsWellFormed f [] chosen) are c.in_ok-chosen.ensures.well_formed;
-        executors = c.in_ok-chosen.ensures.executors;
-      };
+      can_run = subst (λ f. IsWellFormed f [] chosen) are c.in_ok-chosen.ensures.well_formed;
       answers = chosen_answers c.args.settings.now script tree scoped.names is_scoped facts first c.in_ok-plan.ensures.first
           meets are
           (λ q written. c.in_ok-scoped.ensures.answers q
