@@ -26,7 +26,7 @@ use std::alloc::Global;
 /// A part of a condition as `x.name op other`, where x is the variable of a document and the other
 /// side does not use it.
 #[derive(Clone, Copy, Drop)]
-pub(crate) struct Item<'a> {
+pub struct Item<'a> {
     pub name: &'a Text,
     pub op: BinOp,
     pub other: &'a Expr,
@@ -43,7 +43,7 @@ fn is_and_chain(cond: &Expr) -> bool
 }
 
 /// The parts of an `&&` chain; any other condition is one part.
-pub(crate) fn parts_of(alloc: Global, cond: &Expr) -> Result<Vec<&Expr>, OutOfMemory>
+pub fn parts_of(alloc: Global, cond: &Expr) -> Result<Vec<&Expr>, OutOfMemory>
     ensures { IfOk result (λ parts. map lent parts.items ≡ conjuncts (tree cond.now)) }
 {
     if is_and_chain(cond) {
@@ -125,7 +125,8 @@ fn mirrored(op: BinOp) -> Option<BinOp>
     }
 }
 
-fn uses_variable(alloc: Global, var: u32, expr: &Expr) -> Result<bool, OutOfMemory>
+/// Whether an expression uses the variable of this number.
+pub fn uses_variable(alloc: Global, var: u32, expr: &Expr) -> Result<bool, OutOfMemory>
     ensures { IfOk result (λ answer. answer ≡ spec_is_used (Num var) (uses (tree expr.now))) }
 {
     let mut own_uses = Seq::new(alloc);
@@ -163,7 +164,7 @@ fn comparison_in(expr: &Expr) -> Option<(&Expr, &Link)>
 
 /// What a part of a condition says of an attribute of the document; `None` exactly where it is no
 /// such item.
-pub(crate) fn item_of<'a>(
+pub fn item_of<'a>(
     alloc: Global,
     var: u32,
     part: &'a Expr,

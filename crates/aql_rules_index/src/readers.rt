@@ -63,7 +63,7 @@ pub(crate) fn whole_index(plan: &Plan) -> Option<IndexRead<'_>>
 }
 
 /// The attributes of an index, the first that decides at the front; none where it is not declared.
-pub(crate) fn attributes_of(facts: &Facts, coll: CollNo, index: u32) -> &[Text]
+pub fn attributes_of(facts: &Facts, coll: CollNo, index: u32) -> &[Text]
     ensures { result.now ≡ attributes_in facts.now coll.0 index }
 {
     match index_of(facts, coll, index) {
