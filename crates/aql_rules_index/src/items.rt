@@ -164,11 +164,7 @@ fn comparison_in(expr: &Expr) -> Option<(&Expr, &Link)>
 
 /// What a part of a condition says of an attribute of the document; `None` exactly where it is no
 /// such item.
-pub fn item_of<'a>(
-    alloc: Global,
-    var: u32,
-    part: &'a Expr,
-) -> Result<Option<Item<'a>>, OutOfMemory>
+pub fn item_of<'a>(alloc: Global, var: u32, part: &'a Expr) -> Result<Option<Item<'a>>, OutOfMemory>
     ensures { IfOk result
         (λ found. option_map item_tree found ≡ spec_item_of (Num var) (tree part.now)) }
 {
