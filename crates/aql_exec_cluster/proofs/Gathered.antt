@@ -1,18 +1,18 @@
 -- Rows that came and were given, in any order.
-use Rattle.std.proofs.Common.{◌≡◌, ℕ, zero, suc, ◌+◌, ◌<◌, ◌≤◌, ◌++◌, List, [], ◌∷◌, length, take, drop, append_assoc, Bool, true, false, refl, sym, ap, ap₂, ◌∙◌, subst, arith}
+use Rattle.std.proofs.Common.{◌≡◌, ℕ, ◌+◌, ◌<◌, ◌≤◌, ◌++◌, List, [], length, take, drop, append_assoc, refl, sym, ap, ap₂, ◌∙◌, subst, arith}
 use Rattle.std.proofs.lemmas.List.{length-take, length-drop, take-append-drop}
 use Rattle.aql_tree.specs.Tree.{no_exprs}
 use Rattle.aql_meaning.specs.Row.{Row}
 use Rattle.aql_meaning.specs.AtRows.{row_before}
 use Rattle.aql_block.specs.declared.calls.Step.{Step}
-use Rattle.aql_exec.specs.Rests.{Counter, Counts, Exact, Rest, Prefixed, IsOver, with_rows}
+use Rattle.aql_exec.specs.Rests.{Counts, Exact, Rest, Prefixed, IsOver, with_rows}
 use Rattle.aql_exec.specs.Counting.{nothing}
 use Rattle.aql_exec.specs.Steps.{given, Continues}
-use Rattle.aql_exec.specs.Operators.{MergedOf, counted}
+use Rattle.aql_exec.specs.Operators.{counted}
 use Rattle.aql_exec_cluster.specs.Gathering.{gives_gather}
 use Rattle.aql_exec_cluster.specs.laws.Counts.{prefixed_counted, none_counted}
 use Rattle.aql_exec_cluster.specs.laws.Merging.{merged_front, none_merged}
-use Rattle.aql_exec_cluster.specs.laws.Taking.{taken_step, same_inputs}
+use Rattle.aql_exec_cluster.specs.laws.Taking.{same_inputs}
 
 -- the first of some rows and the others
 pub front_counts : (most : ℕ) (held front rest : List Row) → front ≡ take most held → rest ≡ drop most held

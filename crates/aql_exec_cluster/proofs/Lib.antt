@@ -1,4 +1,5 @@
 pub mod Sharing
+pub mod Routed
 pub mod Parts
 pub mod Sending
 pub mod Linking

@@ -1,14 +1,14 @@
 -- Queues of rows, and the merge of them.
-use Rattle.std.proofs.Common.{◌≡◌, ℕ, zero, suc, ◌+◌, ◌<◌, ◌≤◌, ◌⊎◌, ◌++◌, inl, inr, List, [], ◌∷◌, length, map, min, append_assoc, get_or, sum_by, Bool, true, false, Option, Some, None, refl, sym, ap, ◌∙◌, subst, arith}
-use Rattle.std.specs.Prelude.{slice_set, slice_get, MatchOption}
+use Rattle.std.proofs.Common.{◌≡◌, ℕ, zero, suc, ◌+◌, ◌<◌, ◌≤◌, ◌⊎◌, ◌++◌, inl, inr, List, [], ◌∷◌, length, map, min, append_assoc, get_or, Bool, true, false, Option, Some, None, refl, sym, ap, ◌∙◌, subst, arith}
+use Rattle.std.specs.Prelude.{slice_set, MatchOption}
 use Rattle.std.proofs.lemmas.Option.{slice_get_read}
 use Rattle.std.specs.Cmp.{IsStrictWeakOrder}
 use Rattle.std.specs.Ordering.{is_lt}
 use Rattle.std.specs.List.{All}
 use Rattle.std.proofs.lemmas.Bool.{cases_eq, cases_lt}
 use Rattle.std.proofs.lemmas.List.{length-set, get_or_default, nil_from_length}
-use Rattle.std.proofs.lemmas.List.Elements.{All-get_or, All-set}
-use Rattle.std.proofs.lemmas.List.Sums.{sum_by-set, sum_by-cons}
+use Rattle.std.proofs.lemmas.List.Elements.{All-get_or}
+use Rattle.std.proofs.lemmas.List.Sums.{sum_by-cons}
 use Rattle.aql_value.specs.View.{datums_in}
 use Rattle.aql_tree.specs.Tree.{ExprTrees}
 use Rattle.aql_meaning.specs.Row.{Row}
@@ -17,7 +17,7 @@ use Rattle.aql_meaning.specs.Clauses.{keys_cmp}
 use Rattle.aql_meaning.specs.laws.SomeOrder.{keyed_order}
 use Rattle.aql_block.specs.declared.calls.Progress.{Progress}
 use Rattle.aql_block.specs.declared.calls.Step.{Step}
-use Rattle.aql_exec.specs.Rests.{Counter, Counts, Exact, Rest, Prefixed, IsOver, with_rows}
+use Rattle.aql_exec.specs.Rests.{Counts, Exact, Rest, Prefixed, IsOver, with_rows}
 use Rattle.aql_exec.specs.Counting.{nothing}
 use Rattle.aql_exec.specs.Steps.{given, reported, Continues}
 use Rattle.aql_exec.specs.Operators.{MergedOf, counted}

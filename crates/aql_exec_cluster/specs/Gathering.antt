@@ -1,6 +1,6 @@
 -- A Gather without keys: what it may still give, of the rows that it holds and those to come.
-use Rattle.std.specs.Prelude.{◌≡◌, ℕ, ◌<◌, ◌++◌, List, [], true, refl}
-use Rattle.std.proofs.Common.{sym, ap, ◌∙◌, subst}
+use Rattle.std.specs.Prelude.{◌≡◌, ℕ, ◌++◌, List, [], true, refl}
+use Rattle.std.proofs.Common.{sym, ap, subst}
 use Rattle.aql_tree.specs.Tree.{no_exprs}
 use Rattle.aql_meaning.specs.Row.{Row}
 use Rattle.aql_meaning.specs.AtRows.{row_before}

@@ -6,5 +6,6 @@ pub mod Standing
 pub mod Gathering
 pub mod Queues
 pub mod SortedGathering
+pub mod Routings
 pub mod Scattering
 pub mod laws

@@ -1,6 +1,5 @@
 -- Rows that came of several inputs, each list with the keys of its first row, and which of these comes first.
-use Rattle.std.specs.Prelude.{◌≡◌, ℕ, zero, suc, ◌+◌, ◌<◌, ◌≤◌, ◌++◌, List, [], ◌∷◌, length, drop, sum_by, Bool, true, false, Option, MatchOption, slice_get}
-use Rattle.std.specs.List.{All}
+use Rattle.std.specs.Prelude.{◌≡◌, ℕ, zero, suc, ◌+◌, ◌<◌, ◌++◌, List, [], ◌∷◌, length, drop, sum_by, Bool, true, false, Option, MatchOption, slice_get}
 use Rattle.aql_value.specs.View.{datums_in}
 use Rattle.aql_tree.specs.Tree.{ExprTrees}
 use Rattle.aql_meaning.specs.Row.{Row}

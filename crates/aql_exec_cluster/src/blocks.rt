@@ -1,11 +1,14 @@
 //! A list of blocks that several executors read, each at a place of its own.
 
-ghost use Rattle.std.specs.Prelude.{◌≡◌, ◌-◌, ◌*◌, ◌<◌, ◌≤◌, ◌++◌, [], ◌∷◌, length, take, drop};
-ghost use Rattle.std.specs.Prelude.{slice_get, true, Some, MatchOption, IfOk, OnOk, OnErr};
+ghost use Rattle.std.specs.Prelude.{◌≡◌, ◌+◌, ◌-◌, ◌*◌, ◌^◌, ◌<◌, ◌≤◌, ◌++◌, [], ◌∷◌, length, take, drop};
+ghost use Rattle.std.specs.Prelude.{slice_get, true, false, Some, MatchOption, IfOk, OnOk, OnErr};
+ghost use Rattle.std.specs.List.{All};
 ghost use Rattle.aql_block.specs.Tables.{rows_of};
 ghost use Rattle.aql_engine.specs.Run.{rows_in};
 ghost use Rattle.aql_exec_cluster.specs.Shared.{rows_at};
+ghost use Rattle.aql_exec_cluster.specs.Routings.{KeysPlain, rows_to, rows_at_places};
 
+use crate::routing::{Routing, Target};
 use aql_block::Block;
 use aql_value::OutOfMemory;
 use std::alloc::Global;
@@ -118,10 +121,45 @@ impl Blocks {
         Ok(rows)
     }
 
+    /// Copies those of the next rows after a place that come to a shard, at most so many, and moves
+    /// the place past them: none only where no such row is left.
+    pub(crate) fn copy_sent(
+        &self,
+        alloc: Global,
+        place: &mut Place,
+        most: u64,
+        routing: &Routing,
+        target: Target,
+    ) -> Result<Block, OutOfMemory>
+        requires most { 1 ≤ most }
+        requires plain { KeysPlain routing.now }
+        requires some { 1 ≤ target.shards }
+        ensures rows { IfOk result (λ b. rows_to routing.now target (rows_at self.now place.old)
+            ≡ rows_of b ++ rows_to routing.now target (rows_at self.now place.new)) }
+        ensures most { IfOk result (λ b. length (rows_of b) ≤ most) }
+        ensures none { IfOk result (λ b. rows_of b ≡ []
+            → rows_to routing.now target (rows_at self.now place.new) ≡ []) }
+        ensures left { IfOk result (λ b. length (rows_of b) + length (rows_at self.now place.new)
+            ≤ length (rows_at self.now place.old)) }
+    {
+        while let Some(block) = self.seek(place) {
+            let count = most.min(u64::from(block.len() - place.row));
+            let end = place.row + count as u32;
+            let sent = routing.places(alloc, block, place.row, end, target)?;
+            place.row = end;
+            if sent.len() > 0 {
+                let rows = copy_places(alloc, block, &sent)?;
+                return Ok(rows);
+            }
+        }
+        Ok(Block::empty(alloc))
+    }
+
     /// Whether no row is left after a place, which is moved to the next row.
     pub fn is_over(&self, place: &mut Place) -> bool
         ensures same { rows_at self.now place.new ≡ rows_at self.now place.old }
         ensures over { result ≡ true → rows_at self.now place.old ≡ [] }
+        ensures left { result ≡ false → 1 ≤ length (rows_at self.now place.old) }
     {
         self.seek(place).is_none()
     }
@@ -142,6 +180,25 @@ impl Blocks {
         }
         None
     }
+}
+
+// A copy of the rows of a block at these places.
+fn copy_places(alloc: Global, block: &Block, places: &[u32]) -> Result<Block, OutOfMemory>
+    requires within { All (λ at. at < length (rows_of block.now)) places.now }
+    requires few { length places.now < 2 ^ 32 }
+    ensures { IfOk result (λ b. rows_of b ≡ rows_at_places (rows_of block.now) places.now) }
+{
+    let mut copy = Block::new(alloc, block.registers(), places.len() as u32)?;
+    for at in places {
+        let Some(row) = block.row(*at) else {
+            unreachable!()
+        };
+        match copy.append(row.to_row(alloc)?) {
+            Ok(()) => {}
+            Err(_) => unreachable!(),
+        }
+    }
+    Ok(copy)
 }
 
 // A copy of the rows of a block from one to another.

@@ -14,6 +14,7 @@ mod parted;
 mod queue;
 mod queues;
 mod remote;
+mod routing;
 mod scatter;
 mod sorted_gather;
 mod splits;

@@ -1,9 +1,10 @@
-//! SCATTER: all rows of its input for each shard.
+//! SCATTER: all rows of its input for each shard. DISTRIBUTE: each row for the shard of its keys.
 
 ghost use Rattle.std.specs.Prelude.{◌≡◌, ℕ, ◌+◌, ◌*◌, ◌<◌, ◌≤◌, ◌++◌, List, [], length};
-ghost use Rattle.std.specs.Prelude.{IfOk, OnOk, cond, true, slice_set};
+ghost use Rattle.std.specs.Prelude.{IfOk, OnOk, cond, true, slice_set, slice_index_or};
 ghost use Rattle.aql_meaning.specs.Row as meaning;
 ghost use Rattle.aql_plan.specs.Plan as plan;
+ghost use Rattle.aql_plan.specs.View.{expr_trees};
 ghost use Rattle.aql_block.specs.Tables.{Table, rows_of};
 ghost use Rattle.aql_exec.specs.Steps.{IsCall, InCall, given, reported};
 ghost use Rattle.aql_exec.specs.Operators as operator;
@@ -11,22 +12,25 @@ ghost use Rattle.aql_exec.specs.Operators.{is_first};
 ghost use Rattle.aql_engine.specs.Run.{rows_in};
 ghost use Rattle.aql_exec_cluster.specs.Shared.{rows_at};
 ghost use Rattle.aql_exec_cluster.specs.Ports.{rows_after, rows_at_port, count_ports};
+ghost use Rattle.aql_exec_cluster.specs.Routings.{KeysPlain, rows_to, node_by};
 
 use crate::blocks::{Blocks, Place};
 use crate::local::Local;
+use crate::routing::{Routing, Target};
 use crate::splits::Splits;
 use aql_block::{Block, Call, Progress, Row, Step, Tally};
 use aql_exec::{Executor, Surroundings, Turn, Unlinked, nothing};
+use aql_tree::Exprs;
 use aql_value::OutOfMemory;
 use std::alloc::Global;
 use std::mem;
 use std::rc::Rc;
 
-/// Keeps the rows of its input, once for all shards that it reaches.
+/// A Scatter or a Distribute: keeps the rows of its input, once for all shards that it reaches.
 #[derive(Drop)]
 pub struct Scatter {
     coll: u32,
-    shard: Option<u32>,
+    routing: Routing,
     /// the shards that it reaches, each at a port
     shards: Vec<u32>,
     /// the rows that came, as long as more may come
@@ -48,16 +52,43 @@ pub(crate) struct Filled {
 impl Scatter {
     /// Of a collection, or of one shard of it, that reaches these shards.
     pub fn new(alloc: Global, coll: u32, shard: Option<u32>, shards: Vec<u32>) -> Scatter
-        ensures { (result.coll ≡ coll) × (result.shard ≡ shard) × (result.shards ≡ shards) }
+        ensures { operator.Scatter (node_by result.coll result.routing) result.shards.items
+            ≡ operator.Scatter (plan.Scatter coll shard) shards.items }
+    {
+        Scatter::by(alloc, coll, Routing::ToAll(shard), shards)
+    }
+
+    /// The Distribute of a collection by these keys, over all its shards.
+    pub fn by_keys(alloc: Global, coll: u32, keys: Exprs, shards: Vec<u32>) -> Scatter
+        ensures { operator.Scatter (node_by result.coll result.routing) result.shards.items
+            ≡ operator.Scatter (plan.Distribute coll (expr_trees keys)) shards.items }
+    {
+        Scatter::by(alloc, coll, Routing::ByKeys(keys), shards)
+    }
+
+    fn by(alloc: Global, coll: u32, routing: Routing, shards: Vec<u32>) -> Scatter
+        ensures { (result.coll ≡ coll) × (result.routing ≡ routing) × (result.shards ≡ shards) }
     {
         Scatter {
             coll,
-            shard,
+            routing,
             shards,
             kept: Blocks::new(alloc),
             filled: None,
             waiting: false,
         }
+    }
+}
+
+// The shard at a port.
+fn target_at(shards: &[u32], port: usize) -> Target
+    requires { port < length shards.now }
+    ensures shard { result.shard ≡ slice_index_or shards.now port 0 }
+    ensures shards { result.shards ≡ length shards.now }
+{
+    Target {
+        shard: shards[port],
+        shards: shards.len(),
     }
 }
 
@@ -79,32 +110,68 @@ impl Filled {
         Ok(Filled { blocks, places })
     }
 
-    // The next rows of a port, or a skip of some of them; done where there are none.
-    fn next(&mut self, alloc: Global, port: usize, call: Call) -> Result<Step, OutOfMemory>
+    // The next rows of a port, which come to this shard, or a skip of some of them; done where
+    // there are none.
+    fn next(
+        &mut self,
+        alloc: Global,
+        port: usize,
+        routing: &Routing,
+        target: Target,
+        call: Call,
+    ) -> Result<Step, OutOfMemory>
         requires call { IsCall call }
         requires port { port < length self.old.places.items }
+        requires plain { KeysPlain routing.now }
+        requires some { 1 ≤ target.shards }
         ensures blocks { self.new.blocks.value ≡ self.old.blocks.value }
         ensures count { length self.new.places.items ≡ length self.old.places.items }
         ensures others { (p : ℕ) → (p ≡ port → ⊥)
             → rows_at_port self.old.blocks.value self.new.places.items p
             ≡ rows_at_port self.old.blocks.value self.old.places.items p }
         ensures rows { IfOk result (λ step. (s : List meaning.Row) × (length s ≡ step.skipped)
-            × (rows_at_port self.old.blocks.value self.old.places.items port ≡ (s ++ given step)
-            ++ rows_at_port self.old.blocks.value self.new.places.items port)) }
+            × (rows_to routing.now target
+            (rows_at_port self.old.blocks.value self.old.places.items port)
+            ≡ (s ++ given step) ++ rows_to routing.now target
+            (rows_at_port self.old.blocks.value self.new.places.items port))) }
         ensures left { IfOk result (λ step.
             count_ports self.old.blocks.value self.new.places.items + reported step
-            ≡ count_ports self.old.blocks.value self.old.places.items) }
+            ≤ count_ports self.old.blocks.value self.old.places.items) }
         ensures bounds { IfOk result (λ step. InCall call step) }
         ensures done { IfOk result (λ step. step.progress ≡ Progress.Done
-            → rows_at_port self.old.blocks.value self.new.places.items port ≡ []) }
+            → rows_to routing.now target
+            (rows_at_port self.old.blocks.value self.new.places.items port) ≡ []) }
         ensures more { IfOk result
             (λ step. step.progress ≡ Progress.HasMore → 0 < reported step) }
         ensures ready { IfOk result (λ step. step.progress ≡ Progress.Waiting → ⊥) }
     {
         let mut place = place_from(self.places[port]);
-        let step = next_rows(alloc, &self.blocks, &mut place, call)?;
+        let step = next_rows(alloc, &self.blocks, &mut place, routing, target, call)?;
         self.places[port] = Some(place);
         Ok(step)
+    }
+
+    // The rows left at a port, of those that come to this shard: the list itself where that is all
+    // of it.
+    fn rest(
+        &self,
+        alloc: Global,
+        port: usize,
+        routing: &Routing,
+        target: Target,
+    ) -> Result<Rc<Blocks>, OutOfMemory>
+        requires port { port < length self.now.places.items }
+        requires plain { KeysPlain routing.now }
+        requires some { 1 ≤ target.shards }
+        ensures { IfOk result (λ rest. rows_in rest.value ≡ rows_to routing.now target
+            (rows_at_port self.now.blocks.value self.now.places.items port)) }
+    {
+        let place = self.places[port];
+        if place.is_none() && routing.is_to_all() {
+            return Ok(self.blocks.clone()?);
+        }
+        let rest = copy_rest(alloc, &self.blocks, place_from(place), routing, target)?;
+        Ok(Rc::new(alloc, rest)?)
     }
 }
 
@@ -118,32 +185,41 @@ fn place_from(place: Option<Place>) -> Place
     }
 }
 
-// The next rows after a place, or a skip of some of them; done where there are none.
+// The next rows after a place that come to a shard, or a skip of some of them; done where there
+// are none.
 fn next_rows(
     alloc: Global,
     blocks: &Blocks,
     place: &mut Place,
+    routing: &Routing,
+    target: Target,
     call: Call,
 ) -> Result<Step, OutOfMemory>
-    requires { IsCall call }
+    requires call { IsCall call }
+    requires plain { KeysPlain routing.now }
+    requires some { 1 ≤ target.shards }
     ensures rows { IfOk result (λ step. (s : List meaning.Row) × (length s ≡ step.skipped)
-        × (rows_at blocks.now place.old ≡ (s ++ given step) ++ rows_at blocks.now place.new)) }
+        × (rows_to routing.now target (rows_at blocks.now place.old)
+        ≡ (s ++ given step) ++ rows_to routing.now target (rows_at blocks.now place.new))) }
+    ensures left { IfOk result (λ step. length (rows_at blocks.now place.new) + reported step
+        ≤ length (rows_at blocks.now place.old)) }
     ensures bounds { IfOk result (λ step. InCall call step) }
     ensures done { IfOk result (λ step. step.progress ≡ Progress.Done
-        → rows_at blocks.now place.new ≡ []) }
+        → rows_to routing.now target (rows_at blocks.now place.new) ≡ []) }
     ensures more { IfOk result
         (λ step. step.progress ≡ Progress.HasMore → 0 < reported step) }
     ensures ready { IfOk result (λ step. step.progress ≡ Progress.Waiting → ⊥) }
 {
     if call.offset > 0 {
-        let skipped = blocks.skip(place, call.offset);
+        let rows = blocks.copy_sent(alloc, place, call.offset, routing, target)?;
+        let skipped = u64::from(rows.len());
         return Ok(Step {
             skipped,
             block: Block::empty(alloc),
             progress: progress_after(skipped),
         });
     }
-    let block = blocks.copy_rows(alloc, place, call.soft)?;
+    let block = blocks.copy_sent(alloc, place, call.soft, routing, target)?;
     let progress = progress_after(u64::from(block.len()));
     Ok(Step {
         skipped: 0,
@@ -176,14 +252,23 @@ fn keep(kept: &mut Blocks, block: Block) -> Result<(), OutOfMemory>
     Ok(())
 }
 
-// The rows after a place, as a list of their own.
-fn copy_rest(alloc: Global, blocks: &Blocks, place: Place) -> Result<Blocks, OutOfMemory>
-    ensures { IfOk result (λ rest. rows_in rest ≡ rows_at blocks.now place) }
+// The rows after a place that come to a shard, as a list of their own.
+fn copy_rest(
+    alloc: Global,
+    blocks: &Blocks,
+    place: Place,
+    routing: &Routing,
+    target: Target,
+) -> Result<Blocks, OutOfMemory>
+    requires plain { KeysPlain routing.now }
+    requires some { 1 ≤ target.shards }
+    ensures { IfOk result
+        (λ rest. rows_in rest ≡ rows_to routing.now target (rows_at blocks.now place)) }
 {
     let mut place = place;
     let mut rest = Blocks::new(alloc);
     loop {
-        let block = blocks.copy_rows(alloc, &mut place, u64::MAX)?;
+        let block = blocks.copy_sent(alloc, &mut place, u64::MAX, routing, target)?;
         if block.len() == 0 {
             return Ok(rest);
         }
@@ -192,17 +277,17 @@ fn copy_rest(alloc: Global, blocks: &Blocks, place: Place) -> Result<Blocks, Out
 }
 
 impl<W: Surroundings> Executor<W> for Scatter {
-    ghost use Rattle.aql_exec_cluster.specs.Scattering.{gives_scatter, some_scatter, more_scatter};
+    ghost use Rattle.aql_exec_cluster.specs.Scattering.{gives_scatter, some_scatter, more_scatter, kept_scatter};
     ghost use Rattle.aql_exec_cluster.specs.Scattering.{port_rows, is_filled, budget_scatter};
     ghost use Rattle.aql_exec_cluster.specs.Scattering.{ScatterIs, AsksScatter, asks_scatter};
     ghost use Rattle.aql_exec_cluster.specs.Scattering.{waited_scatter};
     ghost use Rattle.aql_exec.specs.Streaming.{ended_first};
     ghost use Rattle.std.proofs.Math.Nat.{le_refl};
 
-    ghost gives = { λ s _ p _ ins r.
-        gives_scatter (length s.shards.items) (port_rows s.kept s.filled) p ins r };
+    ghost gives = { λ s w p _ ins r. gives_scatter (node_by s.coll s.routing) (W.stock w)
+        s.shards.items (port_rows s.kept s.filled) p ins r };
 
-    ghost node = { λ s. operator.Scatter (plan.Scatter s.coll s.shard) s.shards.items };
+    ghost node = { λ s. operator.Scatter (node_by s.coll s.routing) s.shards.items };
 
     ghost unreported = { λ _ _. 0 };
 
@@ -269,7 +354,8 @@ impl<W: Surroundings> Executor<W> for Scatter {
         if port >= self.shards.len() {
             return Ok(Turn::Give(nothing(alloc, Progress::Done)));
         }
-        let step = filled.next(alloc, port, call)?;
+        let target = target_at(&self.shards, port);
+        let step = filled.next(alloc, port, &self.routing, target, call)?;
         Ok(Turn::Give(step))
     }
 
@@ -300,13 +386,15 @@ impl<W: Surroundings> Executor<W> for Scatter {
         }
     }
 
-    ghost some = { λ s _ p _ ins _.
-        some_scatter (length s.shards.items) (port_rows s.kept s.filled) p ins };
+    ghost some = { λ s w p _ ins _. some_scatter (node_by s.coll s.routing) (W.stock w)
+        s.shards.items (port_rows s.kept s.filled) p ins };
 
-    ghost more_counts = { λ e s _ p _ k d ins ins' r f a _ h.
-        more_scatter e (length s.shards.items) (port_rows s.kept s.filled) p k d ins ins' r f a h };
+    ghost more_counts = { λ e s w p _ k d ins ins' r f a _ h. more_scatter
+        (node_by s.coll s.routing) (W.stock w) s.shards.items (port_rows s.kept s.filled) e p k d
+        ins ins' r f a h };
 
-    ghost kept_gives = { λ _ _ _ _ _ _ _ _ _ h. h };
+    ghost kept_gives = { λ s w w' e _ p _ ins r h. kept_scatter (node_by s.coll s.routing)
+        (W.stock w) s.shards.items (port_rows s.kept s.filled) (W.stock w') p ins r e h };
 
     ghost kept_valid = { λ _ _ _ _ _ _ _ h. h };
 
@@ -336,17 +424,13 @@ impl<W: Surroundings> Splits<W> for Scatter {
     ghost use Rattle.std.proofs.Common.{refl};
     ghost use Rattle.aql_exec_cluster.specs.Scattering.{silent_scatter, port_rows};
 
-    fn part(&self, alloc: Global, shard: usize) -> Result<Rc<Blocks>, OutOfMemory> {
+    fn part(&self, alloc: Global, _world: &W, shard: usize) -> Result<Rc<Blocks>, OutOfMemory> {
         let Some(filled) = &self.filled else {
             unreachable!()
         };
-        match filled.places[shard] {
-            None => Ok(filled.blocks.clone()?),
-            Some(place) => {
-                let rest = copy_rest(alloc, &filled.blocks, place)?;
-                Ok(Rc::new(alloc, rest)?)
-            }
-        }
+        let target = target_at(&self.shards, shard);
+        let part = filled.rest(alloc, shard, &self.routing, target)?;
+        Ok(part)
     }
 
     ghost none_unreported = { λ _ _. refl };
@@ -355,6 +439,6 @@ impl<W: Surroundings> Splits<W> for Scatter {
 
     ghost any_call = { λ _ _ _. tt };
 
-    ghost silent = { λ s _ n _ ins r e h.
-        silent_scatter (length s.shards.items) n (port_rows s.kept s.filled) ins r e h };
+    ghost silent = { λ s w n _ ins r e h. silent_scatter (node_by s.coll s.routing) (W.stock w)
+        s.shards.items (port_rows s.kept s.filled) n ins r e h };
 }

@@ -3,7 +3,7 @@
 ghost use Rattle.std.specs.Prelude.{◌≡◌, ℕ, suc, ◌<◌, [], true, IfOk};
 ghost use Rattle.aql_block.specs.declared.calls.Call.{Call};
 ghost use Rattle.aql_exec.specs.Rests.{Counter, Rest};
-ghost use Rattle.aql_exec.specs.Operators.{OperatorTree, is_first, ports};
+ghost use Rattle.aql_exec.specs.Operators.{OperatorTree, IsOperator, is_first, ports};
 ghost use Rattle.aql_engine.specs.Run.{rows_in};
 
 use crate::blocks::Blocks;
@@ -17,13 +17,14 @@ use std::rc::Rc;
 /// first; the last port is the one at which it is filled. Once its input is done it is filled, and
 /// has a part for each shard.
 pub trait Splits<W: Surroundings>: Local<W> {
-    /// The rows of a shard, once it is filled.
-    fn part(&self, alloc: Global, shard: usize) -> Result<Rc<Blocks>, OutOfMemory>
-        requires valid { (w : W) × Self.valid self.now w }
+    /// The rows of a shard, once it is filled: by how many shards there are in this world.
+    fn part(&self, alloc: Global, world: &W, shard: usize) -> Result<Rc<Blocks>, OutOfMemory>
+        requires valid { Self.valid self.now world.now }
+        requires node { IsOperator (W.stock world.now).facts (Self.node self.now) }
         requires filled { Self.ended self.now 0 ≡ true }
         requires shard { suc shard < ports (Self.node self.now) }
         ensures { IfOk result (λ part. (w : W) (body : OperatorTree) (ins : ℕ → Rest)
-            → (ins 0).rows ≡ [] → (r : Rest) × (r.rows ≡ rows_in part.value)
+            → W.stock w ≡ W.stock world.now → (ins 0).rows ≡ [] → (r : Rest) × (r.rows ≡ rows_in part.value)
             × Self.gives self.now w shard body ins r) };
 
     /// it reports each row at once

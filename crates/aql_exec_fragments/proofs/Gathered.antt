@@ -434,14 +434,15 @@ module _ {X S F W : Type 0} (gx : Ghosts X W) (gs : Ghosts S W) (h : Feed.Ghosts
 
   -- what the fragments begin with was possible before
   pub fill_back : (c : GatherNode X S F) → c.filled ≡ false → (feeds : List F)
-      → SameFeeds h c.fragments.items feeds
-      → ((k : ℕ) (f : F) → slice_get feeds k ≡ Some f → IsFresh gs h p c.scatter (row_of c.start) k f)
-      → (w : W) (ins : ℕ → Rest) → (ins 0).rows ≡ [] → (own filling : Rest)
+      → SameFeeds h c.fragments.items feeds → (w : W)
+      → ((k : ℕ) (f : F) → slice_get feeds k ≡ Some f
+      → IsFresh gs h p c.scatter (p.stock w) (row_of c.start) k f)
+      → (ins : ℕ → Rest) → (ins 0).rows ≡ [] → (own filling : Rest)
       → GatheredRests gx h p c.gather feeds w own
       → gs.gives c.scatter w (length c.fragments.items) no_body ins filling
       → NodeGives gx gs h p c w ins
       (record { rows = own.rows; counts = λ i. own.counts i + filling.counts i })
-  fill_back c e feeds same fresh w ins none own filling o fills = record {
+  fill_back c e feeds same w fresh ins none own filling o fills = record {
     lists = o.0;
     own = own;
     filling = filling;
@@ -452,7 +453,7 @@ module _ {X S F W : Type 0} (gx : Ghosts X W) (gs : Ghosts S W) (h : Feed.Ghosts
         (
         let n = same_plan h c.fragments.items feeds same.trees k f m in
         let a = (fresh k n.0 n.1).produces w (o.0 k) (o.2 k n.0 n.1) in
-        let u = a.1 w ins none in (
+        let u = a.1 w ins refl none in (
           u.0,
           u.2,
           subst (λ z. ProducesOver (h.plan f) (p.stock w) z (row_of c.start) (o.0 k)) (sym u.1)
@@ -465,13 +466,14 @@ module _ {X S F W : Type 0} (gx : Ghosts X W) (gs : Ghosts S W) (h : Feed.Ghosts
   }
 
   -- the Gather begins over fresh fragments
-  pub gathering_begun : (x : X) (s : S) (start : Row) (feeds : List F) (w : W) → gx.valid x w
+  pub gathering_begun : (x : X) (s : S) (stock : Dataset) (start : Row) (feeds : List F) (w : W)
+      → gx.valid x w
       → Begun (gx.node x) (gx.unreported x) (gx.ours x) (gx.waited x) (gx.stuck x) (gx.busy x) (gx.may x)
       (gx.asks x) (gx.ended x) (gx.started x)
       → ((k : ℕ) → k < length feeds → begins (gx.node x) k ≡ true)
-      → ((k : ℕ) (f : F) → slice_get feeds k ≡ Some f → IsFresh gs h p s start k f)
+      → ((k : ℕ) (f : F) → slice_get feeds k ≡ Some f → IsFresh gs h p s stock start k f)
       → Gathering gx h p x feeds w
-  gathering_begun x s start feeds w v new begin fresh = record {
+  gathering_begun x s stock start feeds w v new begin fresh = record {
     executor_valid = v;
     begun = λ k l. new.started_is k ∙ begin k l;
     inputs = λ k f m. record {

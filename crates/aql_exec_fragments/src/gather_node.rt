@@ -134,7 +134,13 @@ impl<W: Surroundings, X: Local<W>, S: Splits<W>, F: Parted<W>> Executor<W> for G
                 let Progress::Done = step.progress else {
                     return Ok(Turn::Give(step));
                 };
-                begin_fragments(alloc, &self.scatter, &self.start, &mut self.fragments)?;
+                begin_fragments(
+                    alloc,
+                    &self.scatter,
+                    world,
+                    &self.start,
+                    &mut self.fragments,
+                )?;
                 self.filled = true;
                 let step = run_gather(
                     alloc,

@@ -1,15 +1,17 @@
 -- A plan that can be run has a tree: each of its nodes fits and stands where it should, and what its COLLECTs
 -- set are numbers. And what the tally of a run counts.
 use Rattle.std.specs.List.{AllByRecursion}
-use Rattle.std.proofs.Common.{subst, ℕ, ◌≡◌, List, arith}
+use Rattle.std.proofs.Common.{subst, ℕ, ◌≡◌, List, Some, arith}
 use Rattle.aql_value.specs.laws.Alls.{all_parts}
 use Rattle.aql_block.specs.declared.tally.Tally.{Tally}
 use Rattle.aql_plan.specs.declared.facts.Facts.{Facts}
-use Rattle.aql_plan.specs.Plan.{Plan, Singleton, Over, Node, Subquery, Collect}
+use Rattle.aql_tree.specs.Tree.{no_into}
+use Rattle.aql_plan.specs.Needs.{sets}
+use Rattle.aql_plan.specs.Plan.{Plan, Singleton, Over, Node, Index, Calculation, Subquery, Collect}
 use Rattle.aql_meaning.specs.Numbered.{IsNumber}
 use Rattle.aql_meaning.specs.declared.grouping.Stage.TheVariants as stage
 use Rattle.aql_plan.specs.Variables.{vars_set, set_once}
-use Rattle.aql_plan.specs.Shapes.{Shape, IsOuter, ReadsFragment, ReadsShard, KeepsRowOrder, Shaped, one_row, calculated, with_subquery, plain_rows, ordered_rows, scatter, distribute, remote, lowest, lowest_in_order, other_reading, passing, sorting, gather, gather_in_order, partial, joining, finishing, returning}
+use Rattle.aql_plan.specs.Shapes.{Shape, States, AllStates, Sent, Result, IsOuter, ReadsFragment, ReadsShard, KeepsRowOrder, Shaped, one_row, calculated, with_subquery, plain_rows, ordered_rows, scatter, distribute, remote, lowest, lowest_in_order, other_reading, passing, sorting, gather, gather_in_order, partial, joining, finishing, returning}
 use Rattle.aql_exec.specs.Rests.{Counter, scanned_full, scanned_index, filtered, Counts, Exact}
 use Rattle.aql_exec.specs.Rising.{Rose, TallyRose, IsExact, Rises}
 use Rattle.aql_exec.specs.declared.surroundings.Surroundings
@@ -17,7 +19,6 @@ use Rattle.aql_net.specs.declared.logs.LogEntry.{LogEntry}
 use Rattle.aql_net.specs.Logs.{rows_on}
 use Rattle.aql_engine.specs.Engine.{no_tally, Tallied, OwnCounted}
 use Rattle.aql_engine.specs.EachFits.{EachFits, BodyFits}
-use Rattle.aql_plan.specs.Executable.{HasExecutors, HasExecutor}
 use Rattle.aql_local.specs.Building.{SetsNumbers, NodeSetsNumbers}
 
 -- ---- each node fits
@@ -64,19 +65,82 @@ shaped_fits facts p s (returning {b = b} f h) = (shaped_fits facts b _ h, f, tt)
 
 -- ---- what a COLLECT sets are numbers
 
-mutual
-  pub sets_numbers : (p : Plan) → HasExecutors p → AllByRecursion IsNumber (vars_set p) → SetsNumbers p
-  sets_numbers Singleton h a = tt
-  sets_numbers (Over b n) h a =
-      let both = all_parts IsNumber (set_once n) (vars_set b) a in
-      (sets_numbers b h.0 both.1, node_sets_numbers n h.1 both.0)
+outer_numbers : (n : Node) → IsOuter n → AllByRecursion IsNumber (set_once n) → NodeSetsNumbers n
+outer_numbers (Subquery x body) i a = absurd i
+outer_numbers (Collect xs es gs j stage.Whole) i a = a
+outer_numbers (Collect xs es gs j stage.Partial) i a = absurd i
+outer_numbers (Collect xs es gs j stage.Final) i a = absurd i
+outer_numbers n i a = tt
 
-  node_sets_numbers : (n : Node) → HasExecutor n → AllByRecursion IsNumber (set_once n) → NodeSetsNumbers n
-  node_sets_numbers (Subquery x body) h a = sets_numbers body h a.1
-  node_sets_numbers (Collect xs es gs i stage.Whole) h a = a
-  node_sets_numbers (Collect xs es gs i stage.Partial) h a = absurd h
-  node_sets_numbers (Collect xs es gs i stage.Final) h a = absurd h
-  node_sets_numbers n h a = tt
+reading_numbers : (coll : ℕ) (n : Node) → ReadsFragment coll n → NodeSetsNumbers n
+reading_numbers coll (Subquery x body) i = absurd i
+reading_numbers coll (Collect xs es gs j s) i = absurd i
+reading_numbers coll n i = tt
+
+shard_numbers : (n : Node) → ReadsShard n → NodeSetsNumbers n
+shard_numbers (Subquery x body) i = absurd i
+shard_numbers (Collect xs es gs j s) i = absurd i
+shard_numbers n i = tt
+
+passing_numbers : (n : Node) → KeepsRowOrder n → NodeSetsNumbers n
+passing_numbers (Subquery x body) i = absurd i
+passing_numbers (Collect xs es gs j s) i = absurd i
+passing_numbers n i = tt
+
+-- what a final Collect finds was set by the partial one
+abbrev FoundNumbers : Shape → Type 0
+FoundNumbers (States xs es gs) = AllByRecursion IsNumber (sets (Collect xs es gs no_into stage.Partial))
+FoundNumbers (AllStates xs es gs) = AllByRecursion IsNumber (sets (Collect xs es gs no_into stage.Partial))
+FoundNumbers (Sent s) = FoundNumbers s
+FoundNumbers s = Unit {0}
+
+-- of the variables set in a plan, those of its top node, and the others
+parts : (b : Plan) (n : Node) → AllByRecursion IsNumber (vars_set (Over b n))
+    → AllByRecursion IsNumber (set_once n) × AllByRecursion IsNumber (vars_set b)
+parts b n a = all_parts IsNumber (set_once n) (vars_set b) a
+
+module _ (facts : Facts) where
+  numbers : (p : Plan) (s : Shape) → Shaped facts p s → AllByRecursion IsNumber (vars_set p)
+      → SetsNumbers p × FoundNumbers s
+  numbers p s one_row a = (tt, tt)
+  numbers p s (calculated {b = b} {x = x} {e = e} f h) a =
+      (((numbers b _ h (parts b (Calculation x e) a).1).0, tt), tt)
+  numbers p s (with_subquery {b = b} {s = t} {x = x} g h) a =
+      let both = parts b (Subquery x t) a in
+      (((numbers b _ h both.1).0, (numbers t _ g both.0.1).0), tt)
+  numbers p s (plain_rows {b = b} {n = n} i f h) a =
+      let both = parts b n a in
+      (((numbers b _ h both.1).0, outer_numbers n i both.0), tt)
+  numbers p s (ordered_rows {b = b} {x = x} {index = index} {equal = equal} {last = last}
+      {descending = descending} e f h) a =
+      (((numbers b _ h (parts b (Index x index equal last (Some descending)) a).1).0, tt), tt)
+  numbers p s (scatter {b = b} f h) a = (((numbers b _ h a).0, tt), tt)
+  numbers p s (distribute {b = b} f h) a = (((numbers b _ h a).0, tt), tt)
+  numbers p s (remote {b = b} {s = t} i h) a = let below = numbers b t h a in ((below.0, tt), below.1)
+  numbers p s (lowest {b = b} {n = n} {coll = coll} i f h) a =
+      (((numbers b _ h (parts b n a).1).0, reading_numbers coll n i), tt)
+  numbers p s (lowest_in_order {b = b} {x = x} {index = index} {equal = equal} {last = last}
+      {descending = descending} e f h) a =
+      (((numbers b _ h (parts b (Index x index equal last (Some descending)) a).1).0, tt), tt)
+  numbers p s (other_reading {b = b} {n = n} i f h) a =
+      (((numbers b _ h (parts b n a).1).0, shard_numbers n i), tt)
+  numbers p s (passing {b = b} {n = n} i f h) a =
+      (((numbers b _ h (parts b n a).1).0, passing_numbers n i), tt)
+  numbers p s (sorting {b = b} f h) a = (((numbers b _ h a).0, tt), tt)
+  numbers p s (gather {b = b} h) a = (((numbers b _ h a).0, tt), tt)
+  numbers p s (gather_in_order {b = b} f h) a = (((numbers b _ h a).0, tt), tt)
+  numbers p s (partial {b = b} {xs = xs} {es = es} {gs = gs} f h) a =
+      let both = parts b (Collect xs es gs no_into stage.Partial) a in
+      (((numbers b _ h both.1).0, both.0), both.0)
+  numbers p s (joining {b = b} {xs = xs} {es = es} {gs = gs} h) a =
+      let below = numbers b (Sent (States xs es gs)) h a in ((below.0, tt), below.1)
+  numbers p s (finishing {b = b} {xs = xs} {es = es} {gs = gs} f h) a =
+      let below = numbers b (AllStates xs es gs) h a in ((below.0, below.1), tt)
+  numbers p s (returning {b = b} f h) a = (((numbers b _ h a).0, tt), tt)
+
+  pub sets_numbers : (p : Plan) → Shaped facts p Result → AllByRecursion IsNumber (vars_set p)
+      → SetsNumbers p
+  sets_numbers p h a = (numbers p Result h a).0
 
 -- ---- counts
 

@@ -1,10 +1,11 @@
 -- The operators of a fragment on a shard, by its top node and what is below; and lists of trees.
 use Rattle.std.proofs.Common.{◌≡◌, ◌∙◌, ℕ, ◌+◌, ◌<◌, ◌≤◌, List, [], ◌∷◌, ◌++◌, length, get_or, take, Some, None, true, false, refl, ap, sym, subst, arith}
 use Rattle.std.proofs.lemmas.List.{take_more}
+use Rattle.aql_meaning.specs.declared.grouping.Stage.TheVariants as stage
 use Rattle.aql_plan.specs.declared.facts.Facts.{Facts}
 use Rattle.aql_plan.specs.Nodes.{weight}
 use Rattle.aql_plan.specs.Fits.{Fits}
-use Rattle.aql_plan.specs.Plan.{Plan, Singleton, Over, Node, EnumerateCollection, Index, Calculation, Filter, Sort, Scatter, Distribute, Remote, Gather}
+use Rattle.aql_plan.specs.Plan.{Plan, Singleton, Over, Node, EnumerateCollection, Index, Calculation, Filter, Sort, Collect, Scatter, Distribute, Remote, Gather}
 use Rattle.aql_exec.specs.declared.feed.Feed
 use Rattle.aql_exec.specs.Operators as operator
 use Rattle.aql_exec.specs.Operators.{Operator, OperatorTree, OperatorTrees, no_trees, tree_then, NoRows, Shards, leaf, within}
@@ -12,14 +13,15 @@ use Rattle.aql_engine.specs.EachFits.{EachFits}
 use Rattle.aql_engine.specs.OperatorsOf.{operators_at, operators_of, operators_below, foot, shards_of, each_tree}
 use Rattle.aql_exec_fragments.specs.Feeds.{trees_of}
 use Rattle.aql_local.specs.Building.{SetsNumbers}
-use Rattle.aql_local.specs.Fragments.{StandsOnShard, IsFragment, is_scatter, operator_on, all_trees, StandsApart, FootStandsApart, below_foot, is_gather, reached, gather_of, gather_operator}
+use Rattle.aql_local.specs.Fragments.{StandsOnShard, IsFragment, is_foot, operator_on, all_trees, StandsApart, FootStandsApart, below_foot, is_gather, reached, gather_of, gather_operator}
 use Rattle.aql_local.proofs.Returned.{within_is}
 
 -- ---- a node above the foot
 
-pub above_foot : (b : Plan) (n : Node) → IsFragment (Over b n) → is_scatter n ≡ false
+pub above_foot : (b : Plan) (n : Node) → IsFragment (Over b n) → is_foot n ≡ false
     → IsFragment b × StandsOnShard n
 above_foot b (Scatter coll only) h e = absurd (cc)
+above_foot b (Distribute coll es) h e = absurd (cc)
 above_foot b n h e = h
 
 pub shard_operators : (facts : Facts) (shard : ℕ) (b : Plan) (n : Node) → StandsOnShard n
@@ -30,6 +32,9 @@ shard_operators facts shard b (Index x index equal last ordered) h = refl
 shard_operators facts shard b (Calculation x e) h = refl
 shard_operators facts shard b (Filter e) h = refl
 shard_operators facts shard b (Sort directions es n) h = refl
+shard_operators facts shard b (Collect xs es gs i stage.Partial) h = refl
+shard_operators facts shard b (Collect xs es gs i stage.Whole) h = absurd h
+shard_operators facts shard b (Collect xs es gs i stage.Final) h = absurd h
 shard_operators facts shard b Remote h = refl
 shard_operators facts shard b n h = absurd h
 
@@ -59,56 +64,63 @@ trees_more plan tree shards ts new i t before l p k =
 
 -- ---- the foot
 
-pub foot_here : (b : Plan) (n : Node) → is_scatter n ≡ true → n ≡ foot (Over b n)
+pub foot_here : (b : Plan) (n : Node) → is_foot n ≡ true → n ≡ foot (Over b n)
 foot_here b (Scatter coll only) e = refl
+foot_here b (Distribute coll es) e = refl
 foot_here b n e = absurd (cc)
 
-pub foot_above : (b : Plan) (n : Node) → IsFragment (Over b n) → is_scatter n ≡ false
+pub foot_above : (b : Plan) (n : Node) → IsFragment (Over b n) → is_foot n ≡ false
     → foot b ≡ foot (Over b n)
 foot_above b (Scatter coll only) h e = absurd (cc)
-foot_above b (Distribute coll es) h e = absurd h.1
+foot_above b (Distribute coll es) h e = absurd (cc)
 foot_above b n h e = refl
 
-pub below_here : (b : Plan) (n : Node) → is_scatter n ≡ true → b ≡ below_foot (Over b n)
+pub below_here : (b : Plan) (n : Node) → is_foot n ≡ true → b ≡ below_foot (Over b n)
 below_here b (Scatter coll only) e = refl
+below_here b (Distribute coll es) e = refl
 below_here b n e = absurd (cc)
 
-pub below_above : (b : Plan) (n : Node) → is_scatter n ≡ false → below_foot b ≡ below_foot (Over b n)
+pub below_above : (b : Plan) (n : Node) → is_foot n ≡ false → below_foot b ≡ below_foot (Over b n)
 below_above b (Scatter coll only) e = absurd (cc)
+below_above b (Distribute coll es) e = absurd (cc)
 below_above b n e = refl
 
-pub foot_scatters : (p : Plan) → IsFragment p → is_scatter (foot p) ≡ true
-foot_scatters Singleton h = absurd h
-foot_scatters (Over b (Scatter coll only)) h = refl
-foot_scatters (Over b (Distribute coll es)) h = absurd h.1
-foot_scatters (Over b n) h = foot_scatters b h.0
+pub foot_of_fragment : (p : Plan) → IsFragment p → is_foot (foot p) ≡ true
+foot_of_fragment Singleton h = absurd h
+foot_of_fragment (Over b (Scatter coll only)) h = refl
+foot_of_fragment (Over b (Distribute coll es)) h = refl
+foot_of_fragment (Over b n) h = foot_of_fragment b h.0
 
 -- ---- what holds below the foot
 
 pub foot_lighter : (p : Plan) → IsFragment p → weight (below_foot p) + 1 ≤ weight p
 foot_lighter Singleton h = absurd h
 foot_lighter (Over b (Scatter coll only)) h = omega arith
+foot_lighter (Over b (Distribute coll es)) h = omega arith
 foot_lighter (Over b n) h = let k = foot_lighter b h.0 in omega (arith, k)
 
 pub foot_fits : (facts : Facts) (p : Plan) → IsFragment p → EachFits facts p → Fits facts (foot p)
 foot_fits facts Singleton h f = absurd h
 foot_fits facts (Over b (Scatter coll only)) h f = f.1
-foot_fits facts (Over b (Distribute coll es)) h f = absurd h.1
+foot_fits facts (Over b (Distribute coll es)) h f = f.1
 foot_fits facts (Over b n) h f = foot_fits facts b h.0 f.0
 
 pub below_fits : (facts : Facts) (p : Plan) → EachFits facts p → EachFits facts (below_foot p)
 below_fits facts Singleton f = tt
 below_fits facts (Over b (Scatter coll only)) f = f.0
+below_fits facts (Over b (Distribute coll es)) f = f.0
 below_fits facts (Over b n) f = below_fits facts b f.0
 
 pub below_numbers : (p : Plan) → SetsNumbers p → SetsNumbers (below_foot p)
 below_numbers Singleton h = tt
 below_numbers (Over b (Scatter coll only)) h = h.0
+below_numbers (Over b (Distribute coll es)) h = h.0
 below_numbers (Over b n) h = below_numbers b h.0
 
 pub below_apart : (p : Plan) → IsFragment p → FootStandsApart p → StandsApart (below_foot p)
 below_apart Singleton h a = absurd h
 below_apart (Over b (Scatter coll only)) h a = a
+below_apart (Over b (Distribute coll es)) h a = a
 below_apart (Over b n) h a = below_apart b h.0 a
 
 -- ---- the operators of a Gather
@@ -117,7 +129,7 @@ pub below_operators : (facts : Facts) (p : Plan) → IsFragment p
     → operators_of facts (below_foot p) ≡ operators_below facts p
 below_operators facts Singleton h = absurd h
 below_operators facts (Over b (Scatter coll only)) h = refl
-below_operators facts (Over b (Distribute coll es)) h = absurd h.1
+below_operators facts (Over b (Distribute coll es)) h = refl
 below_operators facts (Over b n) h = below_operators facts b h.0
 
 pub shards_are_reached : (facts : Facts) (p : Plan) → IsFragment p
@@ -125,7 +137,7 @@ pub shards_are_reached : (facts : Facts) (p : Plan) → IsFragment p
 shards_are_reached facts Singleton h = absurd h
 shards_are_reached facts (Over b (Scatter coll (Some shard))) h = refl
 shards_are_reached facts (Over b (Scatter coll None)) h = refl
-shards_are_reached facts (Over b (Distribute coll es)) h = absurd h.1
+shards_are_reached facts (Over b (Distribute coll es)) h = refl
 shards_are_reached facts (Over b n) h = shards_are_reached facts b h.0
 
 -- a Gather over its fragments, and over what stands below their foot

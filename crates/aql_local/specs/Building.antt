@@ -3,6 +3,7 @@
 use Rattle.std.specs.Prelude.{Bool, true, false}
 use Rattle.std.specs.List.{AllByRecursion}
 use Rattle.aql_meaning.specs.Numbered.{IsNumber}
+use Rattle.aql_meaning.specs.declared.grouping.Stage.TheVariants as stage
 use Rattle.aql_plan.specs.declared.facts.Facts.{Facts}
 use Rattle.aql_plan.specs.Plan.{Plan, Singleton, Over, Node, Index, Traversal, Subquery, Collect, NoResults}
 use Rattle.aql_plan.specs.Needs.{sets}
@@ -36,6 +37,11 @@ IsIndexNode n = ⊥
 abbrev pub IsTraversal : Node → Type 0
 IsTraversal (Traversal shape e colls prune keep) = Unit {0}
 IsTraversal n = ⊥
+
+-- the first of the two steps of a COLLECT
+abbrev pub IsPartial : Node → Type 0
+IsPartial (Collect xs es gs i stage.Partial) = Unit {0}
+IsPartial n = ⊥
 
 abbrev mutual
   -- what each COLLECT of a plan sets are numbers, also in bodies

@@ -15,6 +15,7 @@ StandsOnShard (Index x index equal last ordered) = Unit {0}
 StandsOnShard (Calculation x e) = Unit {0}
 StandsOnShard (Filter e) = Unit {0}
 StandsOnShard (Sort directions es n) = Unit {0}
+StandsOnShard (Collect xs es gs i stage.Partial) = Unit {0}
 StandsOnShard Remote = Unit {0}
 StandsOnShard n = ⊥
 
@@ -22,14 +23,17 @@ abbrev pub is_remote : Node → Bool
 is_remote Remote = true
 is_remote n = false
 
-abbrev pub is_scatter : Node → Bool
-is_scatter (Scatter coll only) = true
-is_scatter n = false
+-- it is the foot of a fragment
+abbrev pub is_foot : Node → Bool
+is_foot (Scatter coll only) = true
+is_foot (Distribute coll es) = true
+is_foot n = false
 
 -- a part of a plan from the foot of a fragment up
 abbrev pub IsFragment : Plan → Type 0
 IsFragment Singleton = ⊥
 IsFragment (Over b (Scatter coll only)) = Unit {0}
+IsFragment (Over b (Distribute coll es)) = Unit {0}
 IsFragment (Over b n) = IsFragment b × StandsOnShard n
 
 -- the operator of such a node on a shard
@@ -45,8 +49,7 @@ all_trees plan (t ∷ ts) = tree_then (plan t) (all_trees plan ts)
 -- ---- plans with fragments
 
 abbrev mutual
-  -- each Gather stands over a fragment whose foot is a Scatter, and no other node of a fragment stands
-  -- outside one; bodies too
+  -- each Gather stands over a fragment, and no other node of a fragment stands outside one; bodies too
   pub StandsApart : Plan → Type 0
   StandsApart Singleton = Unit {0}
   StandsApart (Over b (Gather directions es)) = IsFragment b × FootStandsApart b
@@ -56,12 +59,12 @@ abbrev mutual
   pub FootStandsApart : Plan → Type 0
   FootStandsApart Singleton = Unit {0}
   FootStandsApart (Over b (Scatter coll only)) = StandsApart b
+  FootStandsApart (Over b (Distribute coll es)) = StandsApart b
   FootStandsApart (Over b n) = FootStandsApart b
 
   pub StandsOutside : Node → Type 0
   StandsOutside (Subquery x body) = StandsApart body
   StandsOutside (Collect xs es gs i stage.Partial) = ⊥
-  StandsOutside (Collect xs es gs i stage.Final) = ⊥
   StandsOutside (Scatter coll only) = ⊥
   StandsOutside (Distribute coll es) = ⊥
   StandsOutside Remote = ⊥
@@ -72,16 +75,18 @@ abbrev mutual
 abbrev pub below_foot : Plan → Plan
 below_foot Singleton = Singleton
 below_foot (Over b (Scatter coll only)) = b
+below_foot (Over b (Distribute coll es)) = b
 below_foot (Over b n) = below_foot b
 
 abbrev pub is_gather : Node → Bool
 is_gather (Gather directions es) = true
 is_gather n = false
 
--- the shards that a Scatter reaches
+-- the shards that a Scatter or Distribute reaches
 abbrev pub reached : Facts → Node → List ℕ
 reached facts (Scatter coll (Some shard)) = shard ∷ []
 reached facts (Scatter coll None) = numbers_below (shards_in facts coll)
+reached facts (Distribute coll es) = numbers_below (shards_in facts coll)
 reached facts n = []
 
 -- a Gather over so many inputs

@@ -58,6 +58,7 @@ pub trait PlanExecutor: Wired<World> + Drop {
     fn of_gather(alloc: Global, plan: &Plan, shards: Vec<u32>) -> Result<Self, OutOfMemory>
         requires gather { is_gather (spec.top (plan_tree plan.now)) ≡ true }
         requires apart { StandsApart (plan_tree plan.now) }
+        requires numbers { SetsNumbers (plan_tree plan.now) }
         requires few { length shards.items < 2 ^ 32 }
         ensures { IfOk result (λ x. (facts : Facts) → Self.node x
             ≡ gather_operator facts shards.items (plan_tree plan.now)) };
@@ -272,11 +273,12 @@ fn executor_of(alloc: Global, node: &Node) -> Result<UnlinkedNode, OutOfMemory>
             groups,
             aggregates,
             into,
-            ..
+            stage,
         } => {
             let criteria = copy_lets(alloc, groups.as_slice())?;
             let aggregates = copy_aggregates(alloc, aggregates.as_slice())?;
-            Ok(collect(alloc, criteria, aggregates, copy_into(alloc, into)?))
+            let into = copy_into(alloc, into)?;
+            Ok(collect(alloc, *stage, criteria, aggregates, into))
         }
         Node::Return { distinct, expr, .. } => {
             let expr = copy_expr(alloc, expr)?;

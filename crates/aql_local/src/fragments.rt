@@ -5,7 +5,8 @@ ghost use Rattle.aql_plan.specs.declared.facts.Facts.{Facts};
 ghost use Rattle.aql_plan.specs.View.{node_tree, plan_tree};
 ghost use Rattle.aql_exec.specs.Operators.{NoRows, ShardRows, within};
 ghost use Rattle.aql_engine.specs.OperatorsOf.{each_tree, foot, operators_at};
-ghost use Rattle.aql_local.specs.Fragments.{StandsOnShard, IsFragment, is_scatter, below_foot};
+ghost use Rattle.aql_local.specs.Building.{SetsNumbers, NodeSetsNumbers};
+ghost use Rattle.aql_local.specs.Fragments.{StandsOnShard, IsFragment, is_foot, below_foot};
 ghost use Rattle.aql_local.specs.Fragments.{operator_on, all_trees};
 
 use crate::World;
@@ -29,7 +30,8 @@ pub trait ShardExecutor: Founded<World> + Drop {
 
     /// The executor of a node of a fragment, on a shard.
     fn on_shard(alloc: Global, node: &Node, shard: u32) -> Result<Self, OutOfMemory>
-        requires { StandsOnShard (node_tree node.now) }
+        requires stands { StandsOnShard (node_tree node.now) }
+        requires numbers { NodeSetsNumbers (node_tree node.now) }
         ensures { IfOk result (λ x. Self.node x ≡ operator_on shard (node_tree node.now)) };
 }
 
@@ -48,20 +50,20 @@ pub(crate) fn with_body<X: Wired<World> + Drop>(
     Ok(Tree::Sub(executor, below, body))
 }
 
-fn node_is_scatter(node: &Node) -> bool
-    ensures { result ≡ is_scatter (node_tree node.now) }
+fn node_is_foot(node: &Node) -> bool
+    ensures { result ≡ is_foot (node_tree node.now) }
 {
-    matches!(node, Node::Scatter { .. })
+    matches!(node, Node::Scatter { .. } | Node::Distribute { .. })
 }
 
-/// The Scatter at the foot of a fragment.
+/// The node at the foot of a fragment.
 pub fn foot_of(plan: &Plan) -> &Node
     requires { IsFragment (plan_tree plan.now) }
     ensures { node_tree result.now ≡ foot (plan_tree plan.now) }
 {
     match plan {
         Plan::Over { below, node } => {
-            if node_is_scatter(node) {
+            if node_is_foot(node) {
                 return node;
             }
             foot_of(below)
@@ -77,7 +79,7 @@ pub fn below_foot(plan: &Plan) -> &Plan
 {
     match plan {
         Plan::Over { below, node } => {
-            if node_is_scatter(node) {
+            if node_is_foot(node) {
                 return below;
             }
             below_foot(below)
@@ -92,13 +94,14 @@ pub fn tree_on_shard<X: ShardExecutor>(
     plan: &Plan,
     shard: u32,
 ) -> Result<Tree<X>, OutOfMemory>
-    requires { IsFragment (plan_tree plan.now) }
+    requires fragment { IsFragment (plan_tree plan.now) }
+    requires numbers { SetsNumbers (plan_tree plan.now) }
     ensures { IfOk result (λ t. (facts : Facts) → ⟦<Tree<X> as Feed<World>>⟧.plan t
         ≡ operators_at facts (Some shard) (plan_tree plan.now)) }
 {
     match plan {
         Plan::Over { below, node } => {
-            if node_is_scatter(node) {
+            if node_is_foot(node) {
                 return Ok(Tree::Leaf(X::shard_rows()));
             }
             let executor = X::on_shard(alloc, node, shard)?;
@@ -116,7 +119,8 @@ pub fn trees_on_shards<X: ShardExecutor>(
     plan: &Plan,
     shards: &[u32],
 ) -> Result<Vec<Tree<X>>, OutOfMemory>
-    requires { IsFragment (plan_tree plan.now) }
+    requires fragment { IsFragment (plan_tree plan.now) }
+    requires numbers { SetsNumbers (plan_tree plan.now) }
     ensures { IfOk result (λ trees. (facts : Facts)
         → all_trees ⟦<Tree<X> as Feed<World>>⟧.plan trees.items
         ≡ each_tree (λ shard. operators_at facts (Some shard) (plan_tree plan.now)) shards.now) }

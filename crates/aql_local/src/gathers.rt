@@ -5,7 +5,8 @@ ghost use Rattle.aql_plan.specs.declared.facts.Facts.{Facts};
 ghost use Rattle.aql_plan.specs.Plan as spec;
 ghost use Rattle.aql_plan.specs.View.{directions, key_trees, node_tree, plan_tree};
 ghost use Rattle.aql_exec.specs.Operators as operator;
-ghost use Rattle.aql_local.specs.Fragments.{StandsApart, all_trees, is_gather, is_scatter};
+ghost use Rattle.aql_local.specs.Building.{SetsNumbers};
+ghost use Rattle.aql_local.specs.Fragments.{StandsApart, all_trees, is_gather, is_foot};
 ghost use Rattle.aql_local.specs.Fragments.{gather_of, gather_operator};
 
 use crate::World;
@@ -15,7 +16,7 @@ use aql_exec::{AsWired, Executor, Feed, Unlinked};
 use aql_exec_cluster::{Gather, Scatter, SortedGather};
 use aql_exec_fragments::GatherNode;
 use aql_plan::{Node, Plan};
-use aql_tree::{Keys, copy_keys};
+use aql_tree::{Keys, copy_exprs, copy_keys};
 use aql_value::OutOfMemory;
 use std::alloc::Global;
 
@@ -63,13 +64,18 @@ fn gather_by(alloc: Global, keys: &Keys, inputs: u32) -> Result<AnyGather, OutOf
     Ok(Choice::Second(SortedGather::new(alloc, keys, inputs)?))
 }
 
-fn scatter_to(alloc: Global, foot: &Node, shards: Vec<u32>) -> Scatter
-    requires { is_scatter (node_tree foot.now) ≡ true }
-    ensures { ⟦<Scatter as Executor<World>>⟧.node result
-        ≡ operator.Scatter (node_tree foot.now) shards.items }
+// What is at the foot of a fragment, over these shards.
+fn scatter_to(alloc: Global, foot: &Node, shards: Vec<u32>) -> Result<Scatter, OutOfMemory>
+    requires { is_foot (node_tree foot.now) ≡ true }
+    ensures { IfOk result (λ x. ⟦<Scatter as Executor<World>>⟧.node x
+        ≡ operator.Scatter (node_tree foot.now) shards.items) }
 {
     match foot {
-        Node::Scatter { coll, only } => Scatter::new(alloc, coll.0, *only, shards),
+        Node::Scatter { coll, only } => Ok(Scatter::new(alloc, coll.0, *only, shards)),
+        Node::Distribute { coll, exprs } => {
+            let keys = copy_exprs(alloc, exprs.as_slice())?;
+            Ok(Scatter::by_keys(alloc, coll.0, keys, shards))
+        }
         _ => unreachable!(),
     }
 }
@@ -93,6 +99,7 @@ pub fn gather_executor<U: Unlinked<World>, X: ShardExecutor>(
 ) -> Result<OfNode<U, X>, OutOfMemory>
     requires gather { is_gather (spec.top (plan_tree plan.now)) ≡ true }
     requires apart { StandsApart (plan_tree plan.now) }
+    requires numbers { SetsNumbers (plan_tree plan.now) }
     requires few { length shards.items < 2 ^ 32 }
     ensures { IfOk result (λ x. (facts : Facts) → ⟦<OfNode<U, X> as Executor<World>>⟧.node x
         ≡ gather_operator facts shards.items (plan_tree plan.now)) }
@@ -101,7 +108,7 @@ pub fn gather_executor<U: Unlinked<World>, X: ShardExecutor>(
         Plan::Over { below, node } => {
             let gather = gather_over(alloc, node, shards.len() as u32)?;
             let fragments = trees_on_shards::<X>(alloc, below, shards.as_slice())?;
-            let scatter = scatter_to(alloc, foot_of(below), shards);
+            let scatter = scatter_to(alloc, foot_of(below), shards)?;
             Ok(gather_node(alloc, gather, scatter, fragments))
         }
         _ => unreachable!(),

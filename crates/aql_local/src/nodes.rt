@@ -10,7 +10,7 @@ ghost use Rattle.aql_plan.specs.Plan as plan;
 ghost use Rattle.aql_meaning.specs.View.{last_tree};
 ghost use Rattle.aql_plan.specs.View.{directions, expr_trees, key_trees};
 ghost use Rattle.aql_exec.specs.Operators.{StartRow, NoRows, OnRows, WithBody};
-ghost use Rattle.aql_exec_rows.specs.Settings.{node_of};
+ghost use Rattle.aql_exec_rows.specs.Settings.{node_at};
 ghost use Rattle.aql_exec_graph.specs.Searches as graph;
 ghost use Rattle.aql_exec_scan.specs.Scans as scans;
 
@@ -25,6 +25,7 @@ use aql_exec_rows::{Collect, GroupRows, Order, Sort, Subquery};
 use aql_exec_scan::{
     Documents, Elements, EnumerateCollection, EnumerateList, Found, Index, Reading,
 };
+use aql_meaning::Stage;
 use aql_plan::Last;
 use aql_tree::{Aggregates, Expr, Exprs, Into, Keys, Lets};
 use std::alloc::Global;
@@ -175,18 +176,19 @@ pub fn subquery(alloc: Global, var: u32) -> UnlinkedNode
     holder(Choice::First(Choice::Second(executor)))
 }
 
-/// COLLECT as one step.
+/// COLLECT, as one step or as one of two.
 pub fn collect(
     alloc: Global,
+    stage: Stage,
     criteria: Lets,
     aggregates: Aggregates,
     into: Option<Into>,
 ) -> UnlinkedNode
-    requires { AllByRecursion IsNumber (sets (node_of criteria aggregates into)) }
+    requires { AllByRecursion IsNumber (sets (node_at stage criteria aggregates into)) }
     ensures { ⟦<UnlinkedNode as Executor<World>>⟧.node result
-        ≡ OnRows (node_of criteria aggregates into) }
+        ≡ OnRows (node_at stage criteria aggregates into) }
 {
-    let executor = Stream::new(GroupRows::new(alloc, criteria, aggregates, into));
+    let executor = Stream::new(GroupRows::at_stage(alloc, stage, criteria, aggregates, into));
     holder(Choice::Second(Choice::First(executor)))
 }
 

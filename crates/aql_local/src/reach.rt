@@ -6,7 +6,7 @@ ghost use Rattle.aql_plan.specs.Fits.{Fits};
 ghost use Rattle.aql_plan.specs.View.{node_tree};
 ghost use Rattle.aql_shard.specs.Datasets.{stock};
 ghost use Rattle.aql_engine.specs.EachFits.{FewShards};
-ghost use Rattle.aql_local.specs.Fragments.{is_scatter, reached};
+ghost use Rattle.aql_local.specs.Fragments.{is_foot, reached};
 
 use aql_plan::Node;
 use aql_shard::Servers;
@@ -33,23 +33,24 @@ fn only_number(alloc: Global, number: u32) -> Result<Vec<u32>, OutOfMemory>
     Ok(numbers)
 }
 
-/// The shards that a Scatter reaches, in order.
+/// The shards that a Scatter or Distribute reaches, in order.
 pub fn shards_reached(
     alloc: Global,
     servers: &Servers,
-    scatter: &Node,
+    foot: &Node,
 ) -> Result<Vec<u32>, OutOfMemory>
-    requires scatter { is_scatter (node_tree scatter.now) ≡ true }
-    requires fits { Fits (stock servers.now).facts (node_tree scatter.now) }
+    requires foot { is_foot (node_tree foot.now) ≡ true }
+    requires fits { Fits (stock servers.now).facts (node_tree foot.now) }
     ensures shards { IfOk result (λ shards. shards.items
-        ≡ reached (stock servers.now).facts (node_tree scatter.now)) }
+        ≡ reached (stock servers.now).facts (node_tree foot.now)) }
     ensures few { IfOk result (λ shards. length shards.items < 2 ^ 32) }
 {
-    match scatter {
+    match foot {
         Node::Scatter { coll, only } => match only {
             Some(shard) => only_number(alloc, *shard),
             None => numbers_to(alloc, servers.shards(*coll)),
         },
+        Node::Distribute { coll, .. } => numbers_to(alloc, servers.shards(*coll)),
         _ => unreachable!(),
     }
 }

@@ -1,9 +1,9 @@
 -- A step that an executor took which asks for all rows: nothing of it was skipped.
-use Rattle.std.proofs.Common.{ℕ, ◌≡◌, ◌+◌, ◌≤◌, ◌++◌, List, [], length, true, refl, sym, ap, ◌∙◌, arith}
+use Rattle.std.proofs.Common.{ℕ, ◌≡◌, ◌++◌, List, length, sym, ap, ◌∙◌, arith}
 use mathlib.Core.Path.{fun_ext}
 use Rattle.std.proofs.lemmas.List.{nil_from_length}
 use Rattle.aql_meaning.specs.Row.{Row}
-use Rattle.aql_exec.specs.Rests.{Counter, Counts, Exact, Rest, Prefixed, with_rows}
+use Rattle.aql_exec.specs.Rests.{Counts, Exact, Rest, Prefixed, with_rows}
 use Rattle.aql_exec.specs.laws.Handing.{none_unreported, same_counts}
 
 -- its rows stand in front of the input

@@ -1,11 +1,12 @@
 // COLLECT: the numbers of the rows by their remainder, or all in one group.
 
-ghost use Rattle.std.specs.Prelude.{◌≤◌, IfOk};
+ghost use Rattle.std.specs.Prelude.{◌≡◌, ◌≤◌, IfOk, length};
 ghost use Rattle.std.specs.List.{AllByRecursion};
 ghost use Rattle.aql_meaning.specs.Plain.{IsPlain, AllPlain};
 ghost use Rattle.aql_meaning.specs.Numbered.{IsNumber};
 ghost use Rattle.aql_tree.specs.View.{tree};
 ghost use Rattle.aql_plan.specs.declared.facts.Facts.{Facts};
+ghost use Rattle.aql_plan.specs.Fits.{exprs_in};
 ghost use Rattle.aql_exec.specs.Operators.{IsOperator};
 ghost use Rattle.aql_exec_rows.specs.Settings.{criteria_vars, criteria_trees};
 
@@ -32,6 +33,8 @@ fn remainder(alloc: Global) -> Result<Expr, OutOfMemory>
 fn criteria(alloc: Global, groups: bool) -> Result<Lets, OutOfMemory>
     ensures plain { IfOk result (λ lets. AllPlain (criteria_trees lets)) }
     ensures numbers { IfOk result (λ lets. AllByRecursion IsNumber (criteria_vars lets)) }
+    ensures pairs { IfOk result
+        (λ lets. exprs_in (criteria_trees lets) ≡ length (criteria_vars lets)) }
 {
     let mut lets = Lets::new(alloc);
     if groups {

@@ -1,4 +1,4 @@
-use Rattle.std.proofs.Common.{◌≡◌, ◌∙◌, ◌++◌, [], length, append-nil, sym, ap, arith}
+use Rattle.std.proofs.Common.{◌∙◌, ◌++◌, append-nil, sym, ap, arith}
 use Rattle.std.proofs.lemmas.List.{nil_from_length}
 use Rattle.aql_block.specs.Tables.{rows_of}
 use Rattle.aql_engine.specs.Run.{rows_in}

@@ -1,4 +1,4 @@
-use Rattle.std.proofs.Common.{◌≡◌, ◌∙◌, ◌++◌, List, [], length, append-nil, sym, ap, subst}
+use Rattle.std.proofs.Common.{◌≡◌, ◌∙◌, ◌++◌, List, length, append-nil, sym, ap, subst}
 use Rattle.aql_plan.specs.View.{directions, key_trees}
 use Rattle.aql_meaning.specs.Row.{Row}
 use Rattle.aql_meaning.specs.AtRows.{row_before}

@@ -47,15 +47,16 @@ loop-at-preserved g c =
     let f = c.restart_over.new.self in
     let start = row_of c.args.start.now in
     let scatter = c.args.scatter.now in
+    let stock = p.stock c.args.world.now in
     let count = c.loop-at.invariant.same.count in
     let here = slice_get_read feeds (length feeds) k at refl (omega (arith, c.loop-at-test.true, count))
     c.index_mut.ensures.value in
     let begun = c.in_ok-restart_over.ensures in
-    let fresh : IsFresh s h p scatter start k f = record {
+    let fresh : IsFresh s h p scatter stock start k f = record {
       valid = begun.valid;
       produces = λ w r o. (
         rows_in c.in_ok-part.part.value,
-        (λ v ins none. c.in_ok-part.ensures v _ ins none),
+        (λ v ins same none. c.in_ok-part.ensures v _ ins same none),
         begun.produces w r o,
       );
       may_come = begun.may;
@@ -66,8 +67,8 @@ loop-at-preserved g c =
       same = same_then h c.args.fragments.now.items feeds _ c.loop-at.invariant.same
           (same_set h feeds k at f here begun.plan begun.full);
       fresh = λ j b l e. elim (at_set feeds k j f b e) [
-        | inl q ↦ subst (λ z. IsFresh s h p scatter start j z) q.1
-            (subst (λ z. IsFresh s h p scatter start z f) (sym q.0) fresh)
+        | inl q ↦ subst (λ z. IsFresh s h p scatter stock start j z) q.1
+            (subst (λ z. IsFresh s h p scatter stock start z f) (sym q.0) fresh)
         | inr q ↦ c.loop-at.invariant.fresh j b (less_or_at l q.0) q.1
       ];
     }

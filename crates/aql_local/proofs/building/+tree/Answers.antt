@@ -9,10 +9,10 @@ use Rattle.aql_shard.specs.Datasets.{stock}
 use Rattle.aql_engine.specs.EachFits.{EachFits}
 use Rattle.aql_engine.specs.OperatorsOf.{operators_of}
 use Rattle.aql_local.specs.Building.{SetsNumbers}
-use Rattle.aql_local.specs.Fragments.{StandsApart, is_scatter, reached, gather_operator}
+use Rattle.aql_local.specs.Fragments.{StandsApart, is_foot, reached, gather_operator}
 use Rattle.aql_local.proofs.Returned.{if_map, within_is}
 use Rattle.aql_local.proofs.Trees.{node_operators, apart_below, apart_fragment, body_is, body_apart, body_fits, body_numbers, body_lighter}
-use Rattle.aql_local.proofs.OnShards.{foot_scatters, foot_lighter, foot_fits, below_fits, below_numbers, below_apart, gather_operators}
+use Rattle.aql_local.proofs.OnShards.{foot_of_fragment, foot_lighter, foot_fits, below_fits, below_numbers, below_apart, gather_operators}
 use Rattle.aql_local.proofs.building.+tree.Goals as goal
 
 -- ---- bodies
@@ -87,13 +87,13 @@ tree_of-returns-in_ok-body-in-Some g t c =
 
 -- ---- a Gather
 
-pub gather_tree-shards_reached-requires-clause-scatter : goal.gather_tree-shards_reached-requires-clause-scatter
-gather_tree-shards_reached-requires-clause-scatter g t c =
+pub gather_tree-shards_reached-requires-clause-foot : goal.gather_tree-shards_reached-requires-clause-foot
+gather_tree-shards_reached-requires-clause-foot g t c =
     let p = plan_tree c.args.plan.now in
     let b = plan_tree c.args.fragment.now in
     let is = c.requires.fragment in
     let inside = apart_fragment b (top p) c.requires.gather (subst StandsApart is c.requires.apart) in
-    ap is_scatter c.foot_of.ensures ∙ foot_scatters b inside.0
+    ap is_foot c.foot_of.ensures ∙ foot_of_fragment b inside.0
 
 pub gather_tree-shards_reached-requires-clause-fits : goal.gather_tree-shards_reached-requires-clause-fits
 gather_tree-shards_reached-requires-clause-fits g t c =

@@ -3,7 +3,7 @@ use Rattle.std.proofs.Common.{◌≡◌, ◌∙◌, Some, ap, sym, subst}
 use Rattle.aql_plan.specs.View.{node_tree, plan_tree}
 use Rattle.aql_exec.specs.Operators.{leaf}
 use Rattle.aql_engine.specs.OperatorsOf.{operators_at}
-use Rattle.aql_local.specs.Fragments.{IsFragment, is_scatter, operator_on}
+use Rattle.aql_local.specs.Fragments.{IsFragment, is_foot, operator_on}
 use Rattle.aql_local.proofs.Returned.{if_map, within_is}
 use Rattle.aql_local.proofs.OnShards.{above_foot, shard_operators}
 use Rattle.aql_local.proofs.fragments.+tree_on_shard.Goals as goal
@@ -16,9 +16,9 @@ returns g t c =
     let seen : c.deref.result.now ≡ c.in-Over.node.value = cc (c.deref.ensures) in
     let node : c.deref-in-Over.result.now ≡ c.in-Over.node.value = cc (c.deref-in-Over.ensures) in
     let below : c.deref-in-Over-2.result.now ≡ c.in-Over.below.value = cc (c.deref-in-Over-2.ensures) in
-    let h = above_foot b n (subst IsFragment is c.requires)
-    (sym (ap (λ z. is_scatter (node_tree z)) seen) ∙ sym c.node_is_scatter.ensures
-    ∙ c.if-node_is_scatter.false) in
+    let h = above_foot b n (subst IsFragment is c.requires.fragment)
+    (sym (ap (λ z. is_foot (node_tree z)) seen) ∙ sym c.node_is_foot.ensures
+    ∙ c.if-node_is_foot.false) in
     if_map c.with_body.result c.with_body.ensures (λ x e facts.
     e ∙ within_is
     (c.in_ok-executor-in-Over.ensures ∙ ap (λ z. operator_on c.args.shard (node_tree z)) node)

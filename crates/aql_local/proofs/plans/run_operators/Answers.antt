@@ -23,7 +23,7 @@ pub run_feed-requires-clause-plan : goal.run_feed-requires-clause-plan
 run_feed-requires-clause-plan g c =
     let facts = (stock c.args.world.now.servers).facts in
     subst (λ (t : OperatorTree). IsTree facts t) (sym c.requires.feed)
-    (shaped_tree facts (plan_tree c.args.plan) Result c.requires.plan.well_formed.1 refl c.requires.few)
+    (shaped_tree facts (plan_tree c.args.plan) Result c.requires.plan.1 refl c.requires.few)
 
 pub returns-clause-run : goal.returns-clause-run
 returns-clause-run g c =

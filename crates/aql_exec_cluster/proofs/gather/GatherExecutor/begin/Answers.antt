@@ -1,4 +1,4 @@
-use Rattle.std.proofs.Common.{◌≡◌, ◌+◌, ◌≤◌, [], length, ap, arith}
+use Rattle.std.proofs.Common.{length, ap, arith}
 use Rattle.aql_block.specs.Tables.{rows_of}
 use Rattle.aql_exec_cluster.proofs.Stands.{going_few}
 use Rattle.aql_exec_cluster.proofs.gather.GatherExecutor.begin.Goals as goal

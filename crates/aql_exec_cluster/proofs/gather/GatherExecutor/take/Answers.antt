@@ -1,4 +1,4 @@
-use Rattle.std.proofs.Common.{◌≡◌, ◌∙◌, ◌<◌, ◌≤◌, length, subst, arith}
+use Rattle.std.proofs.Common.{◌<◌, length, subst, arith}
 use Rattle.std.proofs.lemmas.List.{length-set}
 use Rattle.aql_block.specs.Tables.{rows_of}
 use Rattle.aql_exec_cluster.specs.Gathering.{gives_gather}

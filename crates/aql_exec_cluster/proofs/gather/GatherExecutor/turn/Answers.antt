@@ -1,4 +1,4 @@
-use Rattle.std.proofs.Common.{◌≡◌, ◌∙◌, ◌<◌, ◌≤◌, inr, [], length, refl, sym, ap, arith}
+use Rattle.std.proofs.Common.{◌≡◌, ◌∙◌, inr, [], length, refl, sym, ap, arith}
 use Rattle.std.proofs.lemmas.List.{nil_from_length, length-map}
 use mathlib.Core.Bool.{false≢true}
 use Rattle.aql_block.specs.Tables.{rows_of}

@@ -1,4 +1,4 @@
-use Rattle.std.proofs.Common.{◌≡◌, ◌∙◌, sym}
+use Rattle.std.proofs.Common.{◌∙◌, sym}
 use Rattle.aql_plan.specs.View.{directions, key_trees}
 use Rattle.aql_exec_cluster.specs.Queues.{left_at}
 use Rattle.aql_exec_cluster.proofs.Sorted.{some_row, none_more, first_one, now_first, still_first}

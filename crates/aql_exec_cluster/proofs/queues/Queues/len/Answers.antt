@@ -1,4 +1,4 @@
-use Rattle.std.proofs.Common.{◌≡◌, ◌≤◌, length, arith}
+use Rattle.std.proofs.Common.{arith}
 use Rattle.aql_exec_cluster.proofs.Sorted.{count_more, count_all}
 use Rattle.aql_exec_cluster.proofs.queues.Queues.len.Goals as goal
 

@@ -1,4 +1,4 @@
-use Rattle.std.proofs.Common.{◌≡◌, ◌∙◌, ◌≤◌, ◌++◌, ◌∷◌, [], length, sym, ap, subst}
+use Rattle.std.proofs.Common.{◌≡◌, ◌∙◌, ◌≤◌, ◌++◌, ◌∷◌, [], length, ap, subst}
 use Rattle.aql_block.specs.Rows.{row_of, HasAll, only}
 use Rattle.aql_block.specs.Tables.{rows_of}
 use Rattle.aql_exec_cluster.proofs.Sorted.{left_read, registers_read, popped_by}

@@ -1,4 +1,4 @@
-use Rattle.std.proofs.Common.{◌≡◌, ◌∙◌, ◌+◌, ◌∷◌, [], length, length-append, ap, subst, arith}
+use Rattle.std.proofs.Common.{◌∙◌, ◌∷◌, [], length, length-append, ap, arith}
 use Rattle.aql_exec_cluster.specs.Queues.{left_at}
 use Rattle.aql_exec_cluster.proofs.Sorted.{empty_push}
 use Rattle.aql_exec_cluster.proofs.queues.Queues.new.Goals as goal

@@ -1,4 +1,4 @@
-use Rattle.std.proofs.Common.{◌≡◌, ◌∙◌, ◌+◌, ◌*◌, ◌≤◌, length, length-append, Some, ap, sym, subst, arith}
+use Rattle.std.proofs.Common.{◌∙◌, ◌+◌, ◌*◌, ◌≤◌, length, length-append, Some, ap, sym, subst, arith}
 use Rattle.aql_block.specs.Tables.{rows_of}
 use Rattle.aql_exec.specs.Steps.{unless_waiting, reported}
 use Rattle.aql_exec.specs.laws.Telling.{only_input}
@@ -17,7 +17,7 @@ returns-in-Waiting-clause-leads g c v w p body d s0 s ins' ins t b r l0 l1 a e' 
     let skipped = c.requires.asked.2.skipped in
     let offset = asked.0.0 in
     let rows = rows_of c.args.step.block in
-    scattered (length me.shards.items) p (port_rows me.kept me.filled) (port_rows c.keep.new.kept me.filled)
+    scattered me.coll me.routing (g.W.Surroundings.stock w) me.shards.items p (port_rows me.kept me.filled) (port_rows c.keep.new.kept me.filled)
     rows d
     ins' ins r (kept_more me.kept c.keep.new.kept me.filled rows asked.1 c.in_ok-keep.ensures)
     (taken_step rows s0 s d (ins' 0) (ins 0) t b l0 (omega (arith, l1, skipped, offset)) a (rw first at e')
@@ -31,7 +31,7 @@ returns-in-HasMore-clause-leads g c v w p body d s0 s ins' ins t b r l0 l1 a e' 
     let skipped = c.requires.asked.2.skipped in
     let offset = asked.0.0 in
     let rows = rows_of c.args.step.block in
-    scattered (length me.shards.items) p (port_rows me.kept me.filled) (port_rows c.keep.new.kept me.filled)
+    scattered me.coll me.routing (g.W.Surroundings.stock w) me.shards.items p (port_rows me.kept me.filled) (port_rows c.keep.new.kept me.filled)
     rows d
     ins' ins r (kept_more me.kept c.keep.new.kept me.filled rows asked.1 c.in_ok-keep.ensures)
     (taken_step rows s0 s d (ins' 0) (ins 0) t b l0 (omega (arith, l1, skipped, offset)) a (rw first at e')
@@ -46,7 +46,7 @@ returns-in_ok-new-in-Done-clause-leads g c v w p body d s0 s ins' ins t b r l0 l
     let offset = asked.0.0 in
     let rows = rows_of c.args.step.block in
     let filled = c.in_ok-new-in-Done.field-0 in
-    scattered (length me.shards.items) p (port_rows me.kept me.filled) (port_rows c.replace-blocks.new.dest
+    scattered me.coll me.routing (g.W.Surroundings.stock w) me.shards.items p (port_rows me.kept me.filled) (port_rows c.replace-blocks.new.dest
     (Some filled))
     rows d ins' ins r (filled_more me.kept c.replace-blocks.new.dest me.filled filled rows asked.1
     (λ q. c.in_ok-new-in-Done.ensures.start q ∙ ap rows_in c.replace-blocks.ensures.value ∙

@@ -1,4 +1,4 @@
-use Rattle.std.proofs.Common.{◌≡◌, ◌∙◌, ◌+◌, ◌≤◌, length, sym, arith}
+use Rattle.std.proofs.Common.{◌∙◌, sym, arith}
 use Rattle.aql_plan.specs.View.{key_trees}
 use Rattle.aql_exec_cluster.proofs.Stands.{going_few}
 use Rattle.aql_exec_cluster.proofs.Sorted.{none_keyed, none_left}

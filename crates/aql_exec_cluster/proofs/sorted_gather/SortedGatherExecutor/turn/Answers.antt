@@ -1,8 +1,7 @@
-use Rattle.std.proofs.Common.{◌≡◌, ◌∙◌, ◌+◌, ◌<◌, ◌≤◌, ◌++◌, inr, List, [], length, refl, sym, ap, subst, arith}
+use Rattle.std.proofs.Common.{◌≡◌, ◌∙◌, ◌<◌, ◌++◌, inr, List, length, refl, sym, ap, subst, arith}
 use Rattle.std.proofs.lemmas.List.{nil_from_length, length-map}
 use mathlib.Core.Bool.{false≢true}
 use Rattle.aql_plan.specs.View.{directions, key_trees}
-use Rattle.aql_block.specs.Tables.{rows_of}
 use Rattle.aql_exec.specs.Steps.{IsCall, given as rows_given, reported}
 use Rattle.aql_exec.specs.Counting.{nothing}
 use Rattle.aql_exec.specs.laws.Counted.{rises_none, prefixed_none}
@@ -12,7 +11,6 @@ use Rattle.aql_meaning.specs.AtRows.{row_before}
 use Rattle.aql_exec_cluster.specs.Standing.{standing, after_answer}
 use Rattle.aql_exec_cluster.specs.Queues.{Merges}
 use Rattle.aql_exec_cluster.specs.laws.Places.{is_below_true}
-use Rattle.aql_exec_cluster.specs.laws.Taking.{same_inputs}
 use Rattle.aql_exec_cluster.proofs.Stands.{woken, more_not_done, more_not_waiting}
 use Rattle.aql_exec_cluster.proofs.Sorted.{still_sorted, gave_sorted, quiet_step, none_sorted, none_left, all_gone, all_done}
 use Rattle.aql_exec_cluster.proofs.sorted_gather.SortedGatherExecutor.turn.Goals as goal

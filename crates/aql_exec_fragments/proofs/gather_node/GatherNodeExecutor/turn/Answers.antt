@@ -423,7 +423,7 @@ run_gather-requires-in-Give-clause-valid g c =
     let same = c.begin_fragments.ensures.same in
     let fresh = c.in_ok-begin_fragments-in-Give.ensures.fresh in
     let feeds1 = c.begin_fragments.new.fragments.items in
-    gathering_begun x s h p me.gather s1 (row_of me.start) feeds1 w1 stays.gather_valid
+    gathering_begun x s h p me.gather s1 (p.stock w1) (row_of me.start) feeds1 w1 stays.gather_valid
     (c.requires.valid.unfilled c.if-self.false)
     (λ k l. c.requires.node.3 k (is_less l (same.count ∙ sym (count_trees h feeds)))) fresh
 
@@ -648,7 +648,7 @@ returns-in_ok-step-in-Give-clause-leads g c =
           (λ l o. absurd (g.met.S.Unlinked.no_links s1 l o)) (length feeds) no_body ins d.filling
           (subst (λ z. s.gives s1 w2 z no_body ins d.filling) (pulled.feeds.count ∙ same.count) d.fills) in
           let between : Rest = record { rows = q.1.rows; counts = λ i. q.1.counts i + d.filling.counts i } in
-          let filled = fill_back x s h p (record me { scatter = s1 }) c.if-self.false feeds1 same fresh w1 ins
+          let filled = fill_back x s h p (record me { scatter = s1 }) c.if-self.false feeds1 same w1 fresh ins
           (ends1 0 ended).0 q.1 d.filling q.4 fills in
           let z = gave_nothing x s h p g.met.S.Splits.silent me s1 c.if-self.false stays turned.world.stock many
           leads.0
