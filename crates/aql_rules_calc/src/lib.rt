@@ -17,4 +17,4 @@ pub use reduce_extraction_to_projection::ReduceExtractionToProjection;
 pub use remove_redundant_calculations::RemoveRedundantCalculations;
 pub use remove_unnecessary_calculations::RemoveUnnecessaryCalculations;
 pub use replace_or_with_in::ReplaceOrWithIn;
-pub use simplify_conditions::SimplifyConditions;
+pub use simplify_conditions::{SimplifyConditions, constant_value};

@@ -9,7 +9,9 @@ ghost use Rattle.aql_tree.specs.View.{tree, members, member_part, steps, step_pa
 ghost use Rattle.aql_rules_calc.specs.SimplifyConditions.{is_scalar as spec_is_scalar};
 ghost use Rattle.aql_rules_calc.specs.SimplifyConditions.{is_literal as spec_is_literal};
 ghost use Rattle.aql_rules_calc.specs.SimplifyConditions.{all_named as spec_all_named};
-ghost use Rattle.aql_rules_calc.specs.SimplifyConditions.{IsComputed, constant_value};
+ghost use Rattle.aql_rules_calc.specs.SimplifyConditions.{IsComputed};
+ghost use Rattle.aql_rules_calc.specs.SimplifyConditions.{constant_value as spec_constant_value};
+ghost use Rattle.aql_meaning.specs.Plain.{IsPlain};
 ghost use Rattle.aql_rules_calc.specs.SimplifyConditions.{with_steps as spec_with_steps};
 ghost use Rattle.aql_rules_calc.specs.SimplifyConditions.{last_of as spec_last_of};
 ghost use Rattle.aql_rules_calc.specs.inner.Members.{access_in as spec_access_in, members_in};
@@ -39,6 +41,14 @@ impl RowView for NoVariables {
     ghost numbered = { λ row name. refl };
 }
 
+/// The value of an expression without variables.
+pub fn constant_value(alloc: Global, expr: &Expr) -> Result<Value, OutOfMemory>
+    requires { IsPlain (tree expr.now) }
+    ensures { IfOk result (λ v. datum_of v ≡ spec_constant_value (tree expr.now)) }
+{
+    eval(alloc, expr, &NoVariables)
+}
+
 fn is_literal(expr: &Expr) -> bool
     ensures { result ≡ spec_is_literal (tree expr.now) }
 {
@@ -61,7 +71,7 @@ fn is_scalar(value: &Value) -> bool
 fn fold_constant(alloc: Global, expr: &Expr) -> Result<Option<Expr>, OutOfMemory>
     ensures { IfOk result (λ found. MatchOption found (IsComputed (tree expr.now) → ⊥)
         (λ new. IsComputed (tree expr.now)
-        × (tree new ≡ literal (constant_value (tree expr.now))))) }
+        × (tree new ≡ literal (spec_constant_value (tree expr.now))))) }
 {
     if is_literal(expr) {
         return Ok(None);
@@ -69,7 +79,7 @@ fn fold_constant(alloc: Global, expr: &Expr) -> Result<Option<Expr>, OutOfMemory
     if !is_constant(alloc, expr)? {
         return Ok(None);
     }
-    let value = eval(alloc, expr, &NoVariables)?;
+    let value = constant_value(alloc, expr)?;
     if !is_scalar(&value) {
         return Ok(None);
     }

@@ -1,1 +1,3 @@
 pub mod Keys
+mod KeysFound
+mod ShardsFound

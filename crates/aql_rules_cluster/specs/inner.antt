@@ -1,5 +1,11 @@
 pub mod Fragments
+pub mod Bottoms
+pub mod Distributions
+pub mod Joinings
 pub mod FilterParts
 pub mod Sortings
+pub mod Groupings
 pub mod Gathers
 pub mod Walks
+pub mod KeyItems
+pub mod SingleShards

@@ -3,7 +3,6 @@
 
 ghost use Rattle.std.specs.Prelude.{◌≡◌, ◌≤◌, [], true, false, IfOk};
 ghost use Rattle.aql_plan.specs.Above.{input_inside as spec_input_inside};
-ghost use Rattle.aql_plan.specs.Executable.{HasExecutors};
 ghost use Rattle.aql_plan.specs.Plan.{top};
 ghost use Rattle.aql_plan.specs.Refines.{Refines};
 ghost use Rattle.aql_plan.specs.View.{node_tree, plan_tree};
@@ -122,8 +121,6 @@ pub(crate) fn run_cluster_pass<R: ClusterRule>(
     ensures sets { IfOk result (λ x. SetsNoMore (plan_tree plan) (plan_tree x.plan)) }
     ensures on_shards { IfOk result (λ x. ReadsOnShards facts.now (plan_tree plan)
         → ReadsOnShards facts.now (plan_tree x.plan)) }
-    ensures executors { IfOk result
-        (λ x. HasExecutors (plan_tree plan) → HasExecutors (plan_tree x.plan)) }
     ensures alone { IfOk result
         (λ x. facts.now.servers ≡ 0 → plan_tree x.plan ≡ plan_tree plan) }
 {

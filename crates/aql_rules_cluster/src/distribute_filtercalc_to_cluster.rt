@@ -2,7 +2,6 @@
 //! under the Gather.
 
 ghost use Rattle.std.specs.Prelude.{◌≡◌, []};
-ghost use Rattle.aql_plan.specs.Executable.{HasExecutors};
 ghost use Rattle.aql_plan.specs.Refines.{Refines};
 ghost use Rattle.aql_plan.specs.View.{node_tree, plan_tree};
 ghost use Rattle.aql_plan.specs.WellFormed.{IsWellFormed};
@@ -114,7 +113,6 @@ pub fn run_filtercalc_pass(plan: Plan, facts: &Facts) -> Passed
     ensures sets { SetsNoMore (plan_tree plan) (plan_tree result.plan) }
     ensures on_shards { ReadsOnShards facts.now (plan_tree plan)
         → ReadsOnShards facts.now (plan_tree result.plan) }
-    ensures executors { HasExecutors (plan_tree plan) → HasExecutors (plan_tree result.plan) }
     ensures alone { facts.now.servers ≡ 0 → plan_tree result.plan ≡ plan_tree plan }
 {
     match run_cluster_pass((), &DistributeFiltercalcToCluster, plan, facts) {

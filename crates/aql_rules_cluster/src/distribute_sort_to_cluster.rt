@@ -1,7 +1,6 @@
 //! A Sort over a Gather sorts on the shards, and the Gather merges by its keys what they give.
 
 ghost use Rattle.std.specs.Prelude.{◌≡◌, [], IfOk};
-ghost use Rattle.aql_plan.specs.Executable.{HasExecutors};
 ghost use Rattle.aql_plan.specs.Refines.{Refines};
 ghost use Rattle.aql_plan.specs.View.{plan_tree};
 ghost use Rattle.aql_plan.specs.WellFormed.{IsWellFormed};
@@ -94,8 +93,6 @@ pub fn run_sort_pass(alloc: Global, plan: Plan, facts: &Facts) -> Result<Passed,
     ensures sets { IfOk result (λ x. SetsNoMore (plan_tree plan) (plan_tree x.plan)) }
     ensures on_shards { IfOk result (λ x. ReadsOnShards facts.now (plan_tree plan)
         → ReadsOnShards facts.now (plan_tree x.plan)) }
-    ensures executors { IfOk result
-        (λ x. HasExecutors (plan_tree plan) → HasExecutors (plan_tree x.plan)) }
     ensures alone { IfOk result
         (λ x. facts.now.servers ≡ 0 → plan_tree x.plan ≡ plan_tree plan) }
 {

@@ -11,7 +11,8 @@ ghost use Rattle.aql_rules_cluster.specs.inner.Fragments.{IsMovedBelow};
 use aql_plan::{Node, Plan};
 use aql_rewrite::{replace_below, with_below};
 
-fn is_link(node: &Node) -> bool
+/// Whether a node is a link.
+pub(crate) fn is_link(node: &Node) -> bool
     ensures { result ≡ spec_is_link (node_tree node.now) }
 {
     matches!(node, Node::Remote)
@@ -27,7 +28,8 @@ fn comes_over_link(plan: &Plan) -> bool
     }
 }
 
-fn is_gather(node: &Node) -> bool
+/// Whether a node is a Gather.
+pub(crate) fn is_gather(node: &Node) -> bool
     ensures { result ≡ spec_is_gather (node_tree node.now) }
 {
     matches!(node, Node::Gather { .. })

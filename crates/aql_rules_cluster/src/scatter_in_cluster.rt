@@ -7,7 +7,6 @@ ghost use Rattle.aql_plan.specs.View.{plan_tree};
 ghost use Rattle.aql_plan.specs.WellFormed.{IsWellFormed};
 ghost use Rattle.aql_rewrite.specs.Places.{IsPass};
 ghost use Rattle.aql_rewrite.specs.Swaps.{SetsNoMore};
-ghost use Rattle.aql_plan.specs.Executable.{HasExecutors};
 ghost use Rattle.aql_rules_cluster.specs.OnShards.{ReadsOnShards};
 ghost use Rattle.aql_rules_cluster.specs.ScatterInCluster.{Scatters};
 
@@ -95,8 +94,6 @@ pub fn run_scatter_pass(alloc: Global, plan: Plan, facts: &Facts) -> Result<Pass
     ensures well_formed { IfOk result (λ x. IsWellFormed facts.now [] (plan_tree x.plan)) }
     ensures sets { IfOk result (λ x. SetsNoMore (plan_tree plan) (plan_tree x.plan)) }
     ensures on_shards { IfOk result (λ x. ReadsOnShards facts.now (plan_tree x.plan)) }
-    ensures executors { IfOk result
-        (λ x. HasExecutors (plan_tree plan) → HasExecutors (plan_tree x.plan)) }
     ensures alone { IfOk result
         (λ x. facts.now.servers ≡ 0 → plan_tree x.plan ≡ plan_tree plan) }
 {

@@ -108,11 +108,9 @@ pub runs_on : (facts : Facts) (us : Uses) (p q : Plan) (r : Option Rename) → M
     → KeepsRunning false p q r
 runs_on facts _ _ _ _ (filter_inside servers) = record {
   nameless = refl;
-  executors = λ h. (((h.0.0.0, tt), tt), tt);
   readers = λ h. (((h.0.0.0, tt), tt), tt);
 }
 runs_on facts _ _ _ _ (calculation_inside servers) = record {
   nameless = refl;
-  executors = λ h. (((h.0.0.0, tt), tt), tt);
   readers = λ h. (((h.0.0.0, tt), tt), tt);
 }

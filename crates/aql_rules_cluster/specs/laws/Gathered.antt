@@ -11,7 +11,8 @@ use Rattle.aql_meaning.specs.Merges.{Merged}
 use Rattle.aql_meaning.specs.Row.{Row, bind}
 use Rattle.aql_plan.specs.Facts.{numbers_below}
 use Rattle.aql_rewrite.specs.laws.Flat.{each_flat}
-use Rattle.aql_rules_cluster.specs.laws.Merging.{all_of, merged_permutes}
+use Rattle.aql_aggregate.specs.Theorems.{all_of}
+use Rattle.aql_rules_cluster.specs.laws.Merging.{merged_permutes}
 use Rattle.aql_rules_cluster.specs.laws.ShardParts.{rows_of_shards}
 
 -- ---- what is read of some documents, document by document

@@ -22,7 +22,8 @@ use Rattle.aql_index.specs.laws.Passing.{InPairs, pairs_filter, in_pairs, from_p
 use Rattle.aql_rewrite.specs.laws.Flat.{filter_flat}
 use Rattle.aql_rules_filter.specs.laws.Inserted.{sorted_filter_of}
 use Rattle.aql_rules_cluster.specs.laws.Mapped.{map_of_all, unmapped, pairs_map, pairs_unmap}
-use Rattle.aql_rules_cluster.specs.laws.Merging.{all_of, merged_permutes}
+use Rattle.aql_aggregate.specs.Theorems.{all_of}
+use Rattle.aql_rules_cluster.specs.laws.Merging.{merged_permutes}
 use Rattle.aql_rules_cluster.specs.laws.Projections.{keys_kept}
 
 -- ---- lists

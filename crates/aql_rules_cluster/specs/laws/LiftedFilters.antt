@@ -11,7 +11,8 @@ use Rattle.aql_meaning.specs.Row.{Row}
 use Rattle.aql_index.specs.laws.Passing.{InPairs, pairs_filter}
 use Rattle.aql_plan.specs.laws.SomeMerge.{not_itself, none_before, still_none}
 use Rattle.aql_rules_filter.specs.laws.Permuted.{passed_still}
-use Rattle.aql_rules_cluster.specs.laws.Merging.{all_of, merged_permutes}
+use Rattle.aql_aggregate.specs.Theorems.{all_of}
+use Rattle.aql_rules_cluster.specs.laws.Merging.{merged_permutes}
 
 -- the second list is the first one with x somewhere in it
 pub data Into {X : Type 0} (x : X) : List X → List X → Type 0 where

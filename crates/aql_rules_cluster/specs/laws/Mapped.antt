@@ -6,7 +6,7 @@ use Rattle.std.proofs.lemmas.List.{map-append}
 use Rattle.aql_value.specs.laws.Alls.{all_more, all_mapped}
 use Rattle.aql_meaning.specs.laws.Shuffles.{alike_permutation}
 use Rattle.aql_index.specs.laws.Passing.{InPairs}
-use Rattle.aql_rules_cluster.specs.laws.Merging.{all_of}
+use Rattle.aql_aggregate.specs.Theorems.{all_of}
 
 module _ {X Y : Type 0} (f : X → Y) where
   pub map_of_all : (lists : List (List X)) → all_of (map (map f) lists) ≡ map f (all_of lists)

@@ -6,11 +6,7 @@ use Rattle.std.proofs.lemmas.Option.{same_Some}
 use Rattle.std.proofs.lemmas.List.Sorted.{IsPermutation-refl, IsPermutation-cons, IsPermutation-trans, IsPermutation-append_right, IsPermutation-middle}
 use Rattle.aql_meaning.specs.Row.{Row}
 use Rattle.aql_meaning.specs.Merges.{Merged}
-
--- one list after another
-abbrev pub all_of : {X : Type 0} → List (List X) → List X
-all_of [] = []
-all_of (l ∷ lists) = l ++ all_of lists
+use Rattle.aql_aggregate.specs.Theorems.{all_of}
 
 taken_out : (lists : List (List Row)) (place : ℕ) (row : Row) (rest : List Row)
     → slice_get lists place ≡ Some (row ∷ rest)

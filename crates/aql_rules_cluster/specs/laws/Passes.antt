@@ -4,7 +4,6 @@ use Rattle.std.specs.Prelude.{Option, Some, None}
 use Rattle.aql_meaning.specs.Uses.{Uses}
 use Rattle.aql_plan.specs.declared.facts.Facts.{Facts}
 use Rattle.aql_plan.specs.Above.{input_inside}
-use Rattle.aql_plan.specs.Executable.{HasExecutors}
 use Rattle.aql_plan.specs.Needs.{result_uses}
 use Rattle.aql_plan.specs.Plan.{Plan, Over, Node}
 use Rattle.aql_plan.specs.Refines.{Refines}
@@ -19,11 +18,9 @@ use Rattle.aql_rules_cluster.specs.OnShards.{ReadsInFragments, ReadsOnShards}
 use Rattle.aql_rules_cluster.specs.inner.Walks.{AppliedOnce, IsWalked}
 use Rattle.aql_rules_cluster.specs.laws.Walking.{StaysAtBodies, AddsNoPlace, nowhere}
 
--- what a rule keeps of a part where it applies: it renames nothing, each node has an executor after it too,
--- and no reader comes out of a fragment
+-- what a rule keeps of a part where it applies: it renames nothing, and no reader comes out of a fragment
 pub record KeepsRunning (inside : Bool) (p q : Plan) (r : Option Rename) : Type 0 where
   pub nameless : r ≡ None
-  pub executors : HasExecutors p → HasExecutors q
   pub readers : ReadsInFragments inside p → ReadsInFragments inside q
 
 -- what a pass gives
@@ -33,7 +30,6 @@ pub record Passes (facts : Facts) (R : Rewriting) (p q : Plan) (changed : Bool) 
   pub well_formed : IsWellFormed facts [] q
   pub sets : SetsNoMore p q
   pub on_shards : ReadsOnShards facts p → ReadsOnShards facts q
-  pub executors : HasExecutors p → HasExecutors q
 
 -- what a rule for a cluster shows of itself
 pub record ForCluster (facts : Facts) (R : Rewriting) : Type 0 where
@@ -52,7 +48,6 @@ module _ (facts : Facts) (R : Rewriting) (rule : ForCluster facts R) where
       → KeepsRunning inside (Over b n) (Over c (renamed_by r n)) r
   running_over inside b c n None k = record {
     nameless = refl;
-    executors = λ h. (k.executors h.0, h.1);
     readers = λ h. (k.readers h.0, h.1);
   }
   running_over inside b c n (Some r) k = let e = k.nameless in absurd (cc)
@@ -63,7 +58,6 @@ module _ (facts : Facts) (R : Rewriting) (rule : ForCluster facts R) where
   once (here {us = us} {b = b} {q = q} {n = n} {r = r} none h) = rule.running us (Over b n) q r h
   once (body none stays h) = let k = once h in record {
     nameless = refl;
-    executors = λ g. (g.0, k.executors g.1);
     readers = λ g. (g.0, k.readers g.1);
   }
 
@@ -82,7 +76,7 @@ module _ (facts : Facts) (R : Rewriting) (rule : ForCluster facts R) where
       refines = λ db meets start vs a. a;
       well_formed = well;
       sets = sets_self p;
-      running = record { nameless = refl; executors = λ h. h; readers = λ h. h };
+      running = record { nameless = refl; readers = λ h. h };
     }
     sound {p = p} well (next {m = m} {d = q} k h) =
         let before = sound well k in
@@ -94,7 +88,6 @@ module _ (facts : Facts) (R : Rewriting) (rule : ForCluster facts R) where
           sets = sets_through p m q before.sets s.sets;
           running = record {
             nameless = refl;
-            executors = λ g. kept.executors (before.running.executors g);
             readers = λ g. kept.readers (before.running.readers g);
           };
         }
@@ -108,7 +101,6 @@ module _ (facts : Facts) (R : Rewriting) (rule : ForCluster facts R) where
           well_formed = s.well_formed;
           sets = s.sets;
           on_shards = λ before some. s.running.readers (before some);
-          executors = s.running.executors;
         }
 
   -- ---- without servers
@@ -120,5 +112,4 @@ module _ (facts : Facts) (R : Rewriting) (rule : ForCluster facts R) where
     well_formed = well;
     sets = sets_self p;
     on_shards = λ h. h;
-    executors = λ h. h;
   }

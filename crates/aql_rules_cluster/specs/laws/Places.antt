@@ -177,16 +177,13 @@ pub runs_on : (facts : Facts) (us : Uses) (p q : Plan) (r : Option Rename) → S
     → KeepsRunning false p q r
 runs_on facts _ _ _ _ (enumeration servers) = record {
   nameless = refl;
-  executors = λ h. (((((h.0, tt), tt), tt), tt), tt);
   readers = λ h. absurd (true≢false (sym h.1));
 }
 runs_on facts _ _ _ _ (by_index servers) = record {
   nameless = refl;
-  executors = λ h. (((((h.0, tt), tt), tt), tt), tt);
   readers = λ h. absurd (true≢false (sym h.1));
 }
 runs_on facts _ _ _ _ (in_index_order servers) = record {
   nameless = refl;
-  executors = λ h. (((((h.0, tt), tt), tt), tt), tt);
   readers = λ h. absurd (true≢false (sym h.1));
 }

@@ -74,7 +74,7 @@ module _ {X : Type 0} (f : X → ℕ) where
 
 -- ---- documents by shard
 
-shard_below : (shards : ℕ) (values : List Datum) → 1 ≤ shards → shard_of shards values < shards
+pub shard_below : (shards : ℕ) (values : List Datum) → 1 ≤ shards → shard_of shards values < shards
 unfolding shard_of
 shard_below shards values h = mod_below (fnv (json_text (list values))) shards (omega (arith, h))
 

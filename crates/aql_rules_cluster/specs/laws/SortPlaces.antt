@@ -118,11 +118,9 @@ pub runs_on : (facts : Facts) (us : Uses) (p q : Plan) (r : Option Rename) → S
     → KeepsRunning false p q r
 runs_on facts _ _ _ _ (sorted servers) = record {
   nameless = refl;
-  executors = λ h. (((h.0.0.0, tt), tt), tt);
   readers = λ h. (((h.0.0.0, tt), tt), tt);
 }
 runs_on facts _ _ _ _ (sorted_first servers) = record {
   nameless = refl;
-  executors = λ h. ((((h.0.0.0, tt), tt), tt), tt);
   readers = λ h. ((((h.0.0.0, tt), tt), tt), tt);
 }

@@ -17,7 +17,8 @@ use Rattle.aql_plan_laws.proofs.MergedOrder.{merge_does_not_descend}
 use Rattle.aql_index.specs.laws.Passing.{InPairs, in_pairs, from_pairs}
 use Rattle.aql_rules_cluster.specs.laws.InOrder.{filter_permuted}
 use Rattle.aql_rules_cluster.specs.laws.Mapped.{unmapped, pairs_map, pairs_unmap}
-use Rattle.aql_rules_cluster.specs.laws.Merging.{all_of, merged_permutes}
+use Rattle.aql_aggregate.specs.Theorems.{all_of}
+use Rattle.aql_rules_cluster.specs.laws.Merging.{merged_permutes}
 use Rattle.aql_rules_cluster.specs.laws.Pairs.{put_all, put_all_permutes, put_all_in_pairs, put_all_taken, pairs_take, upto, upto_taken}
 
 -- lists that are permuted one by one

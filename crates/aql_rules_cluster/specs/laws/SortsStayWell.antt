@@ -25,7 +25,7 @@ sort_outside facts b directions es limit s o (passing i f h) = absurd i
 sort_outside facts b directions es limit s o (sorting f h) = cc
 
 -- a Gather that gives rows stands over what a fragment sends
-gathered_rows : (facts : Facts) (b : Plan) (directions : List Bool) (es : ExprTrees) (s : Shape)
+pub gathered_rows : (facts : Facts) (b : Plan) (directions : List Bool) (es : ExprTrees) (s : Shape)
     → s ≡ Rows false → Shaped facts (Over b (Gather directions es)) s
     → (o : Order) × Shaped facts b (Sent (Fragment o))
 gathered_rows facts b directions es s e (gather {o = o} h) = (o, h)
@@ -36,7 +36,7 @@ gathered_rows facts b directions es s e (lowest i f h) = absurd i
 gathered_rows facts b directions es s e (other_reading i f h) = absurd i
 gathered_rows facts b directions es s e (passing i f h) = absurd i
 
-sent_fragment : (facts : Facts) (b : Plan) (s t : Shape) → s ≡ Sent t → Shaped facts (Over b Remote) s
+pub sent_fragment : (facts : Facts) (b : Plan) (s t : Shape) → s ≡ Sent t → Shaped facts (Over b Remote) s
     → Shaped facts b t
 sent_fragment facts b s t e (remote {s = u} i h) =
     let same : u ≡ t = cc in subst (Shaped facts b) same h

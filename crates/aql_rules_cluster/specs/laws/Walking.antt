@@ -69,7 +69,7 @@ module _ (R : Rewriting) where
     stays_seen us vs p h q r k = h q r (blind vs us p q r k)
 
     mutual
-      no_place_seen : (inside : Bool) (us vs : Uses) (p : Plan) → NoPlace R inside us p
+      pub no_place_seen : (inside : Bool) (us vs : Uses) (p : Plan) → NoPlace R inside us p
           → NoPlace R inside vs p
       no_place_seen inside us vs Singleton h = tt
       no_place_seen inside us vs (Over b n) h = (

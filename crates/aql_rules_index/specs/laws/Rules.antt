@@ -27,7 +27,7 @@ use Rattle.aql_rules_index.specs.laws.Rows.{narrowed, covered}
 -- ---- use-indexes
 
 module _ (x : Ident) (row : Row) (d : Datum) where
-  all_say : (es : List ExprTree) → list_all (λ e. holds e (bind x row d)) es ≡ true
+  pub all_say : (es : List ExprTree) → list_all (λ e. holds e (bind x row d)) es ≡ true
       → AllByRecursion (Says row d) (items_of x es)
   all_say [] h = tt
   all_say (e ∷ es) h =

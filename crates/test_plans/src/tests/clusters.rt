@@ -79,7 +79,7 @@ static SCATTERED: [(&str, &str); 10] = [
     // what stands in a fragment stays
     (
         "A0- > E10-- E201- > Ga R1-",
-        "start / scatter 0 / link / docs #1 / docs #2 / link / gather / return #1",
+        "start / scatter 0 / link / docs #1 / docs #2 on 1 / link / gather / return #1",
     ),
     (
         "A0- > E10-- > Ga E20-- R1-",

@@ -127,13 +127,16 @@ fn plan_by(alloc: Global, words: &str) -> Result<Plan, OutOfMemory> {
 }
 
 // The body of a subquery: a Return of this expression, or of null for each document of collection 0
-// at `d`, gathered and filtered at `g`, and in order at `o`, or none at `x`.
+// at `d`, gathered and filtered at `g`, in order at `o`, and grouped at `c`, or none at `x`.
 fn body(alloc: Global, of: u8) -> Result<Plan, OutOfMemory> {
     if of == b'x' {
         return Ok(Plan::Singleton);
     }
     if of == b'o' {
         return plan_by(alloc, "A0- > E10-- > Ga Saa R_-");
+    }
+    if of == b'c' {
+        return plan_by(alloc, "A0- > E10-- > Ga Kw3a----- R_-");
     }
     let below = match of {
         b'd' => scan(alloc, b"10--")?.over(alloc, Plan::Singleton)?,

@@ -9,7 +9,12 @@ use std::alloc::Global;
 
 /// The plan of these words, the lowest node first.
 pub fn plan(alloc: Global, words: &str) -> Result<Plan, OutOfMemory> {
-    let mut plan = Plan::Singleton;
+    plan_over(alloc, words, Plan::Singleton)
+}
+
+/// The nodes of these words over a plan, the lowest first.
+pub fn plan_over(alloc: Global, words: &str, below: Plan) -> Result<Plan, OutOfMemory> {
+    let mut plan = below;
     for word in words.split(' ') {
         plan = node(alloc, word.as_bytes(), plan)?;
     }

@@ -1,5 +1,5 @@
 // Plans as texts: a word or two for each node, the lowest first, between slashes.
-use aql_plan::{Node, Plan};
+use aql_plan::{Node, Plan, Stage};
 use aql_tree::{AggregateItem, Expr, Ident, Into, Key, Let};
 use aql_value::Names;
 use test_support::{Notation, Page, write_expr};
@@ -10,6 +10,12 @@ fn write(before: &str, expr: &Expr, page: &mut Page) {
 
 fn write_maybe(before: &str, expr: &Option<Expr>, page: &mut Page) {
     if let Some(expr) = expr {
+        write(before, expr, page);
+    }
+}
+
+fn write_exprs(before: &str, exprs: &[Expr], page: &mut Page) {
+    for expr in exprs {
         write(before, expr, page);
     }
 }
@@ -65,8 +71,16 @@ fn write_ident(before: &str, ident: &Ident, page: &mut Page) {
     }
 }
 
+// The two stages of a COLLECT by name.
+fn write_stage(stage: Stage, page: &mut Page) {
+    match stage {
+        Stage::Whole => page.put(" / collect"),
+        Stage::Partial => page.put(" / collect partial"),
+        Stage::Final => page.put(" / collect final"),
+    }
+}
+
 fn write_groups(groups: &[Let], page: &mut Page) {
-    page.put(" / collect");
     for group in groups {
         write_ident(" ", &group.var, page);
         write(" = ", &group.expr, page);
@@ -94,6 +108,13 @@ fn write_walked(vertex: u32, edge: Option<u32>, path: Option<u32>, page: &mut Pa
     write_maybe_var(" path ", path, page);
 }
 
+fn write_shard(shard: Option<u32>, page: &mut Page) {
+    if let Some(shard) = shard {
+        page.put(" on ");
+        page.put_shown(&shard);
+    }
+}
+
 // A node that gives a row for each of many things.
 fn write_source(node: &Node, page: &mut Page) {
     match node {
@@ -101,21 +122,25 @@ fn write_source(node: &Node, page: &mut Page) {
             var,
             filter,
             attrs,
+            shard,
             ..
         } => {
             write_var(" / docs ", *var, page);
             write_maybe(" if ", filter, page);
             write_attrs(attrs, page);
+            write_shard(*shard, page);
         }
         Node::Index {
             var,
             filter,
             attrs,
+            shard,
             ..
         } => {
             write_var(" / found ", *var, page);
             write_maybe(" if ", filter, page);
             write_attrs(attrs, page);
+            write_shard(*shard, page);
         }
         Node::EnumerateList { var, list } => {
             write_var(" / each ", *var, page);
@@ -145,6 +170,11 @@ fn write_link(node: &Node, page: &mut Page) {
             page.put_shown(&coll.0);
             write_maybe_var(" only ", *only, page);
         }
+        Node::Distribute { coll, exprs } => {
+            page.put(" / distribute ");
+            page.put_shown(&coll.0);
+            write_exprs(" by ", exprs.as_slice(), page);
+        }
         Node::Remote => page.put(" / link"),
         Node::Gather { order } => write_keys(" / gather", order.as_slice(), page),
         _ => page.put("?"),
@@ -171,8 +201,9 @@ fn write_node(node: &Node, page: &mut Page) {
             groups,
             aggregates,
             into,
-            ..
+            stage,
         } => {
+            write_stage(*stage, page);
             write_groups(groups.as_slice(), page);
             write_aggregates(aggregates.as_slice(), page);
             write_into(into, page);

@@ -22,6 +22,5 @@ returns g c =
       well_formed = k.well_formed;
       sets = k.sets;
       on_shards = k.on_shards;
-      executors = k.executors;
       alone = λ e. absurd (omega (arith, servers, e));
     }
