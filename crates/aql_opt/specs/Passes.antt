@@ -1,5 +1,5 @@
--- The passes that are built: what the pass of each rule makes of a plan, and whether it changed it. A rule
--- whose pass is not built yet leaves the plan as it is.
+-- What the pass of each rule makes of a plan, and whether it changed it. The order of loops is chosen among
+-- candidates, so its pass leaves each plan as it is.
 use Rattle.std.specs.Prelude.{◌≡◌, Bool, false}
 use Rattle.aql_plan.specs.declared.facts.Facts.{Facts}
 use Rattle.aql_plan.specs.declared.rules.RuleName.{RuleName}
@@ -21,7 +21,11 @@ use Rattle.aql_rules_index.specs.UseIndexes.{UsesIndex}
 use Rattle.aql_rules_index.specs.RemoveFilterCoveredByIndex.{RemovesCovered}
 use Rattle.aql_rules_index.specs.UseIndexForSort.{SortsByIndex}
 use Rattle.aql_rules_cluster.specs.ScatterInCluster.{Scatters}
+use Rattle.aql_rules_cluster.specs.DistributeInCluster.{Distributes}
+use Rattle.aql_rules_cluster.specs.RestrictToSingleShard.{Restricts}
 use Rattle.aql_rules_cluster.specs.DistributeFiltercalcToCluster.{MovesInside}
+use Rattle.aql_rules_cluster.specs.RemoveUnnecessaryRemoteScatter.{Joins}
+use Rattle.aql_rules_cluster.specs.CollectInCluster.{CollectsInside}
 use Rattle.aql_rules_cluster.specs.DistributeSortToCluster.{SortsInside}
 use Rattle.aql_rules_filter.specs.MoveFiltersUp.{MovesUp}
 use Rattle.aql_rules_filter.specs.RemoveUnnecessaryFilters.{Removes as RemovesFilter}
@@ -32,6 +36,7 @@ use Rattle.aql_rules_filter.specs.MoveFiltersIntoEnumerate.{MovesIn}
 abbrev pub IsPassOf : RuleName → Facts → Plan → Plan → Bool → Type 0
 IsPassOf rule.SimplifyConditions facts p q changed = IsPass (AtExprs Simplifies) p q changed
 IsPassOf rule.InlineSubqueries facts p q changed = IsPass Inlines p q changed
+IsPassOf rule.InterchangeAdjacentEnumerations facts p q changed = (q ≡ p) × (changed ≡ false)
 IsPassOf rule.MoveCalculationsUp facts p q changed = IsPass Moves p q changed
 IsPassOf rule.MoveFiltersUp facts p q changed = IsPass MovesUp p q changed
 IsPassOf rule.RemoveRedundantCalculations facts p q changed = IsPass Redundant p q changed
@@ -49,6 +54,9 @@ IsPassOf rule.SortLimit facts p q changed = IsPass Limits p q changed
 IsPassOf rule.MoveFiltersIntoEnumerate facts p q changed = IsPass MovesIn p q changed
 IsPassOf rule.ReduceExtractionToProjection facts p q changed = IsPass (Reduces facts) p q changed
 IsPassOf rule.ScatterInCluster facts p q changed = IsPass (Scatters facts) p q changed
+IsPassOf rule.DistributeInCluster facts p q changed = IsPass (Distributes facts) p q changed
+IsPassOf rule.RestrictToSingleShard facts p q changed = IsPass (Restricts facts) p q changed
 IsPassOf rule.DistributeFiltercalcToCluster facts p q changed = IsPass (MovesInside facts) p q changed
+IsPassOf rule.RemoveUnnecessaryRemoteScatter facts p q changed = IsPass (Joins facts) p q changed
+IsPassOf rule.CollectInCluster facts p q changed = IsPass (CollectsInside facts) p q changed
 IsPassOf rule.DistributeSortToCluster facts p q changed = IsPass (SortsInside facts) p q changed
-IsPassOf r facts p q changed = (q ≡ p) × (changed ≡ false)

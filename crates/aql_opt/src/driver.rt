@@ -15,7 +15,6 @@ ghost use Rattle.aql_plan.specs.WellFormed.{IsWellFormed};
 ghost use Rattle.aql_rewrite.specs.Placed.{IsWhole};
 ghost use Rattle.aql_rewrite.specs.Swaps.{SetsNoMore};
 ghost use Rattle.aql_rules_order.specs.StandsFor.{StandsFor};
-ghost use Rattle.aql_plan.specs.Executable.{HasExecutors};
 ghost use Rattle.aql_rules_cluster.specs.OnShards.{ReadsOnShards};
 ghost use Rattle.aql_opt.specs.Passes.{IsPassOf};
 ghost use Rattle.aql_opt.specs.Chosen.{IsEnabled, RunsRule, AfterRules, CandidatesBy, Chosen};
@@ -183,8 +182,6 @@ fn run_cluster_rule(
     ensures on_shards { IfOk result
         (λ x. (rule ≡ spec_rule.ScatterInCluster) ⊎ ReadsOnShards facts.now (plan_tree before.plan)
         → ReadsOnShards facts.now (plan_tree x.plan)) }
-    ensures executors { IfOk result
-        (λ x. HasExecutors (plan_tree before.plan) → HasExecutors (plan_tree x.plan)) }
     ensures alone { IfOk result
         (λ x. facts.now.servers ≡ 0 → plan_tree x.plan ≡ plan_tree before.plan) }
 {
@@ -210,8 +207,6 @@ fn run_cluster_rules(
     ensures well_formed { IfOk result (λ x. IsWellFormed facts.now [] (plan_tree x.plan)) }
     ensures sets { IfOk result (λ x. SetsNoMore (plan_tree plan) (plan_tree x.plan)) }
     ensures on_shards { IfOk result (λ x. ReadsOnShards facts.now (plan_tree x.plan)) }
-    ensures executors { IfOk result
-        (λ x. HasExecutors (plan_tree plan) → HasExecutors (plan_tree x.plan)) }
     ensures alone { IfOk result
         (λ x. facts.now.servers ≡ 0 → plan_tree x.plan ≡ plan_tree plan) }
 {
@@ -354,7 +349,6 @@ fn with_order(applied: RuleNames, reordered: bool) -> Result<RuleNames, OutOfMem
 /// The plan after the pass of each enabled rule, in their order, each once: of the candidates that
 /// the order of loops gives, each after the later passes, the cheapest one, and the first of
 /// equally cheap ones. Where there is a server, it reads on shards alone; else it has no fragment.
-/// Each of its nodes has an executor.
 pub fn optimise(
     alloc: Global,
     plan: Plan,
@@ -368,7 +362,6 @@ pub fn optimise(
     ensures refines { IfOk result (λ x. Refines facts.now (plan_tree x.plan) (plan_tree plan)) }
     ensures well_formed { IfOk result (λ x. IsWellFormed facts.now [] (plan_tree x.plan)) }
     ensures on_shards { IfOk result (λ x. ReadsOnShards facts.now (plan_tree x.plan)) }
-    ensures executors { IfOk result (λ x. HasExecutors (plan_tree x.plan)) }
     ensures alone { IfOk result
         (λ x. facts.now.servers ≡ 0 → HasNoFragment (plan_tree x.plan)) }
     ensures sets { IfOk result (λ x. SetsNoMore (plan_tree plan) (plan_tree x.plan)) }

@@ -1,4 +1,4 @@
-//! The passes that are built, by the names of their rules.
+//! The passes, by the names of their rules.
 
 ghost use Rattle.std.specs.Prelude.{◌≡◌, ◌⊎◌, [], true, false, IfOk};
 ghost use Rattle.aql_plan.specs.declared.rules.RuleName.TheVariants as spec_rule;
@@ -7,7 +7,6 @@ ghost use Rattle.aql_plan.specs.View.{plan_tree};
 ghost use Rattle.aql_plan.specs.WellFormed.{IsWellFormed};
 ghost use Rattle.aql_rewrite.specs.Placed.{IsWhole};
 ghost use Rattle.aql_rewrite.specs.Swaps.{SetsNoMore};
-ghost use Rattle.aql_plan.specs.Executable.{HasExecutors};
 ghost use Rattle.aql_rules_cluster.specs.OnShards.{ReadsOnShards};
 ghost use Rattle.aql_opt.specs.Passes.{IsPassOf};
 ghost use Rattle.aql_opt.specs.inner.Later.{is_of_cluster};
@@ -20,7 +19,10 @@ use aql_rules_calc::{
     MoveCalculationsUp, ReduceExtractionToProjection, RemoveRedundantCalculations,
     RemoveUnnecessaryCalculations, ReplaceOrWithIn, SimplifyConditions,
 };
-use aql_rules_cluster::{run_filtercalc_pass, run_scatter_pass, run_sort_pass};
+use aql_rules_cluster::{
+    run_collect_pass, run_distribute_pass, run_filtercalc_pass, run_join_pass, run_restrict_pass,
+    run_scatter_pass, run_sort_pass,
+};
 use aql_rules_filter::{
     FuseFilters, MoveFiltersIntoEnumerate, MoveFiltersUp, OptimizeTraversals,
     RemoveUnnecessaryFilters,
@@ -30,8 +32,8 @@ use aql_rules_order::{InlineSubqueries, RemoveCollectVariables, RemoveRedundantS
 use aql_value::OutOfMemory;
 use std::alloc::Global;
 
-/// The plan after the pass of a rule that is not of a cluster. The rule of the order of loops has
-/// no pass.
+/// The plan after the pass of a rule that is not of a cluster. The rule of the order of loops
+/// leaves it as it is: it gives candidates.
 pub(crate) fn pass_of(
     alloc: Global,
     rule: RuleName,
@@ -82,15 +84,15 @@ pub(crate) fn pass_of(
         RuleName::ReduceExtractionToProjection => {
             run_changing_pass(alloc, &ReduceExtractionToProjection, plan, facts)
         }
-        _ => Ok(Passed {
+        RuleName::InterchangeAdjacentEnumerations => Ok(Passed {
             plan,
             changed: false,
         }),
+        _ => unreachable!(),
     }
 }
 
-/// The plan after the pass of a rule of a cluster. A rule whose pass is not built yet leaves it as
-/// it is.
+/// The plan after the pass of a rule of a cluster.
 pub(crate) fn cluster_pass_of(
     alloc: Global,
     rule: RuleName,
@@ -107,18 +109,17 @@ pub(crate) fn cluster_pass_of(
     ensures on_shards { IfOk result
         (λ x. (rule ≡ spec_rule.ScatterInCluster) ⊎ ReadsOnShards facts.now (plan_tree plan)
         → ReadsOnShards facts.now (plan_tree x.plan)) }
-    ensures executors { IfOk result
-        (λ x. HasExecutors (plan_tree plan) → HasExecutors (plan_tree x.plan)) }
     ensures alone { IfOk result
         (λ x. facts.now.servers ≡ 0 → plan_tree x.plan ≡ plan_tree plan) }
 {
     match rule {
         RuleName::ScatterInCluster => run_scatter_pass(alloc, plan, facts),
+        RuleName::DistributeInCluster => run_distribute_pass(alloc, plan, facts),
+        RuleName::RestrictToSingleShard => run_restrict_pass(alloc, plan, facts),
         RuleName::DistributeFiltercalcToCluster => Ok(run_filtercalc_pass(plan, facts)),
+        RuleName::RemoveUnnecessaryRemoteScatter => Ok(run_join_pass(plan, facts)),
+        RuleName::CollectInCluster => run_collect_pass(alloc, plan, facts),
         RuleName::DistributeSortToCluster => run_sort_pass(alloc, plan, facts),
-        _ => Ok(Passed {
-            plan,
-            changed: false,
-        }),
+        _ => unreachable!(),
     }
 }

@@ -8,7 +8,6 @@ use Rattle.aql_plan.specs.Refines.{Refines}
 use Rattle.aql_plan.specs.Shapes.{HasNoFragment}
 use Rattle.aql_plan.specs.WellFormed.{IsWellFormed}
 use Rattle.aql_rewrite.specs.Swaps.{SetsNoMore}
-use Rattle.aql_plan.specs.Executable.{HasExecutors}
 use Rattle.aql_rules_cluster.specs.OnShards.{ReadsOnShards}
 
 -- the rules of a cluster, whose passes come last and take plans with fragments
@@ -28,5 +27,4 @@ pub record Finished (facts : Facts) (p q : Plan) : Type 0 where
   pub well_formed : IsWellFormed facts [] q
   pub sets : SetsNoMore p q
   pub on_shards : ReadsOnShards facts q
-  pub executors : HasExecutors q
   pub alone : facts.servers ≡ 0 → HasNoFragment q

@@ -14,7 +14,6 @@ finished_through facts p q s h k = record {
   well_formed = k.well_formed;
   sets = sets_through p q s h.sets k.sets;
   on_shards = k.on_shards;
-  executors = k.executors;
   alone = k.alone;
 }
 

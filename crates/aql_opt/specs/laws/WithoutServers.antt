@@ -11,7 +11,11 @@ use Rattle.aql_plan.specs.Plan.{Plan}
 use Rattle.aql_rewrite.specs.declared.swap.Rename.{Rename}
 use Rattle.aql_rewrite.specs.Places.{Rewriting, First, below, here, body, Reaches, at_once, next}
 use Rattle.aql_rules_cluster.specs.ScatterInCluster.{Scatters, enumeration, by_index, in_index_order}
+use Rattle.aql_rules_cluster.specs.DistributeInCluster.{Distributes, distributed}
+use Rattle.aql_rules_cluster.specs.RestrictToSingleShard.{Restricts, restricted}
 use Rattle.aql_rules_cluster.specs.DistributeFiltercalcToCluster.{MovesInside, filter_inside, calculation_inside}
+use Rattle.aql_rules_cluster.specs.RemoveUnnecessaryRemoteScatter.{Joins, joined}
+use Rattle.aql_rules_cluster.specs.CollectInCluster.{CollectsInside, collected}
 use Rattle.aql_rules_cluster.specs.DistributeSortToCluster.{SortsInside, sorted, sorted_first}
 use Rattle.aql_opt.specs.Passes.{IsPassOf}
 use Rattle.aql_opt.specs.Chosen.{RunsRule, switched_off, unchanged, changed, AfterRules, at_first, and_then, cluster_rules}
@@ -35,9 +39,21 @@ module _ (facts : Facts) (alone : facts.servers ≡ 0) where
   none_scattered us _ _ _ (by_index servers) = omega (arith, servers, alone)
   none_scattered us _ _ _ (in_index_order servers) = omega (arith, servers, alone)
 
+  none_distributed : (us : Uses) (p q : Plan) (r : Option Rename) → Distributes facts us p q r → ⊥
+  none_distributed us _ _ _ (distributed servers sends above) = omega (arith, servers, alone)
+
+  none_restricted : (us : Uses) (p q : Plan) (r : Option Rename) → Restricts facts us p q r → ⊥
+  none_restricted us _ _ _ (restricted servers narrowed above none) = omega (arith, servers, alone)
+
   none_moved : (us : Uses) (p q : Plan) (r : Option Rename) → MovesInside facts us p q r → ⊥
   none_moved us _ _ _ (filter_inside servers) = omega (arith, servers, alone)
   none_moved us _ _ _ (calculation_inside servers) = omega (arith, servers, alone)
+
+  none_joined : (us : Uses) (p q : Plan) (r : Option Rename) → Joins facts us p q r → ⊥
+  none_joined us _ _ _ (joined servers lower upper same reads above) = omega (arith, servers, alone)
+
+  none_collected : (us : Uses) (p q : Plan) (r : Option Rename) → CollectsInside facts us p q r → ⊥
+  none_collected us _ _ _ (collected servers) = omega (arith, servers, alone)
 
   none_sorted : (us : Uses) (p q : Plan) (r : Option Rename) → SortsInside facts us p q r → ⊥
   none_sorted us _ _ _ (sorted servers) = omega (arith, servers, alone)
@@ -46,11 +62,11 @@ module _ (facts : Facts) (alone : facts.servers ≡ 0) where
   idle : (r : RuleName) (p q : Plan) (c : Bool) → is_of_cluster r ≡ true → IsPassOf r facts p q c
       → (q ≡ p) × (c ≡ false)
   idle rule.ScatterInCluster p q c e h = left_alone (Scatters facts) none_scattered p q c h.reached
-  idle rule.DistributeInCluster p q c e h = h
-  idle rule.RestrictToSingleShard p q c e h = h
+  idle rule.DistributeInCluster p q c e h = left_alone (Distributes facts) none_distributed p q c h.reached
+  idle rule.RestrictToSingleShard p q c e h = left_alone (Restricts facts) none_restricted p q c h.reached
   idle rule.DistributeFiltercalcToCluster p q c e h = left_alone (MovesInside facts) none_moved p q c h.reached
-  idle rule.RemoveUnnecessaryRemoteScatter p q c e h = h
-  idle rule.CollectInCluster p q c e h = h
+  idle rule.RemoveUnnecessaryRemoteScatter p q c e h = left_alone (Joins facts) none_joined p q c h.reached
+  idle rule.CollectInCluster p q c e h = left_alone (CollectsInside facts) none_collected p q c h.reached
   idle rule.DistributeSortToCluster p q c e h = left_alone (SortsInside facts) none_sorted p q c h.reached
   idle r p q c e h = absurd (cc)
 

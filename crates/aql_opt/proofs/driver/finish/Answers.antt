@@ -2,7 +2,6 @@
 use Rattle.std.proofs.Common.{◌∙◌, ◌++◌, List, ap, sym, subst}
 use Rattle.aql_plan.specs.declared.rules.RuleName.{RuleName}
 use Rattle.aql_plan.specs.View.{plan_tree}
-use Rattle.aql_plan.specs.laws.Executable.{plain_executable}
 use Rattle.aql_opt.specs.Chosen.{AfterRules, local_rules, cluster_rules, later_rules}
 use Rattle.aql_opt.specs.laws.ClusterTurns.{joined}
 use Rattle.aql_opt.specs.laws.Finished.{finished_through, still_lone}
@@ -31,7 +30,6 @@ returns-clause-finished c =
       well_formed = last.well_formed;
       sets = last.sets;
       on_shards = last.on_shards;
-      executors = last.executors (plain_executable (plan_tree c.in_ok-plan.field-0.plan) first.whole.1);
       alone = still_lone c.args.facts.now (plan_tree c.in_ok-plan.field-0.plan)
           (plan_tree c.in_ok-last.last.plan) first.whole.1 last.alone;
     })

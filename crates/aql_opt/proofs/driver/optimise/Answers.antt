@@ -29,9 +29,6 @@ returns-clause-well_formed c = c.in_ok-chosen.ensures.finished.well_formed
 pub returns-clause-on_shards : goal.returns-clause-on_shards
 returns-clause-on_shards c = c.in_ok-chosen.ensures.finished.on_shards
 
-pub returns-clause-executors : goal.returns-clause-executors
-returns-clause-executors c = c.in_ok-chosen.ensures.finished.executors
-
 pub returns-clause-alone : goal.returns-clause-alone
 returns-clause-alone c = c.in_ok-chosen.ensures.finished.alone
 

@@ -20,7 +20,6 @@ loop-rule-init c = record {
   well_formed = c.requires;
   sets = sets_self (plan_tree c.args.plan);
   on_shards = λ some. absurd (omega (arith, some));
-  executors = λ h. h;
   alone = λ servers. refl;
 }
 
@@ -39,6 +38,5 @@ loop-rule-preserved c =
       sets = sets_through (plan_tree c.args.plan) before after kept.sets ran.sets;
       on_shards = λ some. scattered_more facts before after c.loop-rule.rule-index _ (search rules)
           kept.on_shards ran.on_shards;
-      executors = λ h. ran.executors (kept.executors h);
       alone = λ servers. ran.alone servers ∙ kept.alone servers;
     }
