@@ -1,5 +1,6 @@
 mod catalogs;
 mod counts;
+mod distributed;
 mod fragments;
 mod pages;
 mod rule_sets;

@@ -5,9 +5,11 @@ ghost use Rattle.std.specs.Prelude.{IsTrue, IfOk};
 ghost use Rattle.aql_shard.specs.Datasets.{stock};
 ghost use Rattle.aql_engine.specs.Engine.{CanRun};
 
-use crate::tests::pages::{Page, expect_page};
+use crate::tests::pages::{Page, expect, expect_page};
 use crate::tests::shards::catalog;
+use aql_doc::Catalog;
 use aql_engine::Ran;
+use aql_exec::Picker;
 use aql_local::run_plan;
 use aql_net::{ListPicker, Picks};
 use aql_plan::{Node, Plan};
@@ -102,7 +104,7 @@ fn put_ran(page: &mut Page, ran: &Ran) {
 // Which messages are delivered: how many picks, the first one, and by what each is multiplied to
 // give the next.
 #[derive(Clone, Copy)]
-struct Order {
+pub(crate) struct Order {
     count: u32,
     first: u64,
     factor: u64,
@@ -118,8 +120,55 @@ fn picks(alloc: Global, order: Order) -> Result<Picks, OutOfMemory> {
     Ok(all)
 }
 
-// Runs a plan over a collection of three shards, and writes its values, how many documents it read,
-// and whether no message was sent.
+// On how many servers a plan runs, and how many rows a step gives.
+#[derive(Clone, Copy)]
+struct Cluster {
+    servers: u32,
+    batch: u32,
+}
+
+// Runs a plan over documents; `None` where it is none that can be run.
+fn ran_by<P: Picker>(
+    alloc: Global,
+    catalog: Option<Catalog>,
+    plan: Plan,
+    cluster: Cluster,
+    picker: &mut P,
+) -> Result<Option<Ran>, OutOfMemory> {
+    let Some(catalog) = catalog else {
+        return Err(OutOfMemory);
+    };
+    if cluster.servers > 16 || cluster.batch < 1 || cluster.batch > 10000 {
+        return Ok(None);
+    }
+    let mut servers = split(alloc, catalog, cluster.servers)?;
+    if !can_run(alloc, &plan, &servers)? {
+        return Ok(None);
+    }
+    Ok(Some(run_plan(alloc, plan, &mut servers, picker, cluster.batch)?))
+}
+
+// Runs a plan over documents, and writes its values, how many documents it read, and whether no
+// message was sent.
+pub(crate) fn run_plan_over(
+    alloc: Global,
+    catalog: Option<Catalog>,
+    plan: Plan,
+    servers: u32,
+    order: Order,
+    batch: u32,
+    page: &mut Page,
+) -> Result<(), OutOfMemory> {
+    let cluster = Cluster { servers, batch };
+    let mut picker = ListPicker::new(picks(alloc, order)?);
+    match ran_by(alloc, catalog, plan, cluster, &mut picker)? {
+        Some(ran) => put_ran(page, &ran),
+        None => page.put("no such plan"),
+    }
+    Ok(())
+}
+
+// Runs a plan over a collection of three shards.
 fn run(
     alloc: Global,
     parts: &[Part],
@@ -128,22 +177,9 @@ fn run(
     batch: u32,
     page: &mut Page,
 ) -> Result<(), OutOfMemory> {
-    let Some(catalog) = catalog(alloc, 3) else {
-        return Err(OutOfMemory);
-    };
-    if servers > 16 || batch < 1 || batch > 10000 {
-        return Ok(());
-    }
     let plan = plan_of(alloc, parts)?;
-    let mut servers = split(alloc, catalog, servers)?;
-    if !can_run(alloc, &plan, &servers)? {
-        page.put("no such plan");
-        return Ok(());
-    }
-    let mut picker = ListPicker::new(picks(alloc, order)?);
-    let ran = run_plan(alloc, plan, &mut servers, &mut picker, batch)?;
-    put_ran(page, &ran);
-    Ok(())
+    let catalog = catalog(alloc, 3);
+    run_plan_over(alloc, catalog, plan, servers, order, batch, page)
 }
 
 // Plans over the documents a, b, c and d, and what is written of their runs.
@@ -210,7 +246,7 @@ static RUNS: [(&[Part], &str); 5] = [
 ];
 
 // The oldest message each time, the place that the largest number picks, and a thousand places.
-static ORDERS: [Order; 3] = [
+pub(crate) static ORDERS: [Order; 3] = [
     Order {
         count: 0,
         first: 0,
@@ -236,6 +272,84 @@ fn fragments_are_run(rt: HostRuntime) {
             let ran = run(rt.alloc(), parts, servers, ORDERS[order], batch, &mut page);
             page.put(if ran.is_err() { "memory" } else { "" });
             expect_page(&rt, &page, want, want);
+        }
+    }
+}
+
+// Takes the newest message each time.
+#[derive(Drop)]
+struct Newest;
+
+impl Picker for Newest {
+    ghost use Rattle.std.specs.Prelude.{suc, ◌≡◌};
+
+    ghost picks = { λ before n place after. suc place ≡ n };
+
+    fn pick(&mut self, n: u64) -> u64 {
+        n - 1
+    }
+}
+
+fn has_key(ran: &Ran, key: &str) -> bool {
+    for value in ran.values.as_slice() {
+        if let Value::Text(text) = value {
+            if text.as_str() == key {
+                return true;
+            }
+        }
+    }
+    false
+}
+
+// Each document of its own shard and server, as it is read; the values may come in any order.
+static EACH: [Part; 6] = [
+    Part::Scatter,
+    Part::Link,
+    Part::Docs(1),
+    Part::Link,
+    Part::Gather,
+    Part::Return(1),
+];
+
+// Which of the keys are among the values of such a run, and how many values there are.
+fn keys_by<P: Picker>(alloc: Global, batch: u32, picker: &mut P) -> Page {
+    let mut page = Page::new(alloc);
+    let Ok(plan) = plan_of(alloc, &EACH) else {
+        page.put("no plan");
+        return page;
+    };
+    let cluster = Cluster { servers: 4, batch };
+    let Ok(Some(ran)) = ran_by(alloc, catalog(alloc, 4), plan, cluster, picker) else {
+        page.put("no run");
+        return page;
+    };
+    for key in ["a", "b", "c", "d"] {
+        page.put(if has_key(&ran, key) { key } else { "-" });
+    }
+    page.put(" of ");
+    page.put_shown(&ran.values.len());
+    page
+}
+
+// The newest message each time, the place that the largest number picks, and the oldest each time.
+#[test]
+fn hostile_orders(rt: HostRuntime) {
+    let alloc = rt.alloc();
+    for batch in [1, 2] {
+        expect_page(
+            &rt,
+            &keys_by(alloc, batch, &mut Newest),
+            "abcd of 4",
+            "the newest",
+        );
+        for (order, of) in [(1, "the largest"), (0, "the oldest")] {
+            match picks(alloc, ORDERS[order]) {
+                Ok(list) => {
+                    let page = keys_by(alloc, batch, &mut ListPicker::new(list));
+                    expect_page(&rt, &page, "abcd of 4", of);
+                }
+                Err(_) => expect(&rt, false, "memory", of),
+            }
         }
     }
 }

@@ -127,6 +127,9 @@ fn sources_fail(rt: HostRuntime) {
         let line = "aql: read fault\n";
         gives(&rt, alloc, FIRST.as_bytes(), &streams, 6, b"", line);
     }
+    let mut late = SOUND;
+    late.source_fails = Some(FIRST.len() as u64 + 1);
+    gives(&rt, alloc, FIRST.as_bytes(), &late, 0, KEPT.as_bytes(), "");
 }
 
 #[test]
@@ -140,6 +143,9 @@ fn outputs_fail(rt: HostRuntime) {
         streams.out_fails = Some(count as u64);
         gives(&rt, alloc, script, &streams, 7, &kept[..count], line);
     }
+    let mut late = SOUND;
+    late.out_fails = Some(kept.len() as u64);
+    gives(&rt, alloc, script, &late, 0, kept, "");
     let mut full = SOUND;
     full.room = 3;
     gives(&rt, alloc, script, &full, 7, b"{\"_", line);
@@ -168,6 +174,8 @@ fn error_output_fails(rt: HostRuntime) {
         let script = script.as_bytes();
         gives(&rt, alloc, script, &streams, *status, text.as_bytes(), line);
     }
+    streams.err_fails = Some(0);
+    gives(&rt, alloc, b"%query\nRETURN y", &streams, 4, b"", "");
 }
 
 // Words that are refused, on an error output that fails.
