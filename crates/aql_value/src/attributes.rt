@@ -86,6 +86,18 @@ impl Members {
         Ok(())
     }
 
+    // Gives back the room for more attributes than there are and than so many, where there are some
+    // and no copy shares them.
+    pub(crate) fn shrink(&mut self, room: usize)
+        ensures { self.new ≡ self.old }
+    {
+        if let Some(shared) = &mut self.entries {
+            if let Some(entries) = Rc::get_mut(shared) {
+                entries.shrink_to(room);
+            }
+        }
+    }
+
     /// Sets an attribute, in place of the one of this name if there is one. Where memory runs out
     /// all stays as it was.
     pub fn set(&mut self, name: Text, value: Value) -> Result<(), OutOfMemory>

@@ -84,6 +84,7 @@ fn read_items(alloc: Global, reader: &mut Reader<'_>, room: usize) -> Option<Ite
             return None;
         }
     }
+    found.shrink();
     Some(found)
 }
 
@@ -105,6 +106,7 @@ fn read_members(
             return None;
         };
         let Some(key) = key else {
+            found.shrink(usual);
             return Some(found);
         };
         if found.len() == ATTRIBUTES {

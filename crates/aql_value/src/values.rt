@@ -152,6 +152,13 @@ impl Items {
         self.items.as_slice()
     }
 
+    // Gives back the room for elements that there are not.
+    pub(crate) fn shrink(&mut self)
+        ensures { self.new ≡ self.old }
+    {
+        self.items.shrink_to_fit();
+    }
+
     /// Appends an element; where memory runs out the array stays as it was.
     pub fn push(&mut self, item: Value) -> Result<(), OutOfMemory>
         ensures ok { OnOk result (self.new ≡ self.old ++ datum_of item ∷ []) }

@@ -81,8 +81,9 @@ read_items-items-preserved t c =
 pub read_items-returns-clause-reads : goal.read_items-returns-clause-reads
 read_items-returns-clause-reads t c =
     let ends : after_end_array c.items.reader ≡ Some c.take_end_array.new.self = grind arith in
-    items_read c.args.room c.items.found c.args.reader.now c.items.reader c.take_end_array.new.self
-    c.items.invariant ends
+    rw c.shrink.ensures
+    (items_read c.args.room c.items.found c.args.reader.now c.items.reader c.take_end_array.new.self
+    c.items.invariant ends)
 
 pub read_members-members-init : goal.read_members-members-init
 read_members-members-init t c = rw c.in-Ok.ensures (no_members_yet c.args.room c.args.reader.now)
@@ -91,8 +92,9 @@ pub read_members-returns-in_default-key-clause-reads :
     goal.read_members-returns-in_default-key-clause-reads
 read_members-returns-in_default-key-clause-reads t c =
     let ends : read_key c.members.reader ≡ Some (None, c.next_key.new.self) = grind arith in
-    members_read c.args.room c.members.found c.args.reader.now c.members.reader c.next_key.new.self
-    c.members.invariant ends
+    rw c.shrink.ensures
+    (members_read c.args.room c.members.found c.args.reader.now c.members.reader c.next_key.new.self
+    c.members.invariant ends)
 
 pub read_members-members-preserved : goal.read_members-members-preserved
 read_members-members-preserved t c =
