@@ -1,4 +1,3 @@
 pub mod SomeMerge
 pub mod SomeRun
-pub mod Executable
 pub mod Paired
