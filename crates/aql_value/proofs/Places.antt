@@ -1,8 +1,8 @@
 -- Where a search by halves finds a name among ascending attributes.
-use Rattle.std.proofs.Common.{◌≡◌, ◌<◌, ◌≤◌, ℕ, zero, suc, List, [], ◌∷◌, length, take, drop, get_or, refl, arith, subst, Result, Ok, Err}
+use Rattle.std.proofs.Common.{◌≡◌, ◌<◌, ◌≤◌, ◌-◌, ℕ, zero, suc, List, [], ◌∷◌, length, take, drop, get_or, refl, sym, ap, ◌∙◌, true, true≢false, arith, subst, Result, Ok, Err}
 use Rattle.std.specs.declared.cmp.Ordering.{Ordering}
 use Rattle.std.specs.declared.cmp.Ordering.TheVariants.{Less, Equal, Greater}
-use Rattle.std.specs.Ordering.{nat_cmp, ordering_index}
+use Rattle.std.specs.Ordering.{nat_cmp, is_lt, ordering_index}
 use Rattle.std.specs.Cmp.Lexicographic.{slice_cmp}
 use Rattle.std.specs.List.Sorted.{IsBinarySearchResult, IsSearchInRange, IsNonDecreasingBy}
 use Rattle.std.proofs.lemmas.Cmp.{nat_list_cmp_total}
@@ -10,7 +10,7 @@ use Rattle.aql_value.specs.laws.Ranks.{same_bytes, above_bytes}
 use Rattle.aql_value.specs.Order.{BytesBelow}
 use Rattle.aql_value.specs.inner.NameSearch.{EachBelow, StartsAbove, IsSearchResult}
 use Rattle.aql_value.specs.Fields.{fields_in}
-use Rattle.aql_value.specs.Datum.{object_of}
+use Rattle.aql_value.specs.Datum.{Datum, object_of}
 use Rattle.aql_value.specs.WellFormed.{FieldsWellFormed, IsBelowNames}
 use Rattle.aql_value.specs.declared.values.Member.{Member}
 use Rattle.aql_value.specs.laws.Kept.{above, starts_at, length-fields_in}
@@ -90,3 +90,38 @@ place k es (Err i) w h p =
       each_below k es i h (λ n d lt. parts.0 n d (omega arith) lt),
       starts k es i h (λ d lt. above_bytes (get_or es i d).name k (parts.1 i d (omega arith) lt)),
     )
+
+-- all names are less than k, since the last one is
+all_below : (k : List ℕ) (m : Member) (es : List Member) (d : Member) → Ascend (m ∷ es)
+    → BytesBelow (get_or (m ∷ es) (length es) d).name k
+    → EachBelow k (take (length (fields_in (m ∷ es))) (fields_in (m ∷ es)))
+all_below k m [] d w h = (h, tt)
+all_below k m (e ∷ es) d w h = (
+  nat_list_cmp_total.trans m.name (get_or (e ∷ es) (length es) d).name k
+      (below_name m.name (e ∷ es) (length es) d w.0 (omega arith)) h,
+  all_below k e es d w.2 h,
+)
+
+nothing_above : (k : List ℕ) (fs : List (List ℕ × Datum)) → StartsAbove k (drop (length fs) fs)
+nothing_above k [] = tt
+nothing_above k (f ∷ fs) = nothing_above k fs
+
+pub behind : (k : List ℕ) (es : List Member) (d : Member) → Ascend es → 0 < length es
+    → BytesBelow (get_or es (length es - 1) d).name k
+    → IsSearchResult (Err (length es)) k (fields_in es)
+behind k [] d w lt h = absurd (omega arith)
+behind k (m ∷ es) d w lt h =
+    let fs = fields_in (m ∷ es) in
+    let last : length (m ∷ es) - 1 ≡ length es = omega arith in
+    subst (λ n. (n ≤ length fs) × EachBelow k (take n fs) × StartsAbove k (drop n fs))
+    (length-fields_in (m ∷ es)) (
+      omega arith,
+      all_below k m es d w (subst (λ n. BytesBelow (get_or (m ∷ es) n d).name k) last h),
+      nothing_above k fs,
+    )
+
+pub less_bytes : (a k : List ℕ) (o : Ordering) → slice_cmp nat_cmp a k ≡ o
+    → is_lt (slice_cmp nat_cmp a k) ≡ true → BytesBelow a k
+less_bytes a k Less e h = e
+less_bytes a k Equal e h = absurd (true≢false (sym h ∙ ap is_lt e))
+less_bytes a k Greater e h = absurd (true≢false (sym h ∙ ap is_lt e))

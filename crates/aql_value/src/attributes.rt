@@ -1,4 +1,4 @@
-ghost use Rattle.std.specs.Prelude.{◌≡◌, [], IfOk, OnOk, OnErr};
+ghost use Rattle.std.specs.Prelude.{◌≡◌, [], option_map, IfOk, OnOk, OnErr};
 ghost use Rattle.std.specs.Ordering.{nat_cmp};
 ghost use Rattle.std.specs.Cmp.Lexicographic.{slice_cmp};
 ghost use Rattle.aql_value.specs.Datum.{object_of};
@@ -16,8 +16,11 @@ use std::alloc::Global;
 use std::cmp::Ordering;
 use std::rc::Rc;
 
+// So many attributes are looked through one after another.
+const FEW: usize = 8;
+
 impl Members {
-    ghost use Rattle.std.specs.Prelude.{length, option_map, slice_get};
+    ghost use Rattle.std.specs.Prelude.{length, slice_get};
 
     /// No attributes.
     pub fn new(_alloc: Global) -> Members
@@ -67,6 +70,9 @@ impl Members {
         ensures { option_map (λ v. datum_of v.now) result ≡ attribute name.now self.now }
     {
         let entries = entries_in(&self.entries);
+        if entries.len() <= FEW {
+            return value_among(entries, name);
+        }
         match find_name(entries, name) {
             Ok(at) => Some(&entries[at].value),
             Err(_) => None,
@@ -131,6 +137,30 @@ fn find_name(entries: &[Member], name: &str) -> Result<usize, usize>
     )
 }
 
+// The same, for names that often come in their order: the last one is looked at first.
+fn place_of(entries: &[Member], name: &str) -> Result<usize, usize>
+    requires { FieldsWellFormed (object_of (fields_in entries.now)) }
+    ensures { IsSearchResult result name.now (fields_in entries.now) }
+{
+    match entries.last() {
+        Some(last) if last.name.as_str().cmp(name).is_lt() => Err(entries.len()),
+        _ => find_name(entries, name),
+    }
+}
+
+// The value of a name, by looking at each.
+fn value_among<'a>(entries: &'a [Member], name: &str) -> Option<&'a Value>
+    ensures { option_map (λ v. datum_of v.now) result
+        ≡ attribute name.now (fields_in entries.now) }
+{
+    for entry in entries {
+        if entry.name.as_str() == name {
+            return Some(&entry.value);
+        }
+    }
+    None
+}
+
 fn set_in(entries: &mut Vec<Member>, name: Text, value: Value) -> Result<(), OutOfMemory>
     requires { FieldsWellFormed (object_of (fields_in entries.old.items)) }
     ensures ok { OnOk result
@@ -138,7 +168,7 @@ fn set_in(entries: &mut Vec<Member>, name: Text, value: Value) -> Result<(), Out
         ≡ with_attribute name (datum_of value) (fields_in entries.old.items)) }
     ensures err { OnErr result (entries.new.items ≡ entries.old.items) }
 {
-    match find_name(entries, name.as_str()) {
+    match place_of(entries, name.as_str()) {
         Ok(at) => {
             entries[at].value = value;
             Ok(())

@@ -36,7 +36,7 @@ itself k = tied_itself nat_list_cmp_total k
 pub above : (k l : List ℕ) → BytesBelow l k → slice_cmp nat_cmp k l ≡ Greater
 above k l b = nat_list_cmp_total.antisymm k l ∙ ap ordering_reverse b
 
-equal : (k l : List ℕ) → l ≡ k → slice_cmp nat_cmp k l ≡ Equal
+pub equal : (k l : List ℕ) → l ≡ k → slice_cmp nat_cmp k l ≡ Equal
 equal k l e = rw e (itself k)
 
 -- ---- look-ups
