@@ -50,7 +50,8 @@ index_made names ds few = is_index names ds (index_entries names ds) few
 stands : (vs : List Value) (place : ℕ) (v : Value) → place < length vs → v ≡ get_or vs place v
     → document_at (datums_in vs) place ≡ datum_of v
 stands vs place v l e = ap (λ o. unwrap_or o null)
-    (slice_get-map datum_of vs place ∙ ap (option_map datum_of) (slice_get_read vs (length vs) place v refl l e))
+    (slice_get-map datum_of vs place
+    ∙ ap (option_map datum_of) (slice_get_read vs (length vs) place v refl l e))
 
 pub one_placed : (names : List (List ℕ)) (vs : List Value) (places : List ℕ) (at : ℕ) (v : Value)
     (keys : List Datum) (front new all : List Entry) → at < length places

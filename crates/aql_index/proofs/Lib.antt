@@ -5,3 +5,4 @@ pub mod Built
 pub mod Within
 pub mod Grouped
 pub mod Spread
+pub mod Dealt

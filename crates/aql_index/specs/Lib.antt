@@ -1,6 +1,7 @@
 pub mod Bounds
 pub mod Entries
 pub mod IndexOrder
+pub mod Dealing
 pub mod Spans
 pub mod Groups
 pub mod Found

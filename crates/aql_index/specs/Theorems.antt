@@ -1,5 +1,5 @@
 -- What an index says of the documents that it was built of (Indexing), each the contract of a function.
-use Rattle.std.specs.Prelude.{◌≡◌, ℕ, List, Option, Bool, false, take, filter, flat_map}
+use Rattle.std.specs.Prelude.{◌≡◌, ℕ, List, Option, Bool, false, take, filter, flat_map, length}
 use Rattle.aql_value.specs.Datum.{Datum}
 use Rattle.aql_tree.specs.Tree.{ExprTree, ExprTrees}
 use Rattle.aql_meaning.specs.Documents.{Last, in_bounds, InIndexOrder}
@@ -8,8 +8,9 @@ use Rattle.aql_plan.specs.Facts.{widest}
 use Rattle.aql_plan.specs.Plan.{Reading}
 use Rattle.aql_plan.specs.Runs.{Dataset, Site, Indexed}
 use Rattle.aql_index.specs.declared.bounds.Span.{Span}
-use Rattle.aql_index.specs.Entries.{entries_within}
-use Rattle.aql_index.specs.IndexOrder.{index_entries, in_index_order}
+use Rattle.aql_index.specs.Dealing.{places_from, dealt}
+use Rattle.aql_index.specs.Entries.{standing_at, entries_within}
+use Rattle.aql_index.specs.IndexOrder.{index_entries, in_index_order, index_of}
 use Rattle.aql_index.specs.Spans.{spanned}
 use Rattle.aql_index.specs.Groups.{widest_of}
 use Rattle.aql_index.specs.Found.{found_rows}
@@ -48,3 +49,10 @@ FoundIsIndexed = (w : Dataset) (site : Site) (x : Reading) (index : ℕ) (equal 
     (last : Last ExprTree) (ordered : Option Bool) (rows : List Row)
     → Indexed w site x index equal last ordered rows
     (found_rows w site x index equal last ordered rows)
+
+-- what is dealt to a shard of an index of documents is the index of the documents on that shard
+abbrev pub DealtIsOfDocuments : Type 0
+DealtIsOfDocuments = (names : List (List ℕ)) (documents : List Datum) (shards : List ℕ) (shard : ℕ)
+    → length shards ≡ length documents
+    → dealt (index_of names documents) shards shard
+    ≡ index_of names (standing_at documents (places_from 0 shard shards))

@@ -7,4 +7,6 @@ pub mod Passing
 pub mod Found
 pub mod Widths
 pub mod Counted
+pub mod Numbers
+pub mod Dealing
 pub mod Lookups

@@ -2,11 +2,10 @@
 
 ghost use Rattle.std.specs.Prelude.{◌≡◌, ◌<◌, ◌≤◌, ◌^◌, length, option_map, IfOk, OnOk, IsSortedBy, false, slice_index_or};
 ghost use Rattle.std.specs.Ordering.{is_le};
-ghost use Rattle.std.specs.List.{All};
 ghost use Rattle.aql_value.specs.View.{datums_in};
 ghost use Rattle.aql_value.specs.Compare.{compare};
 ghost use Rattle.aql_value.specs.Contents.{list};
-ghost use Rattle.aql_index.specs.Entries.{entries_of, is_before, standing_at, IsIndex};
+ghost use Rattle.aql_index.specs.Entries.{entries_of, is_before, IsIndex};
 ghost use Rattle.aql_index.specs.IndexOrder.{index_entries, sort};
 ghost use Rattle.aql_index.specs.inner.Places.{Selects};
 ghost use Rattle.aql_index.specs.declared.entries.Entry.{Entry};
@@ -59,29 +58,6 @@ fn unsorted(alloc: Global, documents: &[Value], names: &[Text]) -> Result<Vec<En
     Ok(entries)
 }
 
-// The entries of the documents that stand at these places, in the order of the places.
-fn unsorted_at(
-    alloc: Global,
-    documents: &[Value],
-    places: &[u32],
-    names: &[Text],
-) -> Result<Vec<Entry>, OutOfMemory>
-    requires places { All (λ place. place < length documents.now) places.now }
-    requires few { length places.now < 2 ^ 32 }
-    ensures { IfOk result (λ entries. entries.items
-        ≡ entries_of names.now (standing_at (datums_in documents.now) places.now)) }
-{
-    let mut entries = Vec::with_capacity(alloc, places.len())?;
-    for (at, place) in places.iter().enumerate() {
-        let keys = keys_of(alloc, &documents[*place as usize], names)?;
-        entries.push(Entry {
-            keys,
-            place: at as u32,
-        })?;
-    }
-    Ok(entries)
-}
-
 // Sorts entries by their values; those with the same ones keep their order.
 fn sort_entries(entries: &mut Vec<Entry>) -> Result<(), OutOfMemory>
     ensures { OnOk result (entries.new.items ≡ sort is_before entries.old.items) }
@@ -102,24 +78,6 @@ pub(crate) fn sorted_entries(
     ensures index { IfOk result (λ entries. IsIndex (length names.now) entries.items) }
 {
     let mut entries = unsorted(alloc, documents, names)?;
-    sort_entries(&mut entries)?;
-    Ok(entries)
-}
-
-/// The same of the documents that stand at these places, which count as a list of their own.
-pub(crate) fn sorted_entries_at(
-    alloc: Global,
-    documents: &[Value],
-    places: &[u32],
-    names: &[Text],
-) -> Result<Vec<Entry>, OutOfMemory>
-    requires places { All (λ place. place < length documents.now) places.now }
-    requires few { length places.now < 2 ^ 32 }
-    ensures entries { IfOk result (λ entries. entries.items
-        ≡ index_entries names.now (standing_at (datums_in documents.now) places.now)) }
-    ensures index { IfOk result (λ entries. IsIndex (length names.now) entries.items) }
-{
-    let mut entries = unsorted_at(alloc, documents, places, names)?;
     sort_entries(&mut entries)?;
     Ok(entries)
 }

@@ -4,7 +4,7 @@ ghost use Rattle.std.specs.Prelude.{◌≡◌, IfOk};
 ghost use Rattle.aql_value.specs.View.{datum_of, datums_in};
 ghost use Rattle.aql_meaning.specs.Documents.{index_keys};
 
-use aql_value::{Items, OutOfMemory, Text, Value, copy_attribute};
+use aql_value::{Items, OutOfMemory, Text, Value, copy, copy_attribute};
 use std::alloc::Global;
 use std::marker::Model;
 use std::slice;
@@ -61,7 +61,29 @@ pub(crate) fn keys_of(alloc: Global, document: &Value, names: &[Text]) -> Result
     Ok(Keys { values })
 }
 
+// Copies of values, in a list.
+fn copy_values(alloc: Global, values: &[Value]) -> Result<Items, OutOfMemory>
+    ensures { IfOk result (λ copies. copies ≡ datums_in values.now) }
+{
+    let mut copies = Items::new(alloc);
+    for value in values {
+        copies.push(copy(alloc, value)?)?;
+    }
+    Ok(copies)
+}
+
 impl Keys {
+    /// A copy.
+    pub(crate) fn copy(&self, alloc: Global) -> Result<Keys, OutOfMemory>
+        ensures { IfOk result (λ keys. keys ≡ self.now) }
+    {
+        let values = match &self.values {
+            Values::One(value) => Values::One(copy(alloc, value)?),
+            Values::Several(values) => Values::Several(copy_values(alloc, values.as_slice())?),
+        };
+        Ok(Keys { values })
+    }
+
     /// The values, borrowed.
     pub(crate) fn as_slice(&self) -> &[Value]
         ensures { datums_in result.now ≡ self.now }

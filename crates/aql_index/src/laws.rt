@@ -3,7 +3,7 @@
 
 ghost use Rattle.aql_index.specs.Theorems.{DocumentsAreInOrder, SpanIsOfDocuments};
 ghost use Rattle.aql_index.specs.Theorems.{SpansAreOfDocuments, WidestIsOfDocuments};
-ghost use Rattle.aql_index.specs.Theorems.{FoundIsIndexed};
+ghost use Rattle.aql_index.specs.Theorems.{DealtIsOfDocuments, FoundIsIndexed};
 
 /// The documents of an index's entries are those that it was built of, each once, and ascend by
 /// the index's attributes.
@@ -30,4 +30,9 @@ pub fn widest_is_of_documents()
 /// against it, is what this node may give.
 pub fn found_is_indexed()
     ensures { FoundIsIndexed }
+{}
+
+/// What is dealt to a shard of an index of documents is the index of the documents on that shard.
+pub fn dealt_is_of_documents()
+    ensures { DealtIsOfDocuments }
 {}

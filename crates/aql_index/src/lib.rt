@@ -2,6 +2,7 @@
 #![tactic(auto)]
 
 mod bounds;
+mod dealing;
 mod entries;
 mod groups;
 mod guesses;

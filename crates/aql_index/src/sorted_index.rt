@@ -1,19 +1,22 @@
 //! Sorted indexes.
 
-ghost use Rattle.std.specs.Prelude.{◌≡◌, ◌<◌, ◌^◌, ◌++◌, ◌∷◌, [], length, option_map, slice_get, flat_map, IfOk};
+ghost use Rattle.std.specs.Prelude.{◌≡◌, ◌<◌, ◌^◌, ◌++◌, ◌∷◌, [], length, map, option_map, slice_get, flat_map, IfOk, OnOk};
 ghost use Rattle.std.specs.List.{All};
 ghost use Rattle.aql_value.specs.Datum.{Datum};
 ghost use Rattle.aql_value.specs.Contents.{elements};
 ghost use Rattle.aql_value.specs.View.{datum_of, datums_in};
 ghost use Rattle.aql_meaning.specs.Documents.{no_last, one_of};
 ghost use Rattle.aql_index.specs.Bounds.{range_of, BoundsFit};
-ghost use Rattle.aql_index.specs.Entries.{entries_within, standing_at};
+ghost use Rattle.aql_plan.specs.Facts.{numbers_below};
+ghost use Rattle.aql_index.specs.Dealing.{dealt, IsOver};
+ghost use Rattle.aql_index.specs.Entries.{entries_within, IsIndex};
 ghost use Rattle.aql_index.specs.IndexOrder.{index_of};
 ghost use Rattle.aql_index.specs.Spans.{spanned, IsSpan, AreApart};
 ghost use Rattle.aql_index.specs.Groups.{widest_of};
 
 use crate::bounds::{Bound, Span, tail_of};
-use crate::entries::{Entry, sorted_entries, sorted_entries_at, span_of};
+use crate::dealing::deal;
+use crate::entries::{Entry, sorted_entries, span_of};
 use crate::groups::widest_of;
 use crate::spans::{Spans, find_spans};
 use aql_value::{Items, Names, OutOfMemory, Value};
@@ -68,25 +71,44 @@ impl SortedIndex {
         })
     }
 
-    /// The index of the documents that stand at these places of a list. They count as a list of
-    /// their own, in the order of the places; all else is as for `build`.
-    pub fn build_at(
+    /// The indexes of the shards of the documents, so many: `shards` has the shard of the document
+    /// at each place. The documents of a shard count as a list of their own, in the same order. No
+    /// document is read. Only want of memory is refused.
+    pub fn deal_out(
+        &self,
         alloc: Global,
-        docs: &Items,
-        places: &[u32],
-        attributes: &Names,
-    ) -> Result<SortedIndex, OutOfMemory>
-        requires places { All (λ place. place < length docs.now) places.now }
-        requires few { length places.now < 2 ^ 32 }
-        ensures { IfOk result (λ index. index
-            ≡ index_of attributes.now (standing_at docs.now places.now)) }
+        shards: &[u32],
+        count: u32,
+    ) -> Result<Vec<SortedIndex>, OutOfMemory>
+        requires few { length shards.now < 2 ^ 32 }
+        requires within { All (λ shard. shard < count) shards.now }
+        requires there { IsOver (length shards.now) self.now }
+        ensures { IfOk result
+            (λ all. all.items ≡ map (dealt self.now shards.now) (numbers_below count)) }
     {
-        let names = attributes.as_slice();
-        let entries = sorted_entries_at(alloc, docs.as_slice(), places, names)?;
-        Ok(SortedIndex {
-            width: attributes.len(),
-            entries,
-        })
+        deal(alloc, self.width, self.entries.as_slice(), shards, count)
+    }
+
+    // An index of no documents over so many attributes, with room for some entries.
+    pub(crate) fn with_room(
+        alloc: Global,
+        width: usize,
+        room: usize,
+    ) -> Result<SortedIndex, OutOfMemory>
+        ensures { IfOk result (λ index. index ≡ record { width = width; entries = [] }) }
+    {
+        let entries = Vec::with_capacity(alloc, room)?;
+        Ok(SortedIndex { width, entries })
+    }
+
+    // Appends an entry that stands behind all that are there.
+    pub(crate) fn append(&mut self, entry: Entry) -> Result<(), OutOfMemory>
+        requires { IsIndex self.old.width (self.old.entries ++ entry ∷ []) }
+        ensures { OnOk result (self.new
+            ≡ record self.old { entries = self.old.entries ++ entry ∷ [] }) }
+    {
+        self.entries.push(entry)?;
+        Ok(())
     }
 
     /// The places, in the index, of exactly the documents whose first attributes have the values

@@ -15,7 +15,7 @@ use Rattle.aql_shard.specs.Datasets.{documents_read}
 use Rattle.aql_shard.specs.Known.{shapes, shard_count, coll_fact, facts_of}
 use Rattle.aql_shard.specs.Parts.{indexes_by, whole_of, shard_part, shard_parts, parts_of, part_in, part_at}
 use Rattle.aql_shard.specs.laws.ByNumber.{shapes_at}
-use Rattle.aql_shard.specs.laws.Numbers.{number_at}
+use Rattle.aql_index.specs.laws.Numbers.{number_at}
 use Rattle.aql_shard.specs.laws.Split.{on_shard_below_one}
 use Rattle.aql_shard.proofs.Places.{Reads, reads_whole, reads_shard}
 
@@ -43,7 +43,8 @@ module _ (ss : List Shape) (keys : List (List ℕ)) (documents : List Datum) (sh
   found_shard : (b : Bool) → (shards == 1) ≡ b
       → IsShardIn (cond b [] (map (shard_part ss keys documents shards) (numbers_below shards)))
   found_shard true e = subst (λ ds. IsPart ss documents ds (whole_of ss documents))
-      (sym (on_shard_below_one shards shard keys documents (eqb-true shards 1 e) below)) (whole_is ss documents)
+      (sym (on_shard_below_one shards shard keys documents (eqb-true shards 1 e) below))
+      (whole_is ss documents)
   found_shard false e = shard_is
 
 -- several shards have parts of their own

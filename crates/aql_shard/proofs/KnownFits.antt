@@ -14,7 +14,7 @@ use Rattle.aql_plan.specs.WellFormed.{CollectionFits}
 use Rattle.aql_shard.specs.declared.shapes.Shape.{Shape}
 use Rattle.aql_shard.specs.Known.{shapes, index_fact, shard_count, coll_fact}
 use Rattle.aql_shard.specs.Theorem.{SameNameAndKind, FactsFit}
-use Rattle.aql_shard.specs.laws.Numbers.{length-numbers_below}
+use Rattle.aql_index.specs.laws.Numbers.{length-numbers_below}
 
 -- one more than there are attributes
 width_for_each : (names : List (List ℕ)) (documents : List Datum)

@@ -9,9 +9,10 @@ use Rattle.aql_value.specs.Datum.{Datum, null}
 use Rattle.aql_value.specs.Shards.{documents_on}
 use Rattle.aql_value.specs.laws.Alls.{all_append}
 use Rattle.aql_plan.specs.Facts.{numbers_below}
+use Rattle.aql_index.specs.Dealing.{places_from}
 use Rattle.aql_index.specs.Entries.{document_at, standing_at}
 use Rattle.aql_index.specs.laws.Documents.{stands_at}
-use Rattle.aql_shard.specs.Sharding.{shard_by, places_from}
+use Rattle.aql_shard.specs.Sharding.{shard_by}
 
 -- what stands at these places are those documents
 pub record Reads (documents those : List Datum) (places : List ℕ) : Type 0 where
@@ -57,17 +58,6 @@ below_from shard most place (s ∷ shards) e =
     by true h rest = (h, rest)
     by false h rest = rest
 
-pub no_more : (shard place : ℕ) (shards : List ℕ)
-    → length (places_from place shard shards) ≤ length shards
-no_more shard place [] = omega arith
-no_more shard place (s ∷ shards) = by (s == shard) (no_more shard (place + 1) shards)
-  where
-    by : (b : Bool) → length (places_from (place + 1) shard shards) ≤ length shards
-        → length (cond b (place ∷ places_from (place + 1) shard shards) (places_from (place + 1) shard shards))
-        ≤ suc (length shards)
-    by true h = omega (arith, h)
-    by false h = omega (arith, h)
-
 module _ (shards : ℕ) (keys : List (List ℕ)) (shard : ℕ) (documents : List Datum) where
   abbrev placed : ℕ → List Datum → List ℕ
   placed place ds = places_from place shard (map (shard_by shards keys) ds)
@@ -92,7 +82,8 @@ module _ (shards : ℕ) (keys : List (List ℕ)) (shard : ℕ) (documents : List
 
   pub reads_shard : Reads documents (kept documents) (placed 0 documents)
   reads_shard = record {
-    within = All-from_recursion _ _ (below_from shard (length documents) 0 (map (shard_by shards keys) documents)
+    within = All-from_recursion _ _
+        (below_from shard (length documents) 0 (map (shard_by shards keys) documents)
         (omega (arith, length-map documents (shard_by shards keys))));
     exactly = shard_from [] documents 0 refl refl;
   }

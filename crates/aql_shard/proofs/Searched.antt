@@ -159,7 +159,8 @@ module _ (me : Holding) (parts : List Parts) (theirs : parts ≡ map (parts_of m
             → BoundsFit v.width equal last
         takes_span equal last h =
             of_kept me.servers me.held coll index those (slice_get part.indexes index) kept_is
-            (λ k n. SpanFits k n equal last) (λ n. BoundsFit n equal last) (span_fits equal last) v at_number h
+            (λ k n. SpanFits k n equal last) (λ n. BoundsFit n equal last) (span_fits equal last)
+            v at_number h
 
         pub takes_spans : (equal : ℕ)
             → Known (λ (i : IndexFact). SpansFit i.kind (length i.attributes) equal) → equal < v.width

@@ -5,13 +5,14 @@ use Rattle.aql_value.specs.Datum.{Datum}
 use Rattle.aql_value.specs.Shards.{documents_on}
 use Rattle.aql_doc.specs.Held.{Held}
 use Rattle.aql_plan.specs.Facts.{numbers_below}
+use Rattle.aql_index.specs.Dealing.{places_from}
 use Rattle.aql_index.specs.Entries.{IndexView}
 use Rattle.aql_index.specs.IndexOrder.{index_of}
 use Rattle.aql_shard.specs.declared.shapes.Shape.{Shape}
 use Rattle.aql_shard.specs.declared.parts.Part.{Part}
 use Rattle.aql_shard.specs.declared.parts.Parts.{Parts}
 use Rattle.aql_shard.specs.Known.{shapes, shard_count}
-use Rattle.aql_shard.specs.Sharding.{shard_by, places_from}
+use Rattle.aql_shard.specs.Sharding.{shard_by}
 
 -- an index of each shape over these documents
 abbrev pub indexes_by : List Shape → List Datum → List IndexView

@@ -1,6 +1,6 @@
 -- Where the documents of a collection are (Cluster: sharding): each on the shard of its shard-key values, and
 -- each shard on a server.
-use Rattle.std.specs.Prelude.{ℕ, ◌+◌, ◌%◌, ◌==◌, List, [], ◌∷◌, map, cond}
+use Rattle.std.specs.Prelude.{ℕ, ◌+◌, ◌%◌, List, map}
 use Rattle.aql_value.specs.Datum.{Datum}
 use Rattle.aql_value.specs.Contents.{at_name}
 use Rattle.aql_value.specs.Shards.{shard_of}
@@ -12,9 +12,3 @@ server_of collection shard servers = (collection + shard) % servers
 -- the shard of a document, of so many, by the names of the shard keys
 abbrev pub shard_by : ℕ → List (List ℕ) → Datum → ℕ
 shard_by shards keys document = shard_of shards (map (at_name document) keys)
-
--- the places of the documents of a shard, by the shards of all of them, the first of which has this place
-abbrev pub places_from : ℕ → ℕ → List ℕ → List ℕ
-places_from place shard [] = []
-places_from place shard (s ∷ shards) =
-    cond (s == shard) (place ∷ places_from (place + 1) shard shards) (places_from (place + 1) shard shards)

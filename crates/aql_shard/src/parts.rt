@@ -1,12 +1,14 @@
 //! The parts of a collection that servers keep: all its documents, and those of each shard.
 
-ghost use Rattle.std.specs.Prelude.{◌≡◌, ◌<◌, ◌≤◌, ◌^◌, length, map, option_map, slice_get, IfOk, IsSome, Some};
+ghost use Rattle.std.specs.Prelude.{◌≡◌, ◌<◌, ◌≤◌, ◌^◌, List, [], length, map, option_map, slice_get, IfOk, OnOk, IsSome, Some};
 ghost use Rattle.std.specs.List.{All};
 ghost use Rattle.aql_value.specs.View.{datums_in};
 ghost use Rattle.aql_plan.specs.Facts.{numbers_below};
-ghost use Rattle.aql_index.specs.Entries.{standing_at};
-ghost use Rattle.aql_shard.specs.Parts.{part_of, whole_of, shard_parts, parts_of, part_at};
-ghost use Rattle.aql_shard.specs.Sharding.{shard_by, places_from};
+ghost use Rattle.aql_index.specs.Dealing.{places_from, IsOver};
+ghost use Rattle.aql_shard.specs.Parts.{indexes_by, whole_of, shard_parts, parts_of, part_at};
+ghost use Rattle.aql_shard.specs.Sharding.{shard_by};
+ghost use Rattle.aql_shard.specs.declared.shapes.Shape.{Shape};
+ghost use Rattle.aql_shard.specs.inner.Dealt.{part_dealt, handed};
 
 use crate::collections::{collection_at, shard_count};
 use crate::shapes::{Shape, shapes_of};
@@ -37,27 +39,6 @@ pub(crate) struct Parts {
 
 /// The parts of each collection of a catalog.
 pub(crate) type AllParts = Seq<Parts>;
-
-// The part of the documents at these places, with indexes of these shapes.
-fn build(
-    alloc: Global,
-    shapes: &[Shape],
-    documents: &Items,
-    places: Numbers,
-) -> Result<Part, OutOfMemory>
-    requires within { All (λ place. place < length documents.now) places }
-    requires few { length places < 2 ^ 32 }
-    ensures { IfOk result (λ part. part
-        ≡ part_of shapes.now places (standing_at documents.now places)) }
-{
-    let mut indexes = SortedIndexes::new(alloc);
-    for shape in shapes {
-        let at = places.as_slice();
-        let index = SortedIndex::build_at(alloc, documents, at, &shape.attributes)?;
-        indexes.push(index)?;
-    }
-    Ok(Part { places, indexes })
-}
 
 // The places of so many documents.
 fn all_places(alloc: Global, count: usize) -> Result<Numbers, OutOfMemory>
@@ -103,37 +84,71 @@ fn places_on(alloc: Global, shards: &[u32], shard: u32) -> Result<Numbers, OutOf
     Ok(places)
 }
 
-// The part of all documents of a collection.
+// The part of all documents of a collection, with indexes of these shapes.
 fn build_whole(alloc: Global, shapes: &[Shape], documents: &Items) -> Result<Part, OutOfMemory>
     requires { length documents.now < 2 ^ 32 }
     ensures { IfOk result (λ part. part ≡ whole_of shapes.now documents.now) }
 {
     let places = all_places(alloc, documents.len())?;
-    let part = build(alloc, shapes, documents, places)?;
-    Ok(part)
+    let mut indexes = SortedIndexes::new(alloc);
+    for shape in shapes {
+        indexes.push(SortedIndex::build(alloc, documents, &shape.attributes)?)?;
+    }
+    Ok(Part { places, indexes })
 }
 
-// The parts of its shards, so many; one that is alone is the whole.
+// The parts of the shards, so many, without indexes, by the shards of all documents.
+fn empty_parts(alloc: Global, of: &[u32], shards: u32) -> Result<Seq<Part>, OutOfMemory>
+    requires { length of.now < 2 ^ 32 }
+    ensures { IfOk result
+        (λ parts. parts ≡ map (part_dealt [] of.now) (numbers_below shards)) }
+{
+    let mut parts = Seq::new(alloc);
+    for shard in 0..shards {
+        parts.push(Part {
+            places: places_on(alloc, of, shard)?,
+            indexes: SortedIndexes::new(alloc),
+        })?;
+    }
+    Ok(parts)
+}
+
+// Gives each part the index at its place in the list.
+fn hand_out(parts: &mut Seq<Part>, mut indexes: Vec<SortedIndex>) -> Result<(), OutOfMemory>
+    requires { length indexes.items ≡ length parts.old }
+    ensures { OnOk result (parts.new ≡ handed parts.old indexes.items) }
+{
+    let list = parts.as_mut_slice();
+    while let Some(index) = indexes.pop() {
+        list[indexes.len()].indexes.push(index)?;
+    }
+    Ok(())
+}
+
+// The parts of the shards of a collection, so many; one that is alone is the whole. The indexes are
+// those of the whole, dealt out.
 fn build_shards(
     alloc: Global,
-    shapes: &[Shape],
+    indexes: &[SortedIndex],
     documents: &Items,
     keys: &Names,
     shards: u32,
 ) -> Result<Seq<Part>, OutOfMemory>
     requires shards { 1 ≤ shards }
     requires few { length documents.now < 2 ^ 32 }
-    ensures { IfOk result
-        (λ parts. parts ≡ shard_parts shapes.now keys.now documents.now shards) }
+    requires there { All (IsOver (length documents.now)) indexes.now }
+    ensures { IfOk result (λ parts. (shapes : List Shape)
+        → indexes.now ≡ indexes_by shapes documents.now
+        → parts ≡ shard_parts shapes keys.now documents.now shards) }
 {
-    let mut parts = Seq::new(alloc);
     if shards == 1 {
-        return Ok(parts);
+        return Ok(Seq::new(alloc));
     }
-    let all = shards_by(alloc, documents.as_slice(), keys, shards)?;
-    for shard in 0..shards {
-        let places = places_on(alloc, all.as_slice(), shard)?;
-        parts.push(build(alloc, shapes, documents, places)?)?;
+    let of = shards_by(alloc, documents.as_slice(), keys, shards)?;
+    let mut parts = empty_parts(alloc, of.as_slice(), shards)?;
+    for index in indexes {
+        let dealt = index.deal_out(alloc, of.as_slice(), shards)?;
+        hand_out(&mut parts, dealt)?;
     }
     Ok(parts)
 }
@@ -154,7 +169,8 @@ fn build_at(
     let shapes = shapes_of(alloc, info)?;
     let whole = build_whole(alloc, shapes.as_slice(), documents)?;
     let count = shard_count(servers, info);
-    let shards = build_shards(alloc, shapes.as_slice(), documents, &info.keys, count)?;
+    let indexes = whole.indexes.as_slice();
+    let shards = build_shards(alloc, indexes, documents, &info.keys, count)?;
     Ok(Parts { whole, shards })
 }
 

@@ -64,8 +64,8 @@ impl Model for Servers {
     ghost invariant = { λ s. s.parts ≡ map (parts_of s.servers) s.catalog };
 }
 
-/// The documents of a catalog on at most 16 servers, with their indexes. With 0, every collection is
-/// one shard, and all are in one place; else each has the shards of its declaration, and each
+/// The documents of a catalog on at most 16 servers, with their indexes. With 0, every collection
+/// is one shard, and all are in one place; else each has the shards of its declaration, and each
 /// document is on the one shard of its shard keys. Only want of memory is refused.
 pub fn split(alloc: Global, catalog: Catalog, servers: u32) -> Result<Servers, OutOfMemory>
     requires { servers ≤ 16 }

@@ -1,5 +1,5 @@
 -- A list of expressions has as many as their trees.
-use Rattle.std.proofs.Common.{◌≡◌, ◌∙◌, suc, ◌+◌, List, [], ◌∷◌, length, refl, ap, arith}
+use Rattle.std.proofs.Common.{◌≡◌, List, [], ◌∷◌, length, refl, arith}
 use Rattle.aql_tree.specs.declared.syntax.Expr.{Expr}
 use Rattle.aql_plan.specs.Fits.{exprs_in}
 use Rattle.aql_plan.specs.View.{expr_trees}

@@ -1,7 +1,7 @@
 -- A lookup by one value finds documents in the order of the collection: in the order of an index over one
 -- attribute, documents that are equal in it keep their places.
 use Rattle.std.proofs.Common.{◌≡◌, ◌∙◌, ℕ, List, [], ◌∷◌, Bool, true, not, ◌&&◌, refl, sym, ap, subst}
-use Rattle.std.specs.Prelude.{filter, IsPermutation}
+use Rattle.std.specs.Prelude.{filter}
 use Rattle.std.specs.declared.cmp.Ordering.{Ordering}
 use Rattle.std.specs.declared.cmp.Ordering.TheVariants.{Less, Equal, Greater}
 use Rattle.std.specs.Ordering.{is_eq, is_lt, ordering_reverse, ordering_then}

@@ -29,7 +29,7 @@ use Rattle.aql_rules_cluster.specs.laws.NoneOfNone.{gives_nothing, one_above_foo
 use Rattle.aql_rules_cluster.specs.laws.OneShard.{not_equal, OnOneShard, one_shard_at_gather}
 use Rattle.aql_rules_cluster.specs.laws.RowsSent.{gives_of_sent}
 use Rattle.aql_rules_cluster.specs.laws.SentRows.{gives_of_all}
-use Rattle.aql_rules_cluster.specs.laws.ShardParts.{shard_below}
+use Rattle.aql_shard.specs.laws.Split.{shard_below}
 
 -- ---- constants
 

@@ -30,7 +30,7 @@ use Rattle.aql_rules_cluster.specs.laws.DistributePlaces.{fragment_of, same_flip
 use Rattle.aql_rules_cluster.specs.laws.Falling.{falls}
 use Rattle.aql_rules_cluster.specs.laws.KeptAbove.{MayStand, kept_at_gather, none_at_gather, readers_above}
 use Rattle.aql_rules_cluster.specs.laws.Passes.{KeepsRunning}
-use Rattle.aql_rules_cluster.specs.laws.ShardParts.{shard_below}
+use Rattle.aql_shard.specs.laws.Split.{shard_below}
 use Rattle.aql_rules_cluster.specs.laws.Walking.{NoPlaces, no_place_seen}
 
 -- ---- feet

@@ -3,20 +3,19 @@ use Rattle.std.proofs.Common.{◌≡◌, ◌∙◌, ℕ, zero, suc, ◌≤◌, �
 use Rattle.std.specs.Prelude.{filter, flat_map, IsPermutation, ◌==◌, unwrap_or, option_map, slice_get}
 use Rattle.std.specs.List.{AllByRecursion}
 use Rattle.std.proofs.lemmas.Bool.{eqb-true, eq-eqb, cases_lt}
-use Rattle.std.proofs.lemmas.Nat.{mod_below}
 use Rattle.std.proofs.lemmas.List.{append_assoc}
 use Rattle.std.proofs.lemmas.List.Concat.{flat_map-append}
 use Rattle.std.proofs.lemmas.List.Sorted.{IsPermutation-refl, IsPermutation-cons, IsPermutation-trans, IsPermutation-sym, IsPermutation-append, IsPermutation-append_left, IsPermutation-append_right, IsPermutation-append_comm, IsPermutation-middle}
 use Rattle.aql_value.specs.Datum.{Datum}
-use Rattle.aql_value.specs.Json.{json_text}
-use Rattle.aql_value.specs.Contents.{list, at_name}
-use Rattle.aql_value.specs.Shards.{fnv, shard_of, documents_on}
+use Rattle.aql_value.specs.Contents.{at_name}
+use Rattle.aql_value.specs.Shards.{shard_of, documents_on}
 use Rattle.aql_meaning.specs.Row.{Row}
 use Rattle.aql_meaning.specs.laws.Shuffles.{shuffle, flat_permuted}
 use Rattle.aql_plan.specs.declared.facts.Facts.{Facts}
 use Rattle.aql_plan.specs.declared.facts.CollFact.{CollFact}
 use Rattle.aql_plan.specs.Facts.{numbers_below, shards_in}
 use Rattle.aql_plan.specs.WellFormed.{CollectionFits}
+use Rattle.aql_shard.specs.laws.Split.{shard_below}
 
 -- ---- things by number
 
@@ -73,10 +72,6 @@ module _ {X : Type 0} (f : X → ℕ) where
       (there_once (λ s. filter (λ y. f y == s) xs) x (f x) n h.0)
 
 -- ---- documents by shard
-
-pub shard_below : (shards : ℕ) (values : List Datum) → 1 ≤ shards → shard_of shards values < shards
-unfolding shard_of
-shard_below shards values h = mod_below (fnv (json_text (list values))) shards (omega (arith, h))
 
 pub shards_are_parts : (shards : ℕ) (keys : List (List ℕ)) (documents : List Datum) → 1 ≤ shards
     → IsPermutation documents

@@ -80,9 +80,9 @@ single_at (h ∷ held) (suc coll) index = single_at held coll index
 
 -- ---- as it is kept
 
--- an index with a number that is kept of some documents is that of its attributes and of these documents; each
--- that is known is kept; and what is said of the kind and the number of attributes of the one that is known,
--- holds of the one that is kept by its width
+-- an index with a number that is kept of some documents is that of its attributes and of these documents;
+-- each that is known is kept; and what is said of the kind and the number of attributes of the one that is
+-- known, holds of the one that is kept by its width
 module _ (servers : ℕ) (held : List Held) (coll index : ℕ) (documents : List Datum) (kept : Option IndexView)
     (is : kept ≡ option_map (λ (s : Shape). index_of s.attributes documents) (shape_at held coll index)) where
   pub is_kept : (v : IndexView) → kept ≡ Some v

@@ -1,8 +1,9 @@
 -- What is known of a catalog is true of its documents, and one shard alone has all of them.
 use Rattle.std.proofs.Common.{◌≡◌, ℕ, zero, suc, List, [], ◌∷◌, map, length, cond, Some, None, refl, ap, ap₂, ◌∙◌, arith}
-use Rattle.std.specs.Prelude.{◌==◌, ◌<◌}
+use Rattle.std.specs.Prelude.{◌==◌, ◌<◌, ◌≤◌}
 use Rattle.std.proofs.Math.Nat.{mod-one}
 use Rattle.std.proofs.lemmas.List.{length-map}
+use Rattle.std.proofs.lemmas.Nat.{mod_below}
 use Rattle.aql_value.specs.Datum.{Datum}
 use Rattle.aql_value.specs.Contents.{list, at_name}
 use Rattle.aql_value.specs.Json.{json_text}
@@ -52,6 +53,10 @@ on_shard_below_one shards shard keys documents one below =
     ap₂ (λ n k. documents_on n keys k documents) one none ∙ all_on_one keys documents
 
 -- ---- which shards there are
+
+pub shard_below : (shards : ℕ) (values : List Datum) → 1 ≤ shards → shard_of shards values < shards
+unfolding shard_of
+shard_below shards values h = mod_below (fnv (json_text (list values))) shards (omega (arith, h))
 
 pub is_collection : (servers : ℕ) (held : List Held) (coll : ℕ) → coll < length held
     → IsShard (facts_of servers held) coll None

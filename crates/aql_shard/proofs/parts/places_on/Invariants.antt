@@ -1,5 +1,5 @@
 use Rattle.std.proofs.Common.{◌≡◌, ◌++◌, drop}
-use Rattle.aql_shard.specs.Sharding.{places_from}
+use Rattle.aql_index.specs.Dealing.{places_from}
 use Rattle.aql_shard.proofs.parts.places_on.Given as goal
 
 abbrev pub invariant-loop-place : goal.invariant-loop-place
