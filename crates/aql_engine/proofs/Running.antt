@@ -73,6 +73,8 @@ rises_within p v t t' w w' d rows r q h k over = record {
   own_full = h.own_full;
   own_index = h.own_index;
   sent = h.sent;
+  opened = h.opened;
+  closed = h.closed;
 }
 
 -- one more was picked

@@ -7,12 +7,12 @@ use Rattle.aql_plan.specs.Runs.{Dataset, result_of}
 use Rattle.aql_plan.specs.Refines.{Answers}
 use Rattle.aql_plan.specs.WellFormed.{IsWellFormed}
 use Rattle.aql_block.specs.declared.tally.Tally.{Tally}
-use Rattle.aql_exec.specs.Rests.{Counter, scanned_full, scanned_index, filtered, sent_on, Counts, Exact, Rest}
+use Rattle.aql_exec.specs.Rests.{Counter, scanned_full, scanned_index, filtered, sent_on, opened_on, closed_on, Counts, Exact, Rest}
 use Rattle.aql_exec.specs.Rising.{Rose, TallyRose}
 use Rattle.aql_exec.specs.Reads.{reads_little}
 use Rattle.aql_exec.specs.Operators.{Produces, exact_tree}
 use Rattle.aql_net.specs.declared.logs.LogEntry.{LogEntry}
-use Rattle.aql_net.specs.Logs.{IsLog, rows_on}
+use Rattle.aql_net.specs.Logs.{IsLog, rows_on, opened_in, closed_in}
 use Rattle.aql_engine.specs.OperatorsOf.{operators_of}
 use Rattle.aql_engine.specs.declared.engine.Ran.{Ran}
 
@@ -23,14 +23,17 @@ CanRun w plan = IsWellFormed w.facts [] (plan_tree plan)
 abbrev pub no_tally : Tally
 no_tally = record { scanned_full = 0; scanned_index = 0; filtered = 0 }
 
--- a tally, and a log by the rows that were skipped and sent on each link, count at most so much, and all of
--- what is exact; each number of the tally stays at the largest of 64 bits
+-- a tally, and a log by the rows that were skipped and sent on each link, and by the links that were opened and
+-- that are closed, count at most so much, and all of what is exact; each number of the tally stays at the largest
+-- of 64 bits, and at least so many links are closed
 pub record Tallied (e : Exact) (t : Tally) (log : List LogEntry) (d : Counts) : Type 0 where
   pub added : Counts
   pub most : (c : Counter) → added c ≤ d c
   pub exact : (c : Counter) → e c ≡ true → d c ≤ added c
   pub tally : TallyRose no_tally t (added scanned_full) (added scanned_index) (added filtered)
   pub sent : (l : ℕ) → rows_on l log ≡ added (sent_on l)
+  pub opened : (l : ℕ) → opened_in l log ≡ added (opened_on l)
+  pub closed : (l : ℕ) → added (closed_on l) ≤ closed_in l log
 
 -- the counts of the servers rose by the documents that a tally counts
 pub record OwnCounted (own own' t : Tally) : Type 0 where

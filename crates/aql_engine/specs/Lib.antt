@@ -1,6 +1,7 @@
 pub mod Engine
 pub mod OperatorsOf
 pub mod EachFits
+pub mod NoLimit
 pub mod Theorems
 pub mod laws
 pub mod Tree

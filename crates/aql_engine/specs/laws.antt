@@ -6,4 +6,5 @@ pub mod Trees
 pub mod Exactness
 pub mod TreesKept
 pub mod Unlinked
+pub mod OneRemote
 pub mod Choices

@@ -14,7 +14,7 @@ use Rattle.aql_plan.specs.Plan as plan
 use Rattle.aql_plan.specs.Runs.{Dataset}
 use Rattle.aql_block.specs.Tables.{marked}
 use Rattle.aql_block.specs.declared.tally.Tally.{Tally}
-use Rattle.aql_exec.specs.Rests.{Counter, scanned_full, scanned_index, filtered, sent_on, Rest, Prefixed, all_exact}
+use Rattle.aql_exec.specs.Rests.{Counter, scanned_full, scanned_index, filtered, sent_on, opened_on, closed_on, Rest, Prefixed, all_exact}
 use Rattle.aql_exec.specs.Rising.{TallyRose}
 use Rattle.aql_exec.specs.Counting.{counts, NoneSent, GivesCounting}
 use Rattle.aql_exec.specs.laws.Counted.{rose_none, rose_same, rose_saturated}
@@ -38,7 +38,7 @@ filters e w start rows r h =
     let n = both e rows in
     let m = ap length h.0 in
     let k = h.1 filtered in (
-      λ l. h.1 (sent_on l),
+      λ l. (h.1 (sent_on l), h.1 (opened_on l), h.1 (closed_on l)),
       (h.0 ∙ passing_is e rows, h.1 scanned_full, h.1 scanned_index, omega (arith, n, m, k)),
     )
 
@@ -134,6 +134,8 @@ front_given e judged most held rows front rest r f g h =
     each scanned_index = (let k = h.1 scanned_index in omega (arith, k))
     each filtered = (let k = h.1 filtered in omega (arith, k))
     each (sent_on l) = (let k = h.1 (sent_on l) in omega (arith, k))
+    each (opened_on l) = (let k = h.1 (opened_on l) in omega (arith, k))
+    each (closed_on l) = (let k = h.1 (closed_on l) in omega (arith, k))
 
 -- no more rows pass than are held
 pub kept_fewer : (e : ExprTree) (judged : Bool) (held : List Row)

@@ -10,7 +10,7 @@ use Rattle.aql_meaning.specs.AtRows.{values_of, passes, stops}
 use Rattle.aql_meaning.specs.Paths.{EdgeStep, steps_from, leaves, enters, Path, end_of, path_row, TraversesPaths, with_paths}
 use Rattle.aql_plan.specs.Plan.{Node, EnumerateCollection, Index, Traversal, Filter}
 use Rattle.aql_plan.specs.Runs.{Dataset, Outside, Gives, read, read_in_bounds, edges_in}
-use Rattle.aql_exec.specs.Rests.{Counter, scanned_full, scanned_index, filtered, sent_on, Counts}
+use Rattle.aql_exec.specs.Rests.{Counter, scanned_full, scanned_index, filtered, sent_on, opened_on, closed_on, Counts}
 
 -- three numbers
 abbrev pub counts : ℕ → ℕ → ℕ → Counts
@@ -18,13 +18,15 @@ counts full index dropped scanned_full = full
 counts full index dropped scanned_index = index
 counts full index dropped filtered = dropped
 counts full index dropped (sent_on l) = 0
+counts full index dropped (opened_on l) = 0
+counts full index dropped (closed_on l) = 0
 
 abbrev pub nothing : Counts
 nothing c = 0
 
--- nothing is sent on a link
+-- nothing is sent on a link, and none is opened or closed
 abbrev pub NoneSent : Counts → Type 0
-NoneSent d = (l : ℕ) → d (sent_on l) ≡ 0
+NoneSent d = (l : ℕ) → (d (sent_on l) ≡ 0) × (d (opened_on l) ≡ 0) × (d (closed_on l) ≡ 0)
 
 -- how many there are in all lists
 abbrev pub size_of_all : {X : Type 0} → (Row → List X) → List Row → ℕ

@@ -3,7 +3,7 @@ use Rattle.std.specs.Prelude.{ℕ, ◌≡◌, ◌+◌, ◌<◌, ◌≤◌, ◌++
 use Rattle.aql_block.specs.declared.calls.Call.{Call}
 use Rattle.aql_block.specs.declared.calls.Step.{Step}
 use Rattle.aql_block.specs.declared.calls.Progress.{Progress}
-use Rattle.aql_block.specs.declared.calls.Progress.TheVariants.{Waiting, HasMore}
+use Rattle.aql_block.specs.declared.calls.Progress.TheVariants.{Waiting, HasMore, Done}
 use Rattle.aql_block.specs.Tables.{rows_of}
 use Rattle.aql_exec.specs.declared.turns.Message.{Message}
 use Rattle.aql_exec.specs.declared.turns.Message.TheVariants.{Ask, Reply}
@@ -13,6 +13,21 @@ pub data Talk : Type 0 where
   fresh : Talk
   asked : Call → Talk
   answered : Progress → Talk
+
+-- whether a link was opened, by what was said last on it: something was said
+abbrev pub opened_by : Talk → ℕ
+opened_by fresh = 0
+opened_by (asked c) = 1
+opened_by (answered p) = 1
+
+-- whether it is closed, by what is in flight on it too: the last reply says Done, and was taken
+abbrev pub closed_by : {M : Type 0} → Talk → List M → ℕ
+closed_by fresh flying = 0
+closed_by (asked c) flying = 0
+closed_by (answered Waiting) flying = 0
+closed_by (answered HasMore) flying = 0
+closed_by (answered Done) [] = 1
+closed_by (answered Done) (m ∷ flying) = 0
 
 -- a link: what was said last on it, what is in flight, oldest first, and how many rows were skipped and sent
 pub record Line : Type 0 where

@@ -15,7 +15,7 @@ use Rattle.aql_plan.specs.Plan.{Node}
 use Rattle.aql_plan.specs.Plan as plan
 use Rattle.aql_plan.specs.Fits.{Fits}
 use Rattle.aql_plan.specs.Runs.{Dataset, result_of}
-use Rattle.aql_exec.specs.Rests.{Counter, scanned_index, sent_on, Counts, Exact, Rest}
+use Rattle.aql_exec.specs.Rests.{Counter, scanned_index, sent_on, opened_on, closed_on, Counts, Exact, Rest}
 use Rattle.aql_exec.specs.Counting.{GivesCounting, NoneSent}
 
 mutual
@@ -77,10 +77,16 @@ AtPort n w shards p ins r =
     (p < length shards → r.rows ≡ rows_for n w (slice_index_or shards p 0) ins.rows)
     × (p ≡ length shards → r.rows ≡ []) × ((c : Counter) → r.counts c ≡ ins.counts c)
 
--- so many rows on this link
+-- on this link: so many ask over it, so many take their last reply, and so many rows
+abbrev pub on_this : ℕ → ℕ → ℕ → ℕ → Counts
+on_this link opened closed rows (sent_on l) = cond (l == link) rows 0
+on_this link opened closed rows (opened_on l) = cond (l == link) opened 0
+on_this link opened closed rows (closed_on l) = cond (l == link) closed 0
+on_this link opened closed rows c = 0
+
+-- so many rows on this link, by one Remote, which opens it and closes it
 abbrev pub carried : ℕ → ℕ → Counts
-carried link rows (sent_on l) = cond (l == link) rows 0
-carried link rows c = 0
+carried link rows = on_this link 1 1 rows
 
 -- the asking end of a link gives the rows, the serving end none; each row is sent once, on one link
 abbrev pub AtEnd : ℕ → Rest → Rest → Type 0

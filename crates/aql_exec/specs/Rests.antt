@@ -4,10 +4,11 @@ use Rattle.std.specs.Prelude.{ℕ, ◌≡◌, ◌+◌, ◌-◌, ◌^◌, min, �
 use Rattle.aql_meaning.specs.Row.{Row}
 
 -- what is counted: the documents that were read one after the other, those that an index found, the rows that
--- a filter dropped, and the rows that were skipped and sent on a link
+-- a filter dropped; and of a link the rows that were skipped and sent on it, the Remotes that asked over it, and
+-- those of them that took their last reply, one that says Done
 pub data Counter : Type 0 where
   scanned_full scanned_index filtered : Counter
-  sent_on : ℕ → Counter
+  sent_on opened_on closed_on : ℕ → Counter
 
 abbrev pub Counts : Type 0
 Counts = Counter → ℕ

@@ -142,7 +142,7 @@ pub trait Wired<W: Surroundings>: Executor<W> {
         ensures undisturbed { OnOk result (Self.ours self.old link → (w : W) → Self.valid self.old w
             → Taken W.Surroundings w world.old link message → (d : Counts)
             × Rises W.Surroundings (IsExact (exact_at (Self.node self.old)))
-            tally.old world.old tally.new world.new d
+            tally.old w tally.new world.new d
             × ((e : Exact) → Within e (exact_at (Self.node self.old))
             → (p : ℕ) (body : OperatorTree) (ins : ℕ → Rest) (r : Rest)
             → Self.gives self.new world.new p body ins r → (b : Rest) × Prefixed e [] d r b
@@ -188,7 +188,7 @@ pub trait Delivers<W: Surroundings>: Feed<W> {
         ensures undisturbed { OnOk result ((w : W) → Self.valid self.old w
             → Taken W.Surroundings w world.old link message → (d : Counts)
             × Rises W.Surroundings (IsExact (exact_tree (Self.plan self.old)))
-            tally.old world.old tally.new world.new d
+            tally.old w tally.new world.new d
             × ((r : Rest) → Self.rests self.new world.new r → (b : Rest)
             × Prefixed (exact_tree (Self.plan self.old)) [] d r b × Self.rests self.old w b)) }
         ensures budget { OnOk result ((w : W) → Self.valid self.old w

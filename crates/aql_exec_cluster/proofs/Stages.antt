@@ -14,11 +14,11 @@ use Rattle.aql_exec.specs.declared.surroundings.Surroundings
 use Rattle.aql_exec.specs.Links.{Taken}
 use Rattle.aql_exec.specs.Steps.{IsCall, given}
 use Rattle.aql_block.specs.Tables.{rows_of}
-use Rattle.aql_exec.specs.Lines.{Talk, fresh, asked, answered, Line, IsAsk, Next, with_message}
+use Rattle.aql_exec.specs.Lines.{Talk, fresh, asked, answered, Line, IsAsk, Next, with_message, opened_by}
 use Rattle.aql_exec_cluster.specs.declared.remote.Stage.{Stage}
 use Rattle.aql_exec_cluster.specs.declared.remote.Stage.TheVariants.{Idle, Sent, Serving, Replied}
 use Rattle.aql_exec_cluster.specs.declared.remote.Remote.{Remote}
-use Rattle.aql_exec_cluster.specs.Remotes.{on_link, replied, kept, serves_of, Serves, AtIdle, AtSent, AtServing, AtReplied, AtStage}
+use Rattle.aql_exec_cluster.specs.Remotes.{on_link, replied, kept, opens, serves_of, Serves, AtIdle, AtSent, AtServing, AtReplied, AtStage}
 
 pub serving : (stage : Stage) → serves_of stage ≡ true → (c : Call) × (stage ≡ Serving c)
 serving Idle h = absurd (false≢true h)
@@ -319,6 +319,23 @@ received_reply batch Replied done done' ended ready held answer line line' older
         ∙ ap (λ z. (given step ++ []) ++ z) none_answered ∙ append-nil (given step ++ [])
         ∙ append-nil (given step))
 
+-- it was said last, and it is the first that may say Done
+pub reply_said : (batch : ℕ) (stage : Stage) (done ended ready : Bool) (held answer : List Row)
+    (line : Line) (older newer : List Message) (step : Step)
+    → AtStage batch stage done ended ready held answer line → line.flying ≡ older ++ (Reply step ∷ newer)
+    → (done ≡ false) × (line.talk ≡ answered step.progress)
+reply_said batch Idle done ended ready held answer line older newer step h was =
+    absurd (none_taken (Reply step) older newer (sym h.none_flies ∙ was))
+reply_said batch Sent done ended ready held answer line older newer step h was =
+    let one = one_taken (Ask h.ask) (Reply step) older newer (sym h.flies ∙ was) in
+    let q = one.0 in absurd (cc q)
+reply_said batch (Serving c) done ended ready held answer line older newer step h was =
+    absurd (none_taken (Reply step) older newer (sym h.none_flies ∙ was))
+reply_said batch Replied done ended ready held answer line older newer step h was =
+    let one = one_taken (Reply h.reply) (Reply step) older newer (sym h.flies ∙ was) in
+    let same : h.reply ≡ step = (let q = one.0 in cc q) in
+    (h.not_done, h.said ∙ ap (λ (z : Step). answered z.progress) same)
+
 -- the same of a message that was taken off the link
 module _ {W : Type 0} (p : Surroundings.Ghosts W) (s : Remote) (w w' : W) (l : ℕ) (m : Message)
     (taken : Taken p w w' l m) (own : s.link ≡ Some l)
@@ -354,3 +371,27 @@ module _ {W : Type 0} (p : Surroundings.Ghosts W) (s : Remote) (w w' : W) (l : �
       (received_reply (p.batch w) s.stage s.done done s.ended s.ready (rows_of s.held) (rows_of s.answer)
       (on_link s.link (p.flight w)) (on_link s.link (p.flight w')) taken.older taken.newer step h
       (was (Reply step) e) is talk d d')
+
+  -- nothing else is in flight on its link then
+  pub took_last : (done : Bool) (step : Step) → m ≡ Reply step → (done ≡ true → step.progress ≡ Done)
+      → (step.progress ≡ Done → done ≡ true) → (s.done ≡ false)
+      × ((p.flight w' l).talk ≡ answered step.progress) × ((p.flight w' l).flying ≡ [])
+  took_last done step e d d' =
+      let said = reply_said (p.batch w) s.stage s.done s.ended s.ready (rows_of s.held) (rows_of s.answer)
+      (on_link s.link (p.flight w)) taken.older taken.newer step h (was (Reply step) e) in
+      let none = (received_reply (p.batch w) s.stage s.done done s.ended s.ready (rows_of s.held)
+      (rows_of s.answer) (on_link s.link (p.flight w)) (on_link s.link (p.flight w')) taken.older taken.newer
+      step h (was (Reply step) e) is talk d d').0.none_flies in (
+        said.0,
+        taken.talk_kept l ∙ ap (λ (z : Line). z.talk) (sym (here w)) ∙ said.1,
+        ap (λ (z : Line). z.flying) (sym (here w')) ∙ none,
+      )
+
+-- and it stays open
+pub still_open : {W : Type 0} (p : Surroundings.Ghosts W) (s : Remote) (w w' : W) (l : ℕ) (m : Message)
+    → Taken p w w' l m → s.link ≡ Some l → opened_by (on_link s.link (p.flight w)).talk + opens s.link ≡ 1
+    → opened_by (on_link s.link (p.flight w')).talk + opens s.link ≡ 1
+still_open p s w w' l m taken own h =
+    let before = ap (λ o. opened_by (on_link o (p.flight w)).talk) own in
+    let after = ap (λ o. opened_by (on_link o (p.flight w')).talk) own in
+    let kept = ap opened_by (taken.talk_kept l) in omega (arith, before, after, kept, h)

@@ -10,8 +10,8 @@ use Rattle.aql_exec.specs.declared.turns.Message.{Message}
 use Rattle.aql_exec.specs.declared.turns.Message.TheVariants.{Ask, Reply}
 use Rattle.aql_exec.specs.Rests.{Counter, Counts, Rest}
 use Rattle.aql_exec.specs.Steps.{IsCall, given}
-use Rattle.aql_exec.specs.Operators.{carried}
-use Rattle.aql_exec.specs.Lines.{asked, answered, Line, no_line, IsAsk, Next}
+use Rattle.aql_exec.specs.Operators.{on_this}
+use Rattle.aql_exec.specs.Lines.{asked, answered, Line, no_line, IsAsk, Next, opened_by}
 use Rattle.aql_exec_cluster.specs.declared.remote.Stage.{Stage}
 use Rattle.aql_exec_cluster.specs.declared.remote.Stage.TheVariants.{Idle, Sent, Serving, Replied}
 use Rattle.aql_exec_cluster.specs.declared.remote.Remote.{Remote}
@@ -62,16 +62,37 @@ abbrev pub at_end : ℕ → List Row → List Row
 at_end zero rows = rows
 at_end (suc p) rows = []
 
--- beside what its input counts, so many rows and those of its input are still to be sent on the link
-abbrev pub Sending : Option ℕ → ℕ → Rest → Counts → Type 0
-Sending link unsent i d = (l : ℕ) × ThisLink link l
-    × ((c : Counter) → d c ≡ i.counts c + carried l (unsent + length i.rows) c)
+-- until its first ask, a link is still to be opened
+abbrev pub opens : Option ℕ → ℕ
+opens None = 1
+opens (Some l) = 0
 
-abbrev pub gives_rows : Option ℕ → List Row → ℕ → ℕ → Rest → Rest → Type 0
-gives_rows link rows unsent p i r = (r.rows ≡ at_end p (rows ++ i.rows)) × Sending link unsent i r.counts
+-- until its last reply came, a link is still to be closed
+abbrev pub closes : Bool → ℕ
+closes true = 0
+closes false = 1
+
+-- what decides what is still due on the link: its number once it is made, whether the last reply came, and how many
+-- rows that were taken of the input are to be sent
+pub record Due : Type 0 where
+  pub link : Option ℕ
+  pub done : Bool
+  pub unsent : ℕ
+
+abbrev pub due : Remote → Due
+due s = record { link = s.link; done = s.done; unsent = length (rows_of s.answer) }
+
+-- beside what its input counts, these rows and those of its input are still to be sent on the link, and the link
+-- to be opened and closed unless it was
+abbrev pub Sending : Due → Rest → Counts → Type 0
+Sending o i d = (l : ℕ) × ThisLink o.link l
+    × ((c : Counter) → d c ≡ i.counts c + on_this l (opens o.link) (closes o.done) (o.unsent + length i.rows) c)
+
+abbrev pub gives_rows : Due → List Row → ℕ → Rest → Rest → Type 0
+gives_rows o rows p i r = (r.rows ≡ at_end p (rows ++ i.rows)) × Sending o i r.counts
 
 abbrev pub gives_remote : Remote → List Message → ℕ → Rest → Rest → Type 0
-gives_remote s messages p i r = gives_rows s.link (kept s messages) (length (rows_of s.answer)) p i r
+gives_remote s messages p i r = gives_rows (due s) (kept s messages) p i r
 
 abbrev pub budget_remote : Remote → List Message → ℕ
 budget_remote s messages = length (kept s messages) + cond s.ended 0 1
@@ -171,3 +192,6 @@ AtStage batch Replied done ended ready held answer line = AtReplied done ended h
 pub record RemoteIs (s : Remote) (line : Line) (links batch : ℕ) : Type 0 where
   pub stage : AtStage batch s.stage s.done s.ended s.ready (rows_of s.held) (rows_of s.answer) line
   pub link : (l : ℕ) → s.link ≡ Some l → l < links
+  -- something was said on it exactly where it is made, and it is where the last reply came
+  pub opened : opened_by line.talk + opens s.link ≡ 1
+  pub done_opened : s.done ≡ true → opens s.link ≡ 0

@@ -10,11 +10,10 @@ ghost use Rattle.aql_block.specs.declared.tally.Tally.{Tally};
 ghost use Rattle.aql_block.specs.Tables.{rows_of};
 ghost use Rattle.aql_exec.specs.Rising.{Rises};
 ghost use Rattle.aql_exec.specs.Steps.{IsCall, InCall, given, reported};
-ghost use Rattle.aql_exec.specs.Counting.{nothing};
 ghost use Rattle.aql_exec.specs.Lines.{Next, IsAsk, with_message};
 ghost use Rattle.aql_exec.specs.Promises.{Beside};
-ghost use Rattle.aql_exec.specs.Operators.{Remote, is_first, carried};
-ghost use Rattle.aql_exec_cluster.specs.Remotes.{on_link, unlinked, ThisLink, kept};
+ghost use Rattle.aql_exec.specs.Operators.{Remote, is_first, on_this};
+ghost use Rattle.aql_exec_cluster.specs.Remotes.{on_link, unlinked, ThisLink, kept, opens};
 ghost use Rattle.aql_exec_cluster.specs.Remotes.{serves_of, RemoteIs};
 
 use aql_block::{Block, Call, Progress, Row, Step, Tally};
@@ -220,8 +219,9 @@ impl Remote {
         ensures kept { OnOk result
             (kept self.new (on_link self.new.link (W.flight world.new)).flying
             ≡ kept self.old (on_link self.old.link (W.flight world.old)).flying) }
-        ensures rises { OnOk result ((t : Tally)
-            → Rises W.Surroundings (λ _. Unit {0}) t world.old t world.new nothing) }
+        ensures rises { OnOk result ((l : ℕ) → self.new.link ≡ Some l → (t : Tally)
+            → Rises W.Surroundings (λ _. Unit {0}) t world.old t world.new
+            (on_this l (opens self.old.link) 0 0)) }
     {
         let link = post(world, self.link, Message::Ask(all_rows(soft)))?;
         self.link = Some(link);
@@ -250,7 +250,7 @@ impl Remote {
             ≡ kept self.old (on_link self.old.link (W.flight world.old)).flying) }
         ensures rises { OnOk result ((l : ℕ) × (self.old.link ≡ Some l) × ((t : Tally)
             → Rises W.Surroundings (λ _. Unit {0}) t world.old t world.new
-            (carried l (length (rows_of self.old.answer))))) }
+            (on_this l 0 0 (length (rows_of self.old.answer))))) }
     {
         let Some(link) = self.link else {
             unreachable!()

@@ -1,13 +1,13 @@
 -- A plan that can be run has a tree: each of its nodes fits and stands where it should, and what its COLLECTs
 -- set are numbers. And what the tally of a run counts.
 use Rattle.std.specs.List.{AllByRecursion}
-use Rattle.std.proofs.Common.{subst, ℕ, ◌≡◌, List, Some, arith}
+use Rattle.std.proofs.Common.{subst, ap, ℕ, ◌≡◌, List, Some, arith}
 use Rattle.aql_value.specs.laws.Alls.{all_parts}
 use Rattle.aql_block.specs.declared.tally.Tally.{Tally}
 use Rattle.aql_plan.specs.declared.facts.Facts.{Facts}
 use Rattle.aql_tree.specs.Tree.{no_into}
 use Rattle.aql_plan.specs.Needs.{sets}
-use Rattle.aql_plan.specs.Plan.{Plan, Singleton, Over, Node, Index, Calculation, Subquery, Collect}
+use Rattle.aql_plan.specs.Plan.{Plan, Over, Node, Index, Calculation, Subquery, Collect}
 use Rattle.aql_meaning.specs.Numbered.{IsNumber}
 use Rattle.aql_meaning.specs.declared.grouping.Stage.TheVariants as stage
 use Rattle.aql_plan.specs.Variables.{vars_set, set_once}
@@ -16,7 +16,8 @@ use Rattle.aql_exec.specs.Rests.{Counter, scanned_full, scanned_index, filtered,
 use Rattle.aql_exec.specs.Rising.{Rose, TallyRose, IsExact, Rises}
 use Rattle.aql_exec.specs.declared.surroundings.Surroundings
 use Rattle.aql_net.specs.declared.logs.LogEntry.{LogEntry}
-use Rattle.aql_net.specs.Logs.{rows_on}
+use Rattle.aql_exec.specs.Lines.{Line, no_line, opened_by, closed_by}
+use Rattle.aql_net.specs.Logs.{rows_on, opened_in, closed_in}
 use Rattle.aql_engine.specs.Engine.{no_tally, Tallied, OwnCounted}
 use Rattle.aql_engine.specs.EachFits.{EachFits, BodyFits}
 use Rattle.aql_local.specs.Building.{SetsNumbers, NodeSetsNumbers}
@@ -146,16 +147,22 @@ module _ (facts : Facts) where
 
 -- what a tally that began at nothing counts
 pub counted_from_none : {W : Type 0} (p : Surroundings.Ghosts W) (e : Exact) (t t' : Tally) (w w' : W) (d : Counts)
-    (log : List LogEntry) → ((l : ℕ) → (p.flight w l).sent ≡ 0)
+    (log : List LogEntry) → ((l : ℕ) → p.flight w l ≡ no_line)
     → ((l : ℕ) → rows_on l log ≡ (p.flight w' l).sent)
+    → ((l : ℕ) → opened_in l log ≡ opened_by (p.flight w' l).talk)
+    → ((l : ℕ) → closed_in l log ≡ closed_by (p.flight w' l).talk (p.flight w' l).flying)
     → t ≡ no_tally → Rises p (IsExact e) t w t' w' d → Tallied e t' log d
-counted_from_none p e t t' w w' d log none sent k h = record {
+counted_from_none p e t t' w w' d log none sent opened closed k h = record {
   added = h.added;
   most = h.most;
   exact = h.exact;
   tally = subst (λ (z : Tally). TallyRose z t' (h.added scanned_full) (h.added scanned_index) (h.added filtered))
       k (h.full, h.index, h.dropped);
-  sent = λ l. (let a = none l in let b = sent l in let s = h.sent l in omega (arith, a, b, s));
+  sent = λ l. (let a = ap (λ (z : Line). z.sent) (none l) in let b = sent l in let s = h.sent l in
+      omega (arith, a, b, s));
+  opened = λ l. (let a = ap (λ (z : Line). opened_by z.talk) (none l) in let b = opened l in let s = h.opened l in
+      omega (arith, a, b, s));
+  closed = λ l. (let b = closed l in let s = h.closed l in omega (arith, b, s));
 }
 
 -- and the servers count the same

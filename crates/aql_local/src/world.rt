@@ -1,8 +1,8 @@
 //! The world that a plan runs in: the servers with their documents, and the messages between them.
 
-ghost use Rattle.std.specs.Prelude.{◌≡◌};
-ghost use Rattle.aql_net.specs.Logs.{IsLog};
-ghost use Rattle.aql_net.specs.Traffic.{no_traffic};
+ghost use Rattle.std.specs.Prelude.{◌≡◌, map};
+ghost use Rattle.aql_net.specs.Logs.{in_flight, IsLog};
+ghost use Rattle.aql_net.specs.Traffic.{no_traffic, dispatch_of};
 ghost use Rattle.aql_shard.specs.Datasets as datasets;
 
 use crate::lookups::recall_counts;
@@ -43,6 +43,7 @@ impl World {
         ensures servers { self.new.servers ≡ self.old.servers }
         ensures log { result ≡ self.old.net.log }
         ensures lawful { IsLog self.old.net.batch result }
+        ensures told { in_flight result ≡ map dispatch_of self.old.net.flying }
         ensures net { self.new.net ≡ no_traffic 1 }
     {
         let none = Net::new(alloc, 1);

@@ -8,7 +8,7 @@ use Rattle.aql_block.specs.declared.calls.Progress.TheVariants.{Waiting, HasMore
 use Rattle.aql_block.specs.Tables.{rows_of}
 use Rattle.aql_exec.specs.declared.turns.Message.{Message}
 use Rattle.aql_exec.specs.declared.turns.Message.TheVariants as message
-use Rattle.aql_exec.specs.Lines.{Talk, fresh, asked, answered, IsAsk, Pick}
+use Rattle.aql_exec.specs.Lines.{Talk, fresh, asked, answered, opened_by, closed_by, IsAsk, Pick}
 use Rattle.aql_net.specs.declared.logs.Sort.{Sort}
 use Rattle.aql_net.specs.declared.logs.Sort.TheVariants.{Ask, Reply}
 use Rattle.aql_net.specs.declared.logs.LogEntry.{LogEntry}
@@ -65,6 +65,14 @@ rows_of_sort (Reply skipped rows progress) = skipped + rows
 
 abbrev pub rows_on : ℕ → List LogEntry → ℕ
 rows_on l log = sum_by rows_of_sort (said_on l log)
+
+-- whether a link was opened, as a number: something was said on it
+abbrev pub opened_in : ℕ → List LogEntry → ℕ
+opened_in l log = opened_by (talk_on l log)
+
+-- whether it is closed: what was said last on it is a reply that says Done, and nothing is in flight on it
+abbrev pub closed_in : ℕ → List LogEntry → ℕ
+closed_in l log = closed_by (talk_on l log) (filter (λ m. m.link == l) (in_flight log))
 
 -- the place of a message among those in flight after a log, and how many these are
 abbrev pub pick_of : List LogEntry → ℕ → Pick

@@ -1,9 +1,12 @@
 -- How counts rise one after another, and what is exact.
-use Rattle.std.proofs.Common.{◌≡◌, ℕ, ◌+◌, ◌≤◌, ◌⊎◌, inl, inr, List, [], min, refl, ap, ◌∙◌, subst, arith}
+use Rattle.std.proofs.Common.{◌≡◌, ℕ, ◌+◌, ◌≤◌, ◌++◌, ◌⊎◌, inl, inr, List, [], ◌∷◌, min, refl, ap, ◌∙◌, arith}
 use Rattle.aql_meaning.specs.Row.{Row}
 use Rattle.aql_block.specs.declared.tally.Tally.{Tally}
 use Rattle.aql_block.specs.declared.calls.Step.{Step}
-use Rattle.aql_exec.specs.Rests.{Counter, scanned_full, scanned_index, Counts, Exact, Within, all_exact, Rest, Prefixed}
+use Rattle.aql_exec.specs.Lines.{Talk, fresh, asked, answered, Line, opened_by, closed_by}
+use Rattle.aql_block.specs.declared.calls.Progress.TheVariants.{Waiting, HasMore, Done}
+use Rattle.std.proofs.lemmas.Bool.{cases_eq}
+use Rattle.aql_exec.specs.Rests.{Counter, Counts, Exact, Within, all_exact, Rest, Prefixed}
 use Rattle.aql_exec.specs.Rising.{Rose, Rises, TallyRose}
 use Rattle.aql_exec.specs.Links.{Taken}
 use Rattle.aql_exec.specs.Promises.{IsStill}
@@ -46,7 +49,7 @@ rose_saturated a b m l e =
 module _ {W : Type 0} (p : Surroundings.Ghosts W) {x : Counter → Type 0} where
   -- nothing was counted
   pub rises_still : (t : Tally) (w w' : W) → p.counted w' ≡ p.counted w
-      → ((l : ℕ) → (p.flight w' l).sent ≡ (p.flight w l).sent) → Rises p x t w t w' nothing
+      → ((l : ℕ) → p.flight w' l ≡ p.flight w l) → Rises p x t w t w' nothing
   rises_still t w w' c f = record {
     added = nothing;
     most = λ k. omega arith;
@@ -56,7 +59,9 @@ module _ {W : Type 0} (p : Surroundings.Ghosts W) {x : Counter → Type 0} where
     dropped = rose_none _;
     own_full = rose_same _ _ (ap (λ (z : Tally). z.scanned_full) c);
     own_index = rose_same _ _ (ap (λ (z : Tally). z.scanned_index) c);
-    sent = λ l. (let e = f l in omega (arith, e));
+    sent = λ l. (let e = ap (λ (z : Line). z.sent) (f l) in omega (arith, e));
+    opened = λ l. (let e = ap (λ (z : Line). opened_by z.talk) (f l) in omega (arith, e));
+    closed = λ l. (let e = ap (λ (z : Line). closed_by z.talk z.flying) (f l) in omega (arith, e));
   }
 
   pub rises_none : (t : Tally) (w : W) → Rises p x t w t w nothing
@@ -75,6 +80,8 @@ module _ {W : Type 0} (p : Surroundings.Ghosts W) {x : Counter → Type 0} where
     own_full = rose_none _;
     own_index = rose_none _;
     sent = λ l. omega arith;
+    opened = λ l. omega arith;
+    closed = λ l. omega arith;
   }
 
 pub rises_weaker : {W : Type 0} (p : Surroundings.Ghosts W) {x y : Counter → Type 0} (t t' : Tally) (w w' : W)
@@ -89,6 +96,8 @@ rises_weaker p t t' w w' d k h = record {
   own_full = h.own_full;
   own_index = h.own_index;
   sent = h.sent;
+  opened = h.opened;
+  closed = h.closed;
 }
 
 pub rises_then : {W : Type 0} (p : Surroundings.Ghosts W) {x : Counter → Type 0} (t t' t'' : Tally)
@@ -104,6 +113,8 @@ rises_then p t t' t'' w w' w'' d d' a b = record {
   own_full = rose_then _ _ _ _ _ a.own_full b.own_full;
   own_index = rose_then _ _ _ _ _ a.own_index b.own_index;
   sent = λ l. (let i = a.sent l in let j = b.sent l in omega (arith, i, j));
+  opened = λ l. (let i = a.opened l in let j = b.opened l in omega (arith, i, j));
+  closed = λ l. (let i = a.closed l in let j = b.closed l in omega (arith, i, j));
 }
 
 -- ---- worlds in which nothing moved
@@ -127,21 +138,39 @@ module _ {W : Type 0} (p : Surroundings.Ghosts W) where
     flight = λ l. b.flight l ∙ a.flight l;
   }
 
--- what rose since a message was taken rose since before, too
-pub rises_taken : {W : Type 0} (p : Surroundings.Ghosts W) {x : Counter → Type 0} (t t' : Tally) (w w1 w' : W)
-    (d : Counts) (l : ℕ) (m : Message) → Taken p w w1 l m → Rises p x t w1 t' w' d → Rises p x t w t' w' d
-rises_taken p t t' w w1 w' d l m k h = record {
-  added = h.added;
-  most = h.most;
-  exact = h.exact;
-  full = h.full;
-  index = h.index;
-  dropped = h.dropped;
-  own_full = subst (λ (z : Tally). Rose z.scanned_full (p.counted w').scanned_full (h.added scanned_full))
-      k.counted_kept h.own_full;
-  own_index = subst (λ (z : Tally). Rose z.scanned_index (p.counted w').scanned_index (h.added scanned_index))
-      k.counted_kept h.own_index;
-  sent = λ j. (let e = h.sent j in let f = k.sent_kept j in omega (arith, e, f));
+-- ---- a message that is taken
+
+-- where something is in flight, a link is not closed
+pub unclosed : {M : Type 0} (talk : Talk) (older newer : List M) (m : M) → closed_by talk (older ++ m ∷ newer) ≡ 0
+unclosed fresh older newer m = refl
+unclosed (asked c) older newer m = refl
+unclosed (answered Waiting) older newer m = refl
+unclosed (answered HasMore) older newer m = refl
+unclosed (answered Done) [] newer m = refl
+unclosed (answered Done) (n ∷ older) newer m = refl
+
+-- a message was taken, whoever took it
+pub rises_taken : {W : Type 0} (p : Surroundings.Ghosts W) {x : Counter → Type 0} (t : Tally) (w w' : W)
+    (l : ℕ) (m : Message) → Taken p w w' l m → Rises p x t w t w' nothing
+rises_taken p t w w' l m k = record {
+  added = nothing;
+  most = λ k. omega arith;
+  exact = λ k i. omega arith;
+  full = rose_none _;
+  index = rose_none _;
+  dropped = rose_none _;
+  own_full = rose_same _ _ (ap (λ (z : Tally). z.scanned_full) k.counted_kept);
+  own_index = rose_same _ _ (ap (λ (z : Tally). z.scanned_index) k.counted_kept);
+  sent = λ j. (let e = k.sent_kept j in omega (arith, e));
+  opened = λ j. (let e = ap opened_by (k.talk_kept j) in omega (arith, e));
+  closed = λ j. elim (cases_eq j l) [
+    | inl e ↦ (
+        let before = ap (λ i. closed_by (p.flight w i).talk (p.flight w i).flying) e
+        ∙ ap (closed_by (p.flight w l).talk) k.was
+        ∙ unclosed (p.flight w l).talk k.older k.newer m in omega (arith, before))
+    | inr d ↦ (
+        let same = ap (λ (z : Line). closed_by z.talk z.flying) (k.others j d) in omega (arith, same))
+  ];
 }
 
 -- ---- rests

@@ -1,5 +1,5 @@
 -- What a RETURN DISTINCT holds and gives.
-use Rattle.std.proofs.Common.{◌≡◌, ℕ, ◌+◌, ◌≤◌, List, [], ◌∷◌, ◌++◌, length, map, take, drop, Bool, true, false, cond, not, filter, ◌||◌, refl, sym, ap, ◌∙◌, arith, append_assoc, true≢false}
+use Rattle.std.proofs.Common.{◌≡◌, ℕ, ◌≤◌, List, [], ◌∷◌, ◌++◌, length, map, take, drop, Bool, true, false, cond, not, filter, ◌||◌, refl, sym, ap, ◌∙◌, arith, append_assoc, true≢false}
 use Rattle.std.proofs.lemmas.List.{take-append-drop, map-append, length-map}
 use Rattle.aql_value.specs.Datum.{Datum}
 use Rattle.aql_value.specs.Contents.{same, is_in}
@@ -10,7 +10,7 @@ use Rattle.aql_meaning.specs.Row.{Row}
 use Rattle.aql_meaning.specs.AtRows.{value_of, values_of}
 use Rattle.aql_plan.specs.Plan as plan
 use Rattle.aql_plan.specs.Runs.{Dataset, result_row}
-use Rattle.aql_exec.specs.Rests.{sent_on, Rest, Prefixed, all_exact}
+use Rattle.aql_exec.specs.Rests.{sent_on, opened_on, closed_on, Rest, Prefixed, all_exact}
 use Rattle.aql_exec.specs.Counting.{GivesCounting, NoneSent, nothing}
 use Rattle.aql_exec.specs.FirstResults.{unseen, results_of, shown, seen_after, left_results}
 
@@ -120,8 +120,10 @@ results_append e seen held rows =
 pub returns_firsts : (e : ExprTree) (w : Dataset) (start : Row) (rows : List Row) (r : Rest)
     → left_results e true [] [] rows r
     → NoneSent r.counts × GivesCounting (plan.Return true e) w start rows r.rows r.counts
-returns_firsts e w start rows r h =
-    (λ l. h.1 (sent_on l), (h.0 ∙ ap (map result_row) (none_seen (values_of e rows)), h.1))
+returns_firsts e w start rows r h = (
+  λ l. (h.1 (sent_on l), h.1 (opened_on l), h.1 (closed_on l)),
+  (h.0 ∙ ap (map result_row) (none_seen (values_of e rows)), h.1),
+)
 
 -- a block that is put in stands before the rows to come
 pub put_results : (e : ExprTree) (made : Bool) (seen : List Datum) (held block rows : List Row) (r : Rest)

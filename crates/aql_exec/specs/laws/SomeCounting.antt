@@ -133,7 +133,7 @@ some_counting (EnumerateCollection x) w start rows =
             (scanned_length x.var (passes x.filter) x.attrs
             (λ row. read w x.coll x.shard Outside) rows o.0 o.1),
       ),
-      λ l. refl,
+      λ l. (refl, refl, refl),
     )
 some_counting (Index x index equal last ordered) w start rows =
     let o = some_given (Index x index equal last ordered) w Outside start rows in
@@ -147,7 +147,7 @@ some_counting (Index x index equal last ordered) w start rows =
         rest_of _ _
             (indexed_length w x index equal last ordered rows o.0 o.1),
       ),
-      λ l. refl,
+      λ l. (refl, refl, refl),
     )
 some_counting (Traversal shape e colls prune keep) w start rows =
     let o = some_traversal w.db shape (edges_in w.db colls) (stops prune) rows (values_of e rows) in
@@ -155,7 +155,7 @@ some_counting (Traversal shape e colls prune keep) w start rows =
       out,
       counts 0 (traversal_counts w shape (edges_in w.db colls) prune rows o.1.0) (length o.0 - length out),
       (o.1.0, o.0, o.1.1, o.1.2, refl, refl, refl, rest_of _ _ (filter_length (passes keep) o.0)),
-      λ l. refl,
+      λ l. (refl, refl, refl),
     )
 some_counting (Filter e) w start rows =
     let o = some_given (Filter e) w Outside start rows in (
@@ -168,7 +168,7 @@ some_counting (Filter e) w start rows =
         rest_of _ _
             (same_length o.0 _ _ o.1 (true_length rows (values_of e rows))),
       ),
-      λ l. refl,
+      λ l. (refl, refl, refl),
     )
 some_counting n w start rows =
-    let o = some_given n w Outside start rows in (o.0, nothing, (o.1, λ c. refl), λ l. refl)
+    let o = some_given n w Outside start rows in (o.0, nothing, (o.1, λ c. refl), λ l. (refl, refl, refl))

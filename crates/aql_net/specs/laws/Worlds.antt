@@ -1,15 +1,17 @@
 -- What a world promises of its links where it leaves them to a net.
-use Rattle.std.proofs.Common.{◌≡◌, ℕ, ◌+◌, ◌<◌, ◌≤◌, length, take, drop, suc, sym, ap, ◌∙◌, arith}
-use Rattle.std.specs.Prelude.{max, sum_by, Option, Some, None, MatchOption, Result, Ok, Err, IfOk, OnErr}
+use Rattle.std.proofs.Common.{◌≡◌, ℕ, ◌+◌, ◌<◌, ◌≤◌, List, [], ◌∷◌, length, map, take, drop, suc, true, false, cond, refl, sym, ap, ◌∙◌, arith}
+use Rattle.std.specs.Prelude.{max, sum_by, filter, ◌==◌, Option, Some, None, MatchOption, Result, Ok, Err, IfOk, OnErr}
 use Rattle.std.proofs.lemmas.List.{length-map}
+use Rattle.aql_block.specs.declared.calls.Progress.TheVariants.{Waiting, HasMore, Done}
 use Rattle.aql_exec.specs.declared.turns.Message.{Message}
 use Rattle.aql_exec.specs.declared.links.Delivered.{Delivered}
 use Rattle.aql_exec.specs.declared.surroundings.Surroundings
-use Rattle.aql_exec.specs.Lines.{Line, no_line, with_message}
+use Rattle.aql_exec.specs.Lines.{Talk, fresh, asked, answered, Line, no_line, with_message, opened_by, closed_by}
 use Rattle.aql_exec.specs.Links.{Taken, TakenAt, Delivers}
 use Rattle.aql_exec.specs.Promises.{Beside}
-use Rattle.aql_net.specs.Logs.{said_on, rows_of_sort}
-use Rattle.aql_net.specs.Traffic.{Traffic, messages_on, line_on, flying_of, queue_of, deliveries_of, after_sending, Takes}
+use Rattle.aql_net.specs.declared.net.Envelope.{Envelope}
+use Rattle.aql_net.specs.Logs.{Dispatch, in_flight, said_on, talk_on, rows_of_sort, opened_in, closed_in}
+use Rattle.aql_net.specs.Traffic.{Traffic, dispatch_of, messages_on, line_on, flying_of, queue_of, deliveries_of, after_sending, Takes}
 use Rattle.aql_net.specs.laws.Sending.{line-own, line-other, deliveries-kept, links-grow}
 use Rattle.aql_net.specs.laws.Delivering.{queue-taken, messages-were, messages-are, talk-kept, rows-kept, line-kept}
 
@@ -24,6 +26,42 @@ pub record LinksOf {W : Type 0} (p : Surroundings.Ghosts W) (w : W) (t : Traffic
 pub sent-is : {W : Type 0} (p : Surroundings.Ghosts W) (w : W) (t : Traffic) → LinksOf p w t
     → (l : ℕ) → (p.flight w l).sent ≡ sum_by rows_of_sort (said_on l t.log)
 sent-is p w t is l = ap (λ (z : Line). z.sent) (is.flight l)
+
+-- it is opened where something was said on it
+pub opened-is : {W : Type 0} (p : Surroundings.Ghosts W) (w : W) (t : Traffic) → LinksOf p w t
+    → (l : ℕ) → opened_by (p.flight w l).talk ≡ opened_in l t.log
+opened-is p w t is l = ap (λ (z : Line). opened_by z.talk) (is.flight l)
+
+closed-map : {A B : Type 0} (f : A → B) (talk : Talk) (flying : List A)
+    → closed_by talk (map f flying) ≡ closed_by talk flying
+closed-map f fresh flying = refl
+closed-map f (asked c) flying = refl
+closed-map f (answered Waiting) flying = refl
+closed-map f (answered HasMore) flying = refl
+closed-map f (answered Done) [] = refl
+closed-map f (answered Done) (m ∷ flying) = refl
+
+told-on : (l : ℕ) (flying : List Envelope)
+    → filter (λ m. m.link == l) (map dispatch_of flying) ≡ map dispatch_of (filter (λ e. e.link == l) flying)
+told-on l [] = refl
+told-on l (e ∷ flying) = elim (e.link == l) as (λ b. cond b
+    (dispatch_of e ∷ filter (λ m. m.link == l) (map dispatch_of flying))
+    (filter (λ m. m.link == l) (map dispatch_of flying))
+    ≡ map dispatch_of (cond b (e ∷ filter (λ e. e.link == l) flying) (filter (λ e. e.link == l) flying))) [
+      | true ↦ ap (λ z. dispatch_of e ∷ z) (told-on l flying)
+      | false ↦ told-on l flying
+    ]
+
+-- and closed where its last reply, which says Done, was taken
+pub closed-is : {W : Type 0} (p : Surroundings.Ghosts W) (w : W) (t : Traffic) → LinksOf p w t
+    → in_flight t.log ≡ map dispatch_of t.flying
+    → (l : ℕ) → closed_by (p.flight w l).talk (p.flight w l).flying ≡ closed_in l t.log
+closed-is p w t is told l =
+    let talk = talk_on l t.log in
+    let on = filter (λ (e : Envelope). e.link == l) t.flying in
+    ap (λ (z : Line). closed_by z.talk z.flying) (is.flight l) ∙ closed-map (λ (e : Envelope). e.message) talk on
+    ∙ sym (ap (λ z. closed_by talk (filter (λ (m : Dispatch). m.link == l) z)) told ∙ ap (closed_by talk) (told-on l t.flying)
+    ∙ closed-map dispatch_of talk on)
 
 module _ {W : Type 0} (p : Surroundings.Ghosts W) (w w' : W) (t t' : Traffic)
     (is : LinksOf p w t) (is' : LinksOf p w' t') (stock : p.stock w' ≡ p.stock w) where

@@ -1,6 +1,6 @@
 use Rattle.std.proofs.Common.{subst}
 use Rattle.aql_exec.specs.Counting.{nothing}
-use Rattle.aql_exec.specs.laws.Counted.{prefixed_none, rises_still}
+use Rattle.aql_exec.specs.laws.Counted.{prefixed_none, rises_taken}
 use Rattle.aql_engine.proofs.run.deliver_one.Goals as goal
 
 pub returns-else-owns-clause-undisturbed : goal.returns-else-owns-clause-undisturbed
@@ -8,8 +8,8 @@ returns-else-owns-clause-undisturbed g c =
     let f = g.F.Feed in
     let taken = c.in-Some.ensures.2 in (
       nothing,
-      rises_still g.W.Surroundings c.args.tally.now c.args.world.now c.deliver.new.self taken.counted_kept
-          taken.sent_kept,
+      rises_taken g.W.Surroundings c.args.tally.now c.args.world.now c.deliver.new.self
+          c.in-Some.d.link c.in-Some.d.message taken,
       λ r h. (
         r,
         prefixed_none r,

@@ -1034,3 +1034,19 @@ run_node-returns-in_err-take-in-Ask-2-clause-world g t c =
     pulled_beside x p kept links c.turn.new.world c.pull-else-at-eq0.new.world (TreeOwn x p c.loop-at.body)
     (λ l o. inr (inr ((rw at_is at asked).1, o)))
     (turned_beside x p kept links c.turn.new.world c.in_ok-at.ensures.world) c.in_ok-step-in-Ask-2.ensures.world
+
+pub run_node-returns-in_err-step-in-Ask-clause-world : goal.run_node-returns-in_err-step-in-Ask-clause-world
+run_node-returns-in_err-step-in-Ask-clause-world g t c =
+    let x = g.X.Executor in
+    let p = g.W.Surroundings in
+    let kept = c.loop-at.invariant.1 in
+    let links = c.loop-at.invariant.2 in
+    pulled_beside x p kept links c.turn.new.world c.pull.new.world (TreeOwn x p c.loop-at.below)
+    (λ l o. inr (inl o)) (turned_beside x p kept links c.turn.new.world c.in_ok-at.ensures.world)
+    c.pull.ensures.world
+
+pub run_node-returns-in_err-restart-in-Start-clause-world :
+    goal.run_node-returns-in_err-restart-in-Start-clause-world
+run_node-returns-in_err-restart-in-Start-clause-world g t c =
+    turned_beside g.X.Executor g.W.Surroundings c.loop-at.invariant.1 c.loop-at.invariant.2 c.turn.new.world
+    c.in_ok-at.ensures.world

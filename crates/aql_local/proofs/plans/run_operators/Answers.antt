@@ -7,8 +7,9 @@ use Rattle.aql_plan.specs.Shapes.{Result}
 use Rattle.aql_plan.specs.View.{plan_tree}
 use Rattle.aql_block.specs.Rows.{row_of}
 use Rattle.aql_exec.specs.Operators.{OperatorTree, IsTree, Produces, exact_tree}
-use Rattle.aql_net.specs.Logs.{IsLog, picks_in, rows_on}
-use Rattle.aql_net.specs.Traffic.{Traffic}
+use Rattle.aql_net.specs.Logs.{IsLog, in_flight, picks_in, rows_on, opened_in, closed_in}
+use Rattle.aql_net.specs.Traffic.{Traffic, line_on}
+use Rattle.aql_net.specs.laws.Worlds.{closed-is}
 use Rattle.aql_engine.specs.Engine.{Tallied, OwnCounted}
 use Rattle.aql_engine.specs.Run.{rows_in, PickedBy}
 use Rattle.aql_engine.specs.OperatorsOf.{operators_of}
@@ -16,6 +17,7 @@ use Rattle.aql_engine.specs.laws.Sound.{produces_runs}
 use Rattle.aql_engine.specs.laws.Trees.{shaped_tree}
 use Rattle.aql_shard.specs.Holding.{Holding}
 use Rattle.aql_shard.specs.Datasets.{stock}
+use Rattle.aql_local.proofs.Nets.{links_of}
 use Rattle.aql_local.proofs.CanRun.{counted_from_none, own_from_none}
 use Rattle.aql_local.proofs.plans.run_operators.Goals as goal
 
@@ -44,8 +46,13 @@ returns-clause-run g c =
             run.0.counts) c.requires.feed
             (counted_from_none _ _ c.new-tally.result c.run_feed.new.tally c.args.world.now
             c.run_feed.new.world run.0.counts c.take_log-log.result
-            (λ l. ap (λ (t : Traffic). rows_on l t.log) c.requires.fresh)
-            (λ l. ap (rows_on l) c.take_log-log.ensures.log) c.new-tally.ensures run.3);
+            (λ l. ap (line_on l) c.requires.fresh)
+            (λ l. ap (rows_on l) c.take_log-log.ensures.log)
+            (λ l. ap (opened_in l) c.take_log-log.ensures.log)
+            (λ l. ap (closed_in l) c.take_log-log.ensures.log
+            ∙ sym (closed-is _ _ _ (links_of c.run_feed.new.world)
+            (ap in_flight (sym c.take_log-log.ensures.log) ∙ c.take_log-log.ensures.told) l))
+            c.new-tally.ensures run.3);
         logged = subst (λ b. IsLog b c.take_log-log.result)
             (c.run_feed.ensures.batch ∙ ap (λ (t : Traffic). t.batch) c.requires.fresh) c.take_log-log.ensures.lawful;
         little = λ e. (let a = c.in_ok-blocks.ensures.reads (rw c.requires.feed e) in

@@ -9,6 +9,6 @@ returns-clause-makes g c w p body ins r port h =
     let me = c.args.self.now in (
       nothing,
       (h.0 ∙ ap (λ z. limit_rows me.offset me.count (rows_of z ++ (ins 0).rows)) c.empty.ensures, λ k. refl),
-      λ l. refl,
+      λ l. (refl, refl, refl),
       λ k. (let n = h.1 k in omega (arith, n)),
     )

@@ -7,6 +7,6 @@ pub returns-clause-makes : goal.returns-clause-makes
 returns-clause-makes g c w p body ins r port h = (
   nothing,
   rw h.0 (g.met.M.RowMap.maps c.args.self.now.by (g.W.Surroundings.stock w) (row_of c.args._start.now) (ins 0).rows),
-  λ l. refl,
+  λ l. (refl, refl, refl),
   λ k. (let n = h.1 k in omega (arith, n)),
 )

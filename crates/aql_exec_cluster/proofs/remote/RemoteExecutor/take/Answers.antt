@@ -1,7 +1,7 @@
 use Rattle.std.proofs.Common.{◌≡◌, ◌+◌, ◌++◌, length, ap, subst, arith}
 use Rattle.aql_block.specs.Tables.{rows_of}
 use Rattle.aql_exec.specs.laws.Telling.{only_input}
-use Rattle.aql_exec_cluster.specs.Remotes.{on_link, replied, AtStage}
+use Rattle.aql_exec_cluster.specs.Remotes.{on_link, replied, due, AtStage}
 use Rattle.aql_exec_cluster.proofs.Linking.{took_rows, took_kept}
 use Rattle.aql_exec_cluster.proofs.Stages.{serving_ask}
 use Rattle.aql_exec_cluster.proofs.remote.RemoteExecutor.take.Goals as goal
@@ -23,7 +23,9 @@ returns-clause-leads g c e w p body d s0 s ins' ins t b r l0 l1 a e' e0 others e
     let fl = replied (on_link me.link (g.W.Surroundings.flight w)).flying in
     let count : length block ≡ length (rows_of me.answer) + length block =
     (let n = ap length none in omega (arith, n)) in
-    took_rows me.link (rows_of me.held ++ (fl ++ rows_of me.answer)) (rows_of me.held ++ (fl ++ block)) block
-    (length (rows_of me.answer)) (length block) p d s0 s (ins' 0) (ins 0) t b r
-    (took_kept (rows_of me.held) fl (rows_of me.answer) block none) count l0
+    took_rows (due me) (record (due me) { unsent = length block })
+    (rows_of me.held ++ (fl ++ rows_of me.answer)) (rows_of me.held ++ (fl ++ block)) block
+    p d s0 s (ins' 0) (ins 0) t b r
+    (took_kept (rows_of me.held) fl (rows_of me.answer) block none)
+    (ap (λ n. record (due me) { unsent = n }) count) l0
     (omega (arith, l1, skipped, offset)) a (rw first at e') (rw first at e0) h
