@@ -2,6 +2,7 @@ mod catalogs;
 mod counts;
 mod distributed;
 mod fragments;
+mod hostile;
 mod pages;
 mod rule_sets;
 mod scoping;
