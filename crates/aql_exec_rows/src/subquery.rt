@@ -88,6 +88,7 @@ pub fn add_results(block: Block, results: &mut Items) -> Result<(), OutOfMemory>
 fn add_values(values: Vec<Value>, results: &mut Items) -> Result<(), OutOfMemory>
     ensures { OnOk result (results.new ≡ results.old ++ datums_in values.items) }
 {
+    results.reserve(values.len())?;
     for value in values {
         results.push(value)?;
     }

@@ -22,11 +22,16 @@ pub fn range(alloc: Global, low: i64, high: i64) -> Result<Value, OutOfMemory>
     }
 }
 
+// How many numbers go from one to the other.
+fn count_between(low: i64, high: i64) -> usize {
+    (high.abs_diff(low) as usize).saturating_add(1)
+}
+
 fn upwards(alloc: Global, low: i64, high: i64) -> Result<Items, OutOfMemory>
     requires { low ≤ℤ high }
     ensures { IfOk result (λ w. w ≡ numbers (pos 1) low (range_length low high)) }
 {
-    let mut out = Items::new(alloc);
+    let mut out = Items::with_room(alloc, count_between(low, high))?;
     let mut next = low;
     while next < high {
         out.push(Value::Num(next))?;
@@ -40,7 +45,7 @@ fn downwards(alloc: Global, low: i64, high: i64) -> Result<Items, OutOfMemory>
     requires { high ≤ℤ low }
     ensures { IfOk result (λ w. w ≡ numbers (negsuc 0) low (range_length low high)) }
 {
-    let mut out = Items::new(alloc);
+    let mut out = Items::with_room(alloc, count_between(low, high))?;
     let mut next = low;
     while high < next {
         out.push(Value::Num(next))?;

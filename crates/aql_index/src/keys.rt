@@ -43,7 +43,7 @@ impl Model for Keys {
 fn copy_attributes(alloc: Global, document: &Value, names: &[Text]) -> Result<Items, OutOfMemory>
     ensures { IfOk result (λ keys. keys ≡ index_keys names.now (datum_of document.now)) }
 {
-    let mut keys = Items::new(alloc);
+    let mut keys = Items::with_room(alloc, names.len())?;
     for name in names {
         keys.push(copy_attribute(alloc, document, name.as_str())?)?;
     }
@@ -65,7 +65,7 @@ pub(crate) fn keys_of(alloc: Global, document: &Value, names: &[Text]) -> Result
 fn copy_values(alloc: Global, values: &[Value]) -> Result<Items, OutOfMemory>
     ensures { IfOk result (λ copies. copies ≡ datums_in values.now) }
 {
-    let mut copies = Items::new(alloc);
+    let mut copies = Items::with_room(alloc, values.len())?;
     for value in values {
         copies.push(copy(alloc, value)?)?;
     }

@@ -1,17 +1,18 @@
-ghost use Rattle.std.specs.Prelude.{◌≡◌, [], option_map, IfOk, OnOk, OnErr};
+ghost use Rattle.std.specs.Prelude.{◌≡◌, [], ℕ, List, filter, bytes_eq, option_map, IfOk, OnOk, OnErr};
+ghost use Rattle.std.specs.List.{list_any};
 ghost use Rattle.std.specs.Ordering.{nat_cmp};
 ghost use Rattle.std.specs.Cmp.Lexicographic.{slice_cmp};
-ghost use Rattle.aql_value.specs.Datum.{object_of};
+ghost use Rattle.aql_value.specs.Datum.{Datum, object_of};
 ghost use Rattle.aql_value.specs.View.{datum_of};
 ghost use Rattle.aql_value.specs.Attributes.{with_attribute, attribute};
 ghost use Rattle.aql_value.specs.Fields.{fields_in};
 ghost use Rattle.aql_value.specs.inner.NameSearch.{IsSearchResult};
 ghost use Rattle.aql_value.specs.WellFormed.{FieldsWellFormed};
 
-use crate::copying::copy_entries;
+use crate::copying::{copy_entries, copy_member};
 use crate::texts::recall_utf8;
 use crate::values::{Member, entries_in, recall_well_formed};
-use crate::{Members, OutOfMemory, Text, Value};
+use crate::{Members, Names, OutOfMemory, Text, Value};
 use std::alloc::Global;
 use std::cmp::Ordering;
 use std::rc::Rc;
@@ -77,6 +78,23 @@ impl Members {
             Ok(at) => Some(&entries[at].value),
             Err(_) => None,
         }
+    }
+
+    /// The attributes of these names alone.
+    pub fn only(&self, alloc: Global, names: &Names) -> Result<Members, OutOfMemory>
+        ensures { IfOk result (λ ms. ms ≡ filter
+            (λ (attribute : List ℕ × Datum). list_any (bytes_eq attribute.0) names.now) self.now) }
+    {
+        let entries = entries_in(&self.entries);
+        let mut found = Vec::with_capacity(alloc, names.len().min(entries.len()))?;
+        for entry in entries {
+            if is_among(names, &entry.name) {
+                found.push(copy_member(alloc, entry)?)?;
+            }
+        }
+        Ok(Members {
+            entries: Some(Rc::new(alloc, found)?),
+        })
     }
 
     /// Makes room for so many more attributes, and no more than that, where there are some and no
@@ -146,6 +164,13 @@ fn place_of(entries: &[Member], name: &str) -> Result<usize, usize>
         Some(last) if last.name.as_str().cmp(name).is_lt() => Err(entries.len()),
         _ => find_name(entries, name),
     }
+}
+
+fn is_among(names: &Names, name: &Text) -> bool
+    ensures { result ≡ list_any (bytes_eq name.now) names.now }
+{
+    let name = name.as_str();
+    names.as_slice().iter().any(|other| name == other.as_str())
 }
 
 // The value of a name, by looking at each.

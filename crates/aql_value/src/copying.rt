@@ -25,7 +25,7 @@ pub fn copy(alloc: Global, value: &Value) -> Result<Value, OutOfMemory>
 fn copy_items(alloc: Global, list: &Items) -> Result<Items, OutOfMemory>
     ensures { IfOk result (λ w. w ≡ list.now) }
 {
-    let mut out = Items::new(alloc);
+    let mut out = Items::with_room(alloc, list.len())?;
     for item in &list.items {
         out.push(copy(alloc, item)?)?;
     }
@@ -48,9 +48,17 @@ pub(crate) fn copy_entries(alloc: Global, entries: &[Member]) -> Result<Vec<Memb
 {
     let mut copies = Vec::with_capacity(alloc, entries.len().saturating_add(1))?;
     for entry in entries {
-        let name = entry.name.copy(alloc)?;
-        let value = copy(alloc, &entry.value)?;
-        copies.push(Member { name, value })?;
+        copies.push(copy_member(alloc, entry)?)?;
     }
     Ok(copies)
+}
+
+/// An attribute that is identical to `member`.
+pub(crate) fn copy_member(alloc: Global, member: &Member) -> Result<Member, OutOfMemory>
+    ensures { IfOk result (λ m. (m.name ≡ member.now.name)
+        × (datum_of m.value ≡ datum_of member.now.value)) }
+{
+    let name = member.name.copy(alloc)?;
+    let value = copy(alloc, &member.value)?;
+    Ok(Member { name, value })
 }

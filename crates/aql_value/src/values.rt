@@ -120,7 +120,7 @@ impl Value {
 }
 
 impl Items {
-    ghost use Rattle.std.specs.Prelude.{◌++◌, ◌∷◌, length, option_map, slice_get, OnOk, OnErr};
+    ghost use Rattle.std.specs.Prelude.{◌++◌, ◌∷◌, length, option_map, slice_get, IfOk, OnOk, OnErr};
 
     /// The empty array.
     pub fn new(alloc: Global) -> Items
@@ -129,6 +129,14 @@ impl Items {
         Items {
             items: Vec::new(alloc),
         }
+    }
+
+    /// The empty array, with room for so many elements.
+    pub fn with_room(alloc: Global, room: usize) -> Result<Items, OutOfMemory>
+        ensures { IfOk result (λ items. items ≡ []) }
+    {
+        let items = Vec::with_capacity(alloc, room)?;
+        Ok(Items { items })
     }
 
     /// How many elements the array has.
@@ -152,6 +160,14 @@ impl Items {
         self.items.as_slice()
     }
 
+    /// Makes room for so many more elements at least.
+    pub fn reserve(&mut self, more: usize) -> Result<(), OutOfMemory>
+        ensures { self.new ≡ self.old }
+    {
+        self.items.reserve(more)?;
+        Ok(())
+    }
+
     // Gives back the room for elements that there are not.
     pub(crate) fn shrink(&mut self)
         ensures { self.new ≡ self.old }
@@ -159,12 +175,16 @@ impl Items {
         self.items.shrink_to_fit();
     }
 
-    /// Appends an element; where memory runs out the array stays as it was.
+    /// Appends an element; where memory runs out the array stays as it was. The first one takes room
+    /// for itself alone.
     pub fn push(&mut self, item: Value) -> Result<(), OutOfMemory>
         ensures ok { OnOk result (self.new ≡ self.old ++ datum_of item ∷ []) }
         ensures err { OnErr result (self.new ≡ self.old) }
     {
         recall_well_formed(&item);
+        if self.items.is_empty() {
+            self.items.reserve_exact(1)?;
+        }
         self.items.push(item)?;
         Ok(())
     }

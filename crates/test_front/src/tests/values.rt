@@ -326,6 +326,24 @@ fn lists_of_values(rt: HostRuntime) {
     );
 }
 
+// An array with room for its values beforehand.
+fn takes_room(alloc: Global) -> bool {
+    match Items::with_room(alloc, 1) {
+        Ok(mut items) => {
+            items.reserve(2).is_ok()
+                && items.push(Value::Num(4)).is_ok()
+                && is_number(items.get(0), 4)
+                && items.len() == 1
+        }
+        Err(_) => false,
+    }
+}
+
+#[test]
+fn lists_with_room(rt: HostRuntime) {
+    expect(&rt, takes_room(rt.alloc()), "with room", "");
+}
+
 fn set(alloc: Global, members: &mut Members, name: &str, number: i64) -> bool {
     match Text::new(alloc, name) {
         Ok(name) => members.set(name, Value::Num(number)).is_ok(),
@@ -357,6 +375,20 @@ fn check_members(rt: &impl Abort, members: &Members) {
     expect(rt, ends_at(members, 3), "the end", "");
 }
 
+// The attributes of the names `c`, `x` and `a`, where there is no `x`.
+fn keeps_two(alloc: Global, members: &Members) -> bool {
+    let mut names = Names::new(alloc);
+    let named = push_name(alloc, &mut names, "c")
+        && push_name(alloc, &mut names, "x")
+        && push_name(alloc, &mut names, "a");
+    match members.only(alloc, &names) {
+        Ok(kept) => {
+            named && kept.len() == 2 && stands_at(&kept, 0, "a", 2) && stands_at(&kept, 1, "c", 4)
+        }
+        Err(_) => false,
+    }
+}
+
 #[test]
 fn members(rt: HostRuntime) {
     let mut members = Members::new(rt.alloc());
@@ -364,6 +396,7 @@ fn members(rt: HostRuntime) {
         expect(&rt, set(rt.alloc(), &mut members, name, *number), name, "");
     }
     check_members(&rt, &members);
+    expect(&rt, keeps_two(rt.alloc(), &members), "only two", "");
 }
 
 fn has_text(alloc: Global, value: &Value, want: &str) -> bool {
