@@ -1,13 +1,12 @@
 -- The columns of a block stay filled.
-use Rattle.std.proofs.Common.{◌≡◌, ◌∙◌, ℕ, zero, suc, ◌+◌, ◌-◌, ◌<◌, ◌≤◌, min, List, [], ◌∷◌, ◌++◌, length, take, drop, map, replicate, Bool, true, false, refl, ap, sym, subst, arith, length-append, length-take, length-drop, length-set, add-one}
+use Rattle.std.proofs.Common.{◌≡◌, ◌∙◌, ℕ, suc, ◌+◌, ◌-◌, ◌<◌, ◌≤◌, min, List, [], ◌∷◌, length, map, replicate, Bool, true, false, refl, ap, sym, subst, arith, length-append, length-take, length-drop, length-set, add-one}
 use Rattle.std.proofs.lemmas.List.{length-map}
-use Rattle.std.specs.Prelude.{slice_set}
 use Rattle.std.specs.List.{AllByRecursion}
 use Rattle.aql_value.specs.Datum.{Datum, null}
 use Rattle.aql_meaning.specs.Row.{Row}
 use Rattle.aql_block.specs.Rows.{Entries}
 use Rattle.aql_block.specs.Tables.{marked}
-use Rattle.aql_block.specs.Columns.{ColumnView, Fits, IsFilled, HasRoom, pushed, moved_values, single_columns, without, first_of, rest_of, marked_of}
+use Rattle.aql_block.specs.Columns.{ColumnView, Fits, IsFilled, HasRoom, pushed, moved_values, copied_values, single_columns, without, first_of, rest_of, marked_of}
 
 -- what follows from one fact of each, where the fact of each column follows
 pub each : {P Q : ColumnView → Type 0} → ((c : ColumnView) → P c → Q c) → (cs : List ColumnView)
@@ -26,6 +25,10 @@ pub all_room : (n room : ℕ) (cs : List ColumnView) → AllByRecursion (Fits n 
     → AllByRecursion HasRoom cs
 all_room n room cs h l = each (λ c f. (let e = f.0 in let le = f.1 in omega arith)) cs h
 
+pub all_held : (n room : ℕ) (cs : List ColumnView) → AllByRecursion (Fits n room) cs
+    → AllByRecursion (λ c. length c.held ≡ n) cs
+all_held n room cs h = each (λ c f. f.0) cs h
+
 pub all_place : (n room at : ℕ) (cs : List ColumnView) → AllByRecursion (Fits n room) cs → at < n
     → AllByRecursion (λ c. at < length c.held) cs
 all_place n room at cs h l = each (λ c f. (let e = f.0 in omega arith)) cs h
@@ -33,6 +36,11 @@ all_place n room at cs h l = each (λ c f. (let e = f.0 in omega arith)) cs h
 pub length-taken : (xs : List ℕ) (row : Row) → length (moved_values xs row) ≡ length xs
 length-taken [] row = refl
 length-taken (x ∷ xs) row = ap suc (length-taken xs _)
+
+pub length-copied : (xs : List ℕ) (x : ℕ) (row : Row) (v : Datum)
+    → length (copied_values xs x row v) ≡ length xs
+length-copied [] x row v = refl
+length-copied (y ∷ ys) x row v = ap suc (length-copied ys x row _)
 
 pub length-pushed : (cs : List ColumnView) (vs : List Datum) → length (pushed cs vs) ≡ length cs
 length-pushed [] vs = refl
@@ -82,11 +90,11 @@ filled_set xs cs n room x more vs h e le = record {
   within = omega arith;
 }
 
-pub filled_pushed : (xs : List ℕ) (cs : List ColumnView) (n room : ℕ) (row : Row) → IsFilled xs cs n room
-    → n < room → IsFilled xs (pushed cs (moved_values xs row)) (n + 1) room
-filled_pushed xs cs n room row h l = record {
-  count = length-pushed cs (moved_values xs row) ∙ h.count;
-  fit = rw add-one (fits_pushed n room cs (moved_values xs row) h.fit (h.count ∙ sym (length-taken xs row)));
+pub filled_pushed : (xs : List ℕ) (cs : List ColumnView) (n room : ℕ) (vs : List Datum)
+    → IsFilled xs cs n room → length vs ≡ length xs → n < room → IsFilled xs (pushed cs vs) (n + 1) room
+filled_pushed xs cs n room vs h e l = record {
+  count = length-pushed cs vs ∙ h.count;
+  fit = rw add-one (fits_pushed n room cs vs h.fit (h.count ∙ sym e));
   within = omega arith;
 }
 

@@ -1,16 +1,16 @@
 -- Steps of the loops that go over the columns of a block.
-use Rattle.std.proofs.Common.{◌≡◌, ◌∙◌, ℕ, zero, suc, ◌+◌, ◌<◌, ◌≤◌, List, [], ◌∷◌, ◌++◌, length, take, drop, set, get_or, map, Bool, true, false, refl, ap, ap₂, sym, subst, arith, inl, inr, append_assoc, length-append, length-set, length-take, length-drop}
-use Rattle.std.proofs.lemmas.Bool.{cases_lt}
-use Rattle.std.proofs.lemmas.List.{length-map, map-append, append-nil, drop_more, take_more, take_more_set, take-set-le, take_all, drop_all, drop-drop, drop-set-lt, set-set, get_or-drop, get_or_at}
+use Rattle.std.proofs.Common.{◌≡◌, ◌≢◌, ◌∙◌, ℕ, zero, suc, ◌+◌, ◌<◌, ◌≤◌, List, [], ◌∷◌, ◌++◌, length, take, drop, set, get_or, map, Bool, true, false, cond, refl, ap, ap₂, sym, subst, arith, inl, inr, length-append, length-take, length-drop}
+use Rattle.std.proofs.lemmas.Bool.{cases_lt, eq-eqb, ne_eqb}
+use Rattle.std.proofs.lemmas.List.{length-map, map-append, append-nil, drop_more, take_more, take_more_set, take-set-le, take_all, take-append-le, drop_all, drop-drop, drop-set-lt, set-set, get_or-drop, get_or_at}
 use Rattle.std.proofs.lemmas.List.Edits.{map_over_more, swap_is, length-swap}
-use Rattle.std.specs.Prelude.{Some, IsSome, slice_get, unwrap_or, swap}
+use Rattle.std.specs.Prelude.{Some, slice_get, unwrap_or, swap}
 use Rattle.std.specs.List.{AllByRecursion}
 use Rattle.aql_value.specs.Datum.{Datum, null}
 use Rattle.aql_tree.specs.declared.syntax.Ident.TheVariants.{Num}
 use Rattle.aql_meaning.specs.Row.{Row, bind, value_at}
-use Rattle.aql_block.specs.Rows.{Entries, row_of, HasAll}
+use Rattle.aql_block.specs.Rows.{Entries, HasAll}
 use Rattle.aql_block.specs.Tables.{cells, marked}
-use Rattle.aql_block.specs.Columns.{ColumnView, HasRoom, pushed, moved_values, values_at}
+use Rattle.aql_block.specs.Columns.{ColumnView, HasRoom, pushed, moved_values, copied_values, values_at, first_of}
 use Rattle.aql_block.specs.laws.Registers.{has_all_bind}
 
 -- ---- each column
@@ -106,72 +106,125 @@ all_cells xs vs i es is l = is ∙ take_all i (cells xs vs) (omega (arith, lengt
 
 -- ---- values that are pushed
 
-pub record Pushing (registers : List ℕ) (i : ℕ) (now : List ColumnView) (row : Row) (old : List ColumnView)
-    (start : Row) : Type 0 where
-  pub count : length now ≡ length registers
-  pub room : AllByRecursion HasRoom (drop i now)
-  pub all : HasAll (drop i registers) row
-  pub leads : take i now ++ pushed (drop i now) (moved_values (drop i registers) row)
-      ≡ pushed old (moved_values registers start)
-
 abbrev pub with_value : ColumnView → Datum → ColumnView
 with_value c v = record { room = c.room; held = c.held ++ v ∷ [] }
 
-pub pushing_next : (registers : List ℕ) (i : ℕ) (now : List ColumnView) (row : Row) (old : List ColumnView)
-    (start : Row) (x : ℕ) (c : ColumnView) → Pushing registers i now row old start → i < length registers
-    → x ≡ get_or registers i x → c ≡ get_or now i c
-    → HasRoom c × IsSome (row (Num x))
-pushing_next registers i now row old start x c p l isx isc =
-    let lc : i < length now = omega (arith, p.count) in
-    let rooms : AllByRecursion HasRoom (c ∷ drop (i + 1) now) =
-    subst (λ cs. AllByRecursion HasRoom cs)
-    (drop_more now i c lc ∙ ap (λ d. d ∷ drop (i + 1) now) (sym isc)) p.room in
-    let has : HasAll (x ∷ drop (i + 1) registers) row =
-    subst (λ xs. HasAll xs row)
-    (drop_more registers i x l ∙ ap (λ y. y ∷ drop (i + 1) registers) (sym isx)) p.all in
-    (rooms.0, has.0)
+-- the first columns have their values, and these are left for the others
+pub record Pushing (i : ℕ) (now old : List ColumnView) (left all : List Datum) : Type 0 where
+  pub done : now ≡ pushed old (take i all)
+  pub rest : drop i all ≡ left
 
-pub pushing_more : (registers : List ℕ) (i : ℕ) (now : List ColumnView) (row next : Row)
-    (old : List ColumnView)
-    (start : Row) (x : ℕ) (c : ColumnView) (v : Datum) → Pushing registers i now row old start
-    → i < length registers → x ≡ get_or registers i x → c ≡ get_or now i c
+pushed_none : (cs : List ColumnView) → pushed cs [] ≡ cs
+pushed_none [] = refl
+pushed_none (c ∷ cs) = refl
+
+pub pushing_none : (old : List ColumnView) (all : List Datum) → Pushing 0 old old all all
+pushing_none old all = record { done = sym (pushed_none old); rest = refl }
+
+pushed_next : (old : List ColumnView) (vs : List Datum) (i : ℕ) (c : ColumnView)
+    → get_or (pushed old (take i vs)) i c ≡ get_or old i c
+pushed_next [] vs i c = refl
+pushed_next (d ∷ old) vs zero c = refl
+pushed_next (d ∷ old) [] (suc i) c = refl
+pushed_next (d ∷ old) (v ∷ vs) (suc i) c = pushed_next old vs i c
+
+pushing_next : (i : ℕ) (now old : List ColumnView) (left all : List Datum) (c : ColumnView)
+    → Pushing i now old left all → c ≡ get_or now i c → c ≡ get_or old i c
+pushing_next i now old left all c p is =
+    is ∙ ap (λ cs. get_or cs i c) p.done ∙ pushed_next old all i c
+
+pub pushing_room : (i : ℕ) (now old : List ColumnView) (left all : List Datum) (c : ColumnView)
+    → Pushing i now old left all → AllByRecursion HasRoom old → i < length old → c ≡ get_or now i c
+    → HasRoom (get_or now i c)
+pushing_room i now old left all c p h l is =
+    subst HasRoom is (each_at HasRoom old i c h l (pushing_next i now old left all c p is))
+
+pushed_more : (old : List ColumnView) (vs : List Datum) (i : ℕ) (c : ColumnView) (v : Datum)
+    (rest : List Datum) → i < length old → c ≡ get_or old i c → drop i vs ≡ v ∷ rest
+    → set (pushed old (take i vs)) i (with_value c v) ≡ pushed old (take (suc i) vs)
+pushed_more [] vs i c v rest l is e = absurd (omega arith)
+pushed_more (d ∷ old) [] zero c v rest l is e = absurd (cc)
+pushed_more (d ∷ old) (w ∷ vs) zero c v rest l is e =
+    let same : v ≡ w = cc in
+    ap₂ (λ (p : ColumnView) u. with_value p u ∷ old) is same
+    ∙ ap (λ cs. with_value d w ∷ cs) (sym (pushed_none old))
+pushed_more (d ∷ old) [] (suc i) c v rest l is e = absurd (cc)
+pushed_more (d ∷ old) (w ∷ vs) (suc i) c v rest l is e =
+    ap (λ cs. with_value d w ∷ cs) (pushed_more old vs i c v rest (omega arith) is e)
+
+pub pushing_more : (i : ℕ) (now old : List ColumnView) (left all : List Datum) (c : ColumnView) (v : Datum)
+    (rest : List Datum) → Pushing i now old left all → i < length old → c ≡ get_or now i c
+    → left ≡ v ∷ rest → Pushing (i + 1) (set now i (with_value c v)) old rest all
+pushing_more i now old left all c v rest p l is e = record {
+  done =
+      ap (λ cs. set cs i (with_value c v)) p.done
+      ∙ pushed_more old all i c v rest l (pushing_next i now old left all c p is) (p.rest ∙ e)
+      ∙ (let next : suc i ≡ i + 1 = omega arith in ap (λ k. pushed old (take k all)) next);
+  rest = sym (drop-drop 1 i all) ∙ ap (λ vs. drop 1 vs) (p.rest ∙ e);
+}
+
+pub pushing_all : (i : ℕ) (now old : List ColumnView) (left all : List Datum) → Pushing i now old left all
+    → length all ≤ i → now ≡ pushed old all
+pushing_all i now old left all p l = p.done ∙ ap (λ vs. pushed old vs) (take_all i all l)
+
+-- each column cut back to what it had
+pub pushing_back : (i : ℕ) (now old : List ColumnView) (left all : List Datum) (n : ℕ)
+    → Pushing i now old left all → AllByRecursion (λ c. length c.held ≡ n) old
+    → map (first_of n) now ≡ old
+pushing_back i now old left all n p h = ap (λ cs. map (first_of n) cs) p.done ∙ back old (take i all) h
+  where
+    whole : (c : ColumnView) → length c.held ≡ n → first_of n c ≡ c
+    whole c e = ap (λ vs. record { room = c.room; held = vs }) (take_all n c.held (omega arith))
+
+    back : (cs : List ColumnView) (vs : List Datum) → AllByRecursion (λ c. length c.held ≡ n) cs
+        → map (first_of n) (pushed cs vs) ≡ cs
+    back [] vs g = refl
+    back (c ∷ cs) [] g =
+        ap₂ (λ d ds. d ∷ map (first_of n) ds) (whole c g.0) (sym (pushed_none cs))
+        ∙ ap (λ ds. c ∷ ds) (back cs [] g.1)
+    back (c ∷ cs) (v ∷ vs) g =
+        let e = g.0 in
+        ap₂ (λ d ds. d ∷ ds)
+        (ap (λ ws. record { room = c.room; held = ws }) (take-append-le n c.held (v ∷ []) (omega arith))
+        ∙ whole c g.0)
+        (back cs vs g.1)
+
+-- the values that are left after the next one
+names_more : (xs : List ℕ) (i x : ℕ) → i < length xs → x ≡ get_or xs i x → drop i xs ≡ x ∷ drop (i + 1) xs
+names_more xs i x l is = drop_more xs i x l ∙ ap (λ y. y ∷ drop (i + 1) xs) (sym is)
+
+pub moved_more : (xs : List ℕ) (i x : ℕ) (row next : Row) (v : Datum) → i < length xs → x ≡ get_or xs i x
     → v ≡ value_at row (Num x) → next ≡ bind (Num x) row null
-    → Pushing registers (i + 1) (set now i (with_value c v)) next old start
-pushing_more registers i now row next old start x c v p l isx isc isv isn =
-    let lc : i < length now = omega (arith, p.count) in
-    let columns : drop i now ≡ c ∷ drop (i + 1) now =
-    drop_more now i c lc ∙ ap (λ d. d ∷ drop (i + 1) now) (sym isc) in
-    let names : drop i registers ≡ x ∷ drop (i + 1) registers =
-    drop_more registers i x l ∙ ap (λ y. y ∷ drop (i + 1) registers) (sym isx) in
-    let later : drop (i + 1) (set now i (with_value c v)) ≡ drop (i + 1) now =
-    drop-set-lt (i + 1) now i (with_value c v) (omega arith) in
-    let rooms : AllByRecursion HasRoom (c ∷ drop (i + 1) now) =
-    subst (λ cs. AllByRecursion HasRoom cs) columns p.room in
-    let has : HasAll (x ∷ drop (i + 1) registers) row = subst (λ xs. HasAll xs row) names p.all in
-    record {
-      count = length-set now i (with_value c v) ∙ p.count;
-      room = subst (λ cs. AllByRecursion HasRoom cs) (sym later) rooms.1;
-      all = subst (λ (r : Row). HasAll (drop (i + 1) registers) r) (sym isn)
-          (has_all_bind (drop (i + 1) registers) x row null has.1);
-      leads =
-          ap₂ (λ cs ds. cs ++ pushed ds (moved_values (drop (i + 1) registers) next))
-          (take_more_set now i (with_value c v) lc) later
-          ∙ append_assoc (take i now) (with_value c v ∷ [])
-          (pushed (drop (i + 1) now) (moved_values (drop (i + 1) registers) next))
-          ∙ ap₂ (λ w (r : Row). take i now
-          ++ (with_value c w ∷ pushed (drop (i + 1) now) (moved_values (drop (i + 1) registers) r))) isv isn
-          ∙ ap₂ (λ cs xs. take i now ++ pushed cs (moved_values xs row)) (sym columns) (sym names)
-          ∙ p.leads;
-    }
+    → moved_values (drop i xs) row ≡ v ∷ moved_values (drop (i + 1) xs) next
+moved_more xs i x row next v l is isv isn =
+    ap (λ ys. moved_values ys row) (names_more xs i x l is)
+    ∙ ap₂ (λ w (r : Row). w ∷ moved_values (drop (i + 1) xs) r) (sym isv) (sym isn)
 
-pub pushing_all : (registers : List ℕ) (i : ℕ) (now : List ColumnView) (row : Row) (old : List ColumnView)
-    (start : Row) → Pushing registers i now row old start → length registers ≤ i
-    → now ≡ pushed old (moved_values registers start)
-pushing_all registers i now row old start p l =
-    let none : drop i now ≡ [] = drop_all i now (omega (arith, p.count)) in
-    let all : take i now ≡ now = take_all i now (omega (arith, p.count)) in
-    sym (ap₂ (λ cs ds. cs ++ pushed ds (moved_values (drop i registers) row)) all none ∙ append-nil now)
-    ∙ p.leads
+pub has_all_more : (xs : List ℕ) (i x : ℕ) (row next : Row) → i < length xs → x ≡ get_or xs i x
+    → HasAll (drop i xs) row → next ≡ bind (Num x) row null → HasAll (drop (i + 1) xs) next
+has_all_more xs i x row next l is h isn =
+    let has : HasAll (x ∷ drop (i + 1) xs) row = subst (λ ys. HasAll ys row) (names_more xs i x l is) h in
+    subst (λ (r : Row). HasAll (drop (i + 1) xs) r) (sym isn)
+    (has_all_bind (drop (i + 1) xs) x row null has.1)
+
+-- of the value that is moved, and of another
+pub copied_here : (xs : List ℕ) (i y x : ℕ) (row : Row) (v w : Datum) → i < length xs → y ≡ get_or xs i y
+    → y ≡ x → w ≡ null
+    → copied_values (drop i xs) x row v ≡ v ∷ copied_values (drop (i + 1) xs) x row w
+copied_here xs i y x row v w l is same isw =
+    ap (λ ys. copied_values ys x row v) (names_more xs i y l is)
+    ∙ ap (λ b. unwrap_or (cond b (Some v) (row (Num y))) null
+    ∷ copied_values (drop (i + 1) xs) x row (cond b null v)) (eq-eqb x y (sym same))
+    ∙ ap (λ u. v ∷ copied_values (drop (i + 1) xs) x row u) (sym isw)
+
+pub copied_other : (xs : List ℕ) (i y x : ℕ) (row : Row) (v u : Datum) → i < length xs → y ≡ get_or xs i y
+    → y ≢ x → u ≡ value_at row (Num y)
+    → copied_values (drop i xs) x row v ≡ u ∷ copied_values (drop (i + 1) xs) x row v
+copied_other xs i y x row v u l is ne isu =
+    ap (λ ys. copied_values ys x row v) (names_more xs i y l is)
+    ∙ ap (λ b. unwrap_or (cond b (Some v) (row (Num y))) null
+    ∷ copied_values (drop (i + 1) xs) x row (cond b null v)) (ne_eqb x y (λ e. ne (sym e)))
+    ∙ ap (λ w. w ∷ copied_values (drop (i + 1) xs) x row v) (sym isu)
 
 -- ---- values that are kept by marks
 

@@ -1,23 +1,22 @@
 -- The rows of a block after each of its calls.
-use Rattle.std.proofs.Common.{◌≡◌, ◌∙◌, ℕ, zero, suc, ◌+◌, ◌-◌, ◌<◌, min, List, [], ◌∷◌, ◌++◌, length, take, drop, set, get_or, map, Bool, true, false, refl, ap, ap₂, sym, arith}
+use Rattle.std.proofs.Common.{◌≡◌, ◌∙◌, ℕ, zero, suc, ◌+◌, ◌-◌, ◌<◌, min, List, [], ◌∷◌, ◌++◌, length, take, drop, map, Bool, true, false, refl, ap, ap₂, sym, subst, arith}
 use Rattle.std.proofs.lemmas.List.{length-map, map-append, take-map, map-set, with_items_is}
 use Rattle.std.proofs.lemmas.Option.{slice_get-map}
 use Rattle.std.proofs.lemmas.Bool.{eqb-true, eq-eqb}
-use Rattle.std.specs.Prelude.{Option, Some, None, IsTrue, ◌==◌, ◌≤◌, option_map, slice_get, slice_set, unwrap_or}
+use Rattle.std.specs.Prelude.{Some, None, IsTrue, ◌==◌, ◌≤◌, option_map, slice_get, slice_set, unwrap_or}
 use Rattle.std.specs.List.{AllByRecursion}
 use Rattle.aql_value.specs.Datum.{Datum, null}
 use Rattle.aql_tree.specs.declared.syntax.Ident.TheVariants.{Num}
 use Rattle.aql_meaning.specs.Row.{Row, empty_row, bind}
 use Rattle.aql_meaning.specs.Clauses.{with_values}
-use Rattle.aql_block.specs.Rows.{Entries, row_of, HasAll, only, IsFirst}
+use Rattle.aql_block.specs.Rows.{Entries, row_of, IsFirst}
 use Rattle.std.specs.Prelude.{Vec}
 use Rattle.std.specs.Vec.{with_items}
-use Rattle.aql_block.specs.Tables.{Table, cells, marked}
-use Rattle.aql_block.specs.Columns.{ColumnView, blanks, beside, rows_in, Fits, IsFilled, pushed, moved_values, single_columns, values_at, without, first_of, rest_of, marked_of}
-use Rattle.aql_block.specs.laws.Registers.{only_taken}
+use Rattle.aql_block.specs.Tables.{Table, cells, rows_of, marked}
+use Rattle.aql_block.specs.Columns.{ColumnView, blanks, beside, rows_in, Fits, IsFilled, pushed, single_columns, values_at, without, first_of, rest_of, marked_of}
 use Rattle.aql_block.proofs.Beside.{length-rows_in, rows_in-pushed, row_in_at, rows_in-without, rows_in-first_of, rows_in-rest_of, rows_in-marked_of}
-use Rattle.aql_block.proofs.Filled.{length-taken, length-pushed}
-use Rattle.aql_block.proofs.Found.{first_cell, no_cell}
+use Rattle.aql_block.proofs.Filled.{length-pushed}
+use Rattle.aql_block.proofs.Found.{first_cell}
 
 -- the rows of a block with these registers and columns
 abbrev pub rows_by : List ℕ → List (List Datum) → List Row
@@ -28,17 +27,14 @@ pub rows_held : (xs : List ℕ) (cs : List ColumnView) (n room : ℕ) → IsFill
 rows_held xs cs n room h =
     length-map (rows_in n cs) (λ vs. row_of (cells xs vs)) ∙ length-rows_in n room cs h.fit
 
-pub rows_pushed : (xs : List ℕ) (cs : List ColumnView) (n room : ℕ) (row : Row) → IsFilled xs cs n room
-    → HasAll xs row
-    → rows_by xs (rows_in (n + 1) (pushed cs (moved_values xs row))) ≡ rows_by xs (rows_in n cs)
-    ++ only xs row ∷ []
-rows_pushed xs cs n room row h all =
-    (let e : n + 1
-    ≡ suc n = omega arith in ap (λ k. rows_by xs (rows_in k (pushed cs (moved_values xs row)))) e)
-    ∙ ap (λ rows. rows_by xs rows)
-    (rows_in-pushed n room cs (moved_values xs row) h.fit (h.count ∙ sym (length-taken xs row)))
-    ∙ map-append (λ vs. row_of (cells xs vs)) (rows_in n cs) (moved_values xs row ∷ [])
-    ∙ ap (λ r. rows_by xs (rows_in n cs) ++ r ∷ []) (only_taken xs row all)
+pub rows_pushed : (xs : List ℕ) (cs : List ColumnView) (n room : ℕ) (vs : List Datum) (row : Row)
+    → IsFilled xs cs n room → length vs ≡ length xs → row_of (cells xs vs) ≡ row
+    → rows_by xs (rows_in (n + 1) (pushed cs vs)) ≡ rows_by xs (rows_in n cs) ++ row ∷ []
+rows_pushed xs cs n room vs row h e is =
+    (let next : n + 1 ≡ suc n = omega arith in ap (λ k. rows_by xs (rows_in k (pushed cs vs))) next)
+    ∙ ap (λ rows. rows_by xs rows) (rows_in-pushed n room cs vs h.fit (h.count ∙ sym e))
+    ∙ map-append (λ ws. row_of (cells xs ws)) (rows_in n cs) (vs ∷ [])
+    ∙ ap (λ r. rows_by xs (rows_in n cs) ++ r ∷ []) is
 
 pub row_at : (xs : List ℕ) (cs : List ColumnView) (n room at : ℕ) → IsFilled xs cs n room → at < n
     → slice_get (rows_by xs (rows_in n cs)) at ≡ Some (row_of (cells xs (values_at cs at)))
@@ -188,3 +184,20 @@ looked_up xs (row ∷ rows) x = ap (λ rest. row_of (cells xs row) (Num x) ∷ r
 pub with_pushed : {Z : Type 0} (v : Vec ColumnView Z) (ws : List ColumnView) (vs : List Datum) → ws ≡ pushed v.items vs
     → v.len ≡ length v.items → (with_items v ws).items ≡ pushed v.items vs
 with_pushed v ws vs e l = with_items_is v ws (ap length e ∙ length-pushed v.items vs ∙ sym l) ∙ e
+
+-- columns that were pushed to and cut back
+pub with_cut : {Z : Type 0} (v : Vec ColumnView Z) (now seen cut : List ColumnView) (n : ℕ)
+    → map (first_of n) now ≡ v.items → seen ≡ (with_items v now).items → cut ≡ map (first_of n) seen
+    → v.len ≡ length v.items → (with_items (with_items v now) cut).items ≡ v.items
+with_cut v now seen cut n back is e l =
+    let k : length now ≡ v.len = sym (length-map now (first_of n)) ∙ ap length back ∙ sym l in
+    let same : cut ≡ v.items = e ∙ ap (λ cs. map (first_of n) cs) (is ∙ with_items_is v now k) ∙ back in
+    with_items_is (with_items v now) cut (ap length same ∙ sym l) ∙ same
+
+-- a block that isn't full
+pub room_left : (t : Table) (xs : List ℕ) (cs : List ColumnView) (n room : ℕ) → IsFilled xs cs n room
+    → table_of xs room (rows_in n cs) ≡ t → length (rows_of t) < t.room → n < room
+room_left t xs cs n room h is l =
+    let k : length (rows_by xs (rows_in n cs)) < room =
+    subst (λ (u : Table). length (rows_of u) < u.room) (sym is) l in
+    omega (arith, rows_held xs cs n room h)

@@ -1,5 +1,5 @@
 -- The columns of a block: for each register the values of all rows, in the order of the rows.
-use Rattle.std.specs.Prelude.{ℕ, zero, suc, ◌≡◌, ◌≤◌, ◌<◌, ◌++◌, List, [], ◌∷◌, map, length, take, drop, slice_get, slice_set, unwrap_or, Bool, refl}
+use Rattle.std.specs.Prelude.{ℕ, zero, suc, ◌≡◌, ◌≤◌, ◌<◌, ◌++◌, List, [], ◌∷◌, map, length, take, drop, slice_get, slice_set, unwrap_or, Bool, cond, ◌==◌, refl}
 use Rattle.std.specs.List.{AllByRecursion}
 use Rattle.std.specs.Coded.{Coded, code_by, coded_ℕ, coded×}
 use Rattle.aql_value.specs.Datum.{Datum, null, coded_datums}
@@ -62,6 +62,12 @@ pushed (c ∷ cs) (v ∷ vs) = record { room = c.room; held = c.held ++ v ∷ []
 abbrev pub moved_values : List ℕ → Row → List Datum
 moved_values [] row = []
 moved_values (x ∷ xs) row = value_at row (Num x) ∷ moved_values xs (bind (Num x) row null)
+
+-- the values of these variables in the row with v at x; null where x comes again
+abbrev pub copied_values : List ℕ → ℕ → Row → Datum → List Datum
+copied_values [] x row v = []
+copied_values (y ∷ ys) x row v =
+    value_at (bind (Num x) row v) (Num y) ∷ copied_values ys x row (cond (x == y) null v)
 
 -- the values at one place
 abbrev pub values_at : List ColumnView → ℕ → List Datum

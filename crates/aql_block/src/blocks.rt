@@ -3,17 +3,17 @@
 ghost use Rattle.std.specs.Prelude.{◌≡◌, ◌<◌, ◌^◌, ◌↔◌, ◌++◌, ◌∷◌, [], ◌≤◌, length, map, take, drop, false, IsTrue, IsNone, IsErr, IfSome, IfOk, IfErr, OnOk, OnErr, Some, MatchOption, option_map, slice_get, slice_set};
 ghost use Rattle.aql_value.specs.View.{datum_of, datums_in};
 ghost use Rattle.aql_tree.specs.declared.syntax.Ident.TheVariants.{Num};
-ghost use Rattle.aql_meaning.specs.Row.{empty_row, bind};
+ghost use Rattle.aql_meaning.specs.Row.{empty_row, bind, value_at};
 ghost use Rattle.aql_meaning.specs.Clauses.{with_values};
 ghost use Rattle.aql_block.specs.Rows.{row_of, HasAll, is_among, only, IsFirst};
 ghost use Rattle.aql_block.specs.Tables.{cells, cells_at, rows_of, marked};
 
 use crate::Row;
 use crate::columns::{
-    Column, copy_values, new_columns, push_values, retain_all, row_columns, split_all, take_values,
-    truncate_all,
+    Column, copy_values, new_columns, push_copies, push_values, retain_all, row_columns, split_all,
+    take_values, truncate_all,
 };
-use aql_value::{OutOfMemory, Value};
+use aql_value::{OutOfMemory, Value, copy};
 use std::alloc::Global;
 use std::marker::Model;
 
@@ -221,11 +221,15 @@ impl Block {
         ensures registers { self.new.registers ≡ self.old.registers }
         ensures room { self.new.room ≡ self.old.room }
     {
-        let mut longer = row.to_row(alloc)?;
-        longer.set(var, value)?;
-        match self.append(longer) {
-            Ok(()) => Ok(()),
-            Err(_) => unreachable!(),
+        match push_copies(alloc, &self.registers, &mut self.columns, row, var, value) {
+            Ok(()) => {
+                self.rows += 1;
+                Ok(())
+            }
+            Err(error) => {
+                truncate_all(&mut self.columns, self.rows as usize);
+                Err(error)
+            }
         }
     }
 
@@ -377,6 +381,16 @@ impl RowRef<'_> {
         ensures { IfOk result (λ row. row ≡ self.now) }
     {
         self.block.copy_row(alloc, self.at)
+    }
+
+    // A copy of the value of a variable; null where the row has no such variable.
+    pub(crate) fn copy_value(&self, alloc: Global, var: u32) -> Result<Value, OutOfMemory>
+        ensures { IfOk result (λ v. datum_of v ≡ value_at (row_of self.now) (Num var)) }
+    {
+        match self.value(var) {
+            Some(value) => copy(alloc, value),
+            None => Ok(Value::Null),
+        }
     }
 }
 

@@ -1,15 +1,15 @@
 //! The values of one register.
 
-ghost use Rattle.std.specs.Prelude.{◌≡◌, ◌<◌, ◌≤◌, ◌++◌, ◌∷◌, [], length, map, take, drop, replicate, vec_capacity, IfOk, OnOk, OnErr, Some, option_map, slice_get, slice_set};
+ghost use Rattle.std.specs.Prelude.{ℕ, ◌≡◌, ◌<◌, ◌≤◌, ◌++◌, ◌∷◌, [], length, map, take, drop, replicate, vec_capacity, IfOk, OnOk, OnErr, Some, option_map, slice_get, slice_set};
 ghost use Rattle.std.specs.List.{AllByRecursion};
 ghost use Rattle.aql_value.specs.Datum.{null};
 ghost use Rattle.aql_value.specs.View.{datum_of, datums_in};
 ghost use Rattle.aql_block.specs.Rows.{row_of, HasAll};
 ghost use Rattle.aql_block.specs.Tables.{cells, marked};
-ghost use Rattle.aql_block.specs.Columns.{HasRoom, single_columns, pushed, moved_values, values_at, without, first_of, rest_of, marked_of};
+ghost use Rattle.aql_block.specs.Columns.{HasRoom, single_columns, pushed, moved_values, copied_values, values_at, without, first_of, rest_of, marked_of};
 
-use crate::Row;
 use crate::rows::Entry;
+use crate::{Row, RowRef};
 use aql_value::{OutOfMemory, Value, copy};
 use std::alloc::Global;
 use std::marker::Model;
@@ -189,6 +189,34 @@ pub(crate) fn push_values(registers: &[u32], columns: &mut [Column], row: &mut R
         let value = row.take(*register);
         columns[at].push(value);
     }
+}
+
+// Pushes copies of the values of a row to the ends of the columns, and `value` itself to that of
+// `var`. Where memory runs out some columns have one more value.
+pub(crate) fn push_copies(
+    alloc: Global,
+    registers: &[u32],
+    columns: &mut [Column],
+    row: &RowRef<'_>,
+    var: u32,
+    mut value: Value,
+) -> Result<(), OutOfMemory>
+    requires count { length columns.old ≡ length registers.now }
+    requires room { AllByRecursion HasRoom columns.old }
+    ensures ok { OnOk result (columns.new ≡ pushed columns.old
+        (copied_values registers.now var (row_of row.now) (datum_of value))) }
+    ensures err { OnErr result ((n : ℕ) → AllByRecursion (λ c. length c.held ≡ n) columns.old
+        → map (first_of n) columns.new ≡ columns.old) }
+{
+    for (at, register) in registers.iter().enumerate() {
+        let next = if *register == var {
+            mem::replace(&mut value, Value::Null)
+        } else {
+            row.copy_value(alloc, *register)?
+        };
+        columns[at].push(next);
+    }
+    Ok(())
 }
 
 // Moves the values at a place out of the columns, as a row; null takes their place. The row is made

@@ -1,7 +1,8 @@
 -- Rows cut down to some variables, and which variables the row of some cells has.
 use Rattle.std.proofs.Common.{◌≡◌, ◌∙◌, ℕ, List, [], ◌∷◌, Bool, true, false, cond, refl, ap, sym}
+use Rattle.std.proofs.lemmas.Bool.{eqb-true}
 use mathlib.Core.Path.{fun_ext}
-use Rattle.std.specs.Prelude.{Option, Some, None, is_some, IsSome, unwrap_or, ◌||◌}
+use Rattle.std.specs.Prelude.{Option, Some, None, is_some, IsSome, unwrap_or, ◌||◌, ◌==◌}
 use Rattle.aql_value.specs.Datum.{Datum, null}
 use Rattle.aql_tree.specs.declared.syntax.Ident.{Ident}
 use Rattle.aql_tree.specs.declared.syntax.Ident.TheVariants.{Name, Num}
@@ -9,7 +10,7 @@ use Rattle.aql_meaning.specs.Row.{Row, bind, same_ident, value_at}
 use Rattle.aql_meaning.specs.laws.Idents.{same_is, same_self}
 use Rattle.aql_block.specs.Rows.{Entries, row_of, HasAll, is_among, only}
 use Rattle.aql_block.specs.Tables.{cells}
-use Rattle.aql_block.specs.Columns.{moved_values}
+use Rattle.aql_block.specs.Columns.{moved_values, copied_values}
 
 -- the variable that was set last has its value
 pub bind_self : (x : ℕ) (row : Row) (v : Datum) → bind (Num x) row v (Num x) ≡ Some v
@@ -65,6 +66,23 @@ value_is : (o p : Option Datum) → IsSome o → o ≡ p → Some (unwrap_or o n
 value_is None p none_there e = absurd (cc)
 value_is (Some v) p h e = e
 
+-- a row cut down to one more variable
+only_more : (x : ℕ) (xs : List ℕ) (row others : Row) → IsSome (row (Num x))
+    → ((y : Ident) → same_ident (Num x) y ≡ false → others y ≡ row y)
+    → bind (Num x) (only xs others) (value_at row (Num x)) ≡ only (x ∷ xs) row
+only_more x xs row others h same = fun_ext (λ y. by y (same_ident (Num x) y) refl)
+  where
+    by : (y : Ident) (b : Bool) → same_ident (Num x) y ≡ b
+        → bind (Num x) (only xs others) (value_at row (Num x)) y ≡ only (x ∷ xs) row y
+    by y true e =
+        ap (λ b. cond b (Some (value_at row (Num x))) (only xs others y)) e
+        ∙ value_is (row (Num x)) (row y) h (ap row (same_is (Num x) y e))
+        ∙ sym (ap (λ b. cond (b || is_among xs y) (row y) None) e)
+    by y false e =
+        ap (λ b. cond b (Some (value_at row (Num x))) (only xs others y)) e
+        ∙ ap (λ o. cond (is_among xs y) o None) (same y e)
+        ∙ sym (ap (λ b. cond (b || is_among xs y) (row y) None) e)
+
 -- the values that are taken out of a row give the row, cut down to these variables
 pub only_taken : (xs : List ℕ) (row : Row) → HasAll xs row
     → row_of (cells xs (moved_values xs row)) ≡ only xs row
@@ -72,15 +90,31 @@ only_taken [] row h = refl
 only_taken (x ∷ xs) row h =
     ap (λ r. bind (Num x) r (value_at row (Num x)))
     (only_taken xs (bind (Num x) row null) (has_all_bind xs x row null h.1))
-    ∙ fun_ext (λ y. by y (same_ident (Num x) y) refl)
+    ∙ only_more x xs row (bind (Num x) row null) h.0 (λ y e. ap (λ b. cond b (Some null) (row y)) e)
+
+has_all_again : (xs : List ℕ) (x : ℕ) (row : Row) (v w : Datum) → HasAll xs (bind (Num x) row v)
+    → HasAll xs (bind (Num x) row w)
+has_all_again [] x row v w h = tt
+has_all_again (y ∷ ys) x row v w h =
+    (some (same_ident (Num x) (Num y)) (row (Num y)) h.0, has_all_again ys x row v w h.1)
   where
-    by : (y : Ident) (b : Bool) → same_ident (Num x) y ≡ b
-        → bind (Num x) (only xs (bind (Num x) row null)) (value_at row (Num x)) y ≡ only (x ∷ xs) row y
-    by y true e =
-        ap (λ b. cond b (Some (value_at row (Num x))) (only xs (bind (Num x) row null) y)) e
-        ∙ value_is (row (Num x)) (row y) h.0 (ap row (same_is (Num x) y e))
-        ∙ sym (ap (λ b. cond (b || is_among xs y) (row y) None) e)
-    by y false e =
-        ap (λ b. cond b (Some (value_at row (Num x)))
-        (cond (is_among xs y) (cond b (Some null) (row y)) None)) e
-        ∙ sym (ap (λ b. cond (b || is_among xs y) (row y) None) e)
+    some : (b : Bool) (o : Option Datum) → IsSome (cond b (Some v) o) → IsSome (cond b (Some w) o)
+    some true o g = refl
+    some false o g = g
+
+-- so do the values of which one is moved and the others are copied
+pub only_copied : (xs : List ℕ) (x : ℕ) (row : Row) (v : Datum) → HasAll xs (bind (Num x) row v)
+    → row_of (cells xs (copied_values xs x row v)) ≡ only xs (bind (Num x) row v)
+only_copied [] x row v h = refl
+only_copied (y ∷ ys) x row v h =
+    ap (λ r. bind (Num y) r (value_at (bind (Num x) row v) (Num y)))
+    (only_copied ys x row (cond (x == y) null v) (has_all_again ys x row v (cond (x == y) null v) h.1))
+    ∙ only_more y ys (bind (Num x) row v) (bind (Num x) row (cond (x == y) null v)) h.0
+    (λ z e. same z e (x == y) refl)
+  where
+    same : (z : Ident) → same_ident (Num y) z ≡ false → (b : Bool) → (x == y) ≡ b
+        → bind (Num x) row (cond b null v) z ≡ bind (Num x) row v z
+    same z e true is =
+        let k : same_ident (Num x) z ≡ false = ap (λ n. same_ident (Num n) z) (eqb-true x y is) ∙ e in
+        ap (λ b. cond b (Some null) (row z)) k ∙ sym (ap (λ b. cond b (Some v) (row z)) k)
+    same z e false is = refl

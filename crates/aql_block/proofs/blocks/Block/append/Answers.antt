@@ -1,9 +1,10 @@
-use Rattle.std.proofs.Common.{◌≡◌, ◌∙◌, ◌+◌, ◌<◌, ◌++◌, ◌∷◌, [], ℕ, List, length, Bool, true, false, ap, ap₂, sym, subst, arith}
+use Rattle.std.proofs.Common.{◌≡◌, ◌∙◌, ◌+◌, ◌<◌, ◌++◌, ◌∷◌, [], ℕ, List, length, true, false, ap, ap₂, sym, subst, arith}
 use Rattle.std.specs.List.{AllByRecursion}
 use Rattle.aql_block.specs.Rows.{row_of, HasAll, only}
 use Rattle.aql_block.specs.Tables.{Table, rows_of}
 use Rattle.aql_block.specs.Columns.{ColumnView, HasRoom, rows_in, IsFilled, pushed, moved_values}
-use Rattle.aql_block.proofs.Filled.{all_room, below_room, filled_pushed}
+use Rattle.aql_block.specs.laws.Registers.{only_taken}
+use Rattle.aql_block.proofs.Filled.{all_room, below_room, filled_pushed, length-taken}
 use Rattle.aql_block.proofs.Tabled.{rows_by, rows_held, rows_pushed, with_pushed}
 use Rattle.aql_block.proofs.blocks.Block.append.Goals as goal
 
@@ -52,7 +53,9 @@ invariant_of-self c =
     c.deref_mut.ensures.value c.deref.ensures.value)
     b.columns.ok.0 in
     subst (λ (cs : List ColumnView). IsFilled b.registers.items cs (b.rows + 1) b.room) (sym w)
-    (filled_pushed b.registers.items b.columns.items b.rows b.room (row_of c.args.row) c.self.invariant l)
+    (filled_pushed b.registers.items b.columns.items b.rows b.room
+    (moved_values b.registers.items (row_of c.args.row)) c.self.invariant
+    (length-taken b.registers.items (row_of c.args.row)) l)
 
 pub returns-clause-ok : goal.returns-clause-ok
 returns-clause-ok c =
@@ -64,6 +67,9 @@ returns-clause-ok c =
     c.deref_mut.ensures.value c.deref.ensures.value)
     b.columns.ok.0 in
     ap (λ (cs : List ColumnView). rows_by b.registers.items (rows_in (b.rows + 1) cs)) w
-    ∙ rows_pushed b.registers.items b.columns.items b.rows b.room (row_of c.args.row) c.self.invariant
-    (subst (λ (t : Table). HasAll t.registers (row_of c.args.row)) (sym c.self.view_is) c.requires)
+    ∙ rows_pushed b.registers.items b.columns.items b.rows b.room
+    (moved_values b.registers.items (row_of c.args.row)) (only b.registers.items (row_of c.args.row))
+    c.self.invariant (length-taken b.registers.items (row_of c.args.row))
+    (only_taken b.registers.items (row_of c.args.row)
+    (subst (λ (t : Table). HasAll t.registers (row_of c.args.row)) (sym c.self.view_is) c.requires))
     ∙ ap (λ (t : Table). rows_of t ++ only t.registers (row_of c.args.row) ∷ []) c.self.view_is
