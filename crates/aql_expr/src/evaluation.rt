@@ -1,6 +1,8 @@
 // Evaluation, part by part of an expression.
-ghost use Rattle.std.specs.Prelude.{[], ◌∷◌, ◌≡◌, drop, IfOk, map, OnOk, option_map, true};
+ghost use Rattle.std.specs.Prelude.{[], ◌∷◌, ◌≡◌, cond, drop, IfOk, map, OnOk, option_map, true};
 ghost use Rattle.std.specs.Prelude.{unwrap_or};
+ghost use Rattle.aql_value.specs.Contents.{at_value, list};
+ghost use Rattle.aql_value.specs.Convert as convert;
 ghost use Rattle.aql_value.specs.Database.{Database};
 ghost use Rattle.aql_value.specs.Datum.{boolean, null};
 ghost use Rattle.aql_value.specs.Truth.{truth};
@@ -8,8 +10,11 @@ ghost use Rattle.aql_value.specs.View.{datum_of};
 ghost use Rattle.aql_func.specs.Named.{call_named};
 ghost use Rattle.aql_func.specs.Objects.{with_all};
 ghost use Rattle.aql_func.specs.Operators as operators;
+ghost use Rattle.aql_tree.specs.Tree.{inline_then};
 ghost use Rattle.aql_tree.specs.View.{tree, trees, maybe, members, steps, links};
 ghost use Rattle.aql_tree.specs.View.{member_part, step_part, link_part};
+ghost use Rattle.aql_meaning.specs.Expressions as expressions;
+ghost use Rattle.aql_meaning.specs.Expressions.{object_value};
 ghost use Rattle.aql_meaning.specs.Meaning.{Evaluates};
 ghost use Rattle.aql_meaning.specs.Plain.{IsPlain};
 ghost use Rattle.aql_meaning.specs.Row.{value_at};
@@ -19,8 +24,8 @@ use crate::RowView;
 use crate::contents::{access, attribute, elements, value_or};
 use crate::quantifiers::quantify;
 use crate::rows::{copy_of, value_of};
-use aql_func::{BinOp, arity, binary, call, lookup, range, unary};
-use aql_tree::{Expr, Field, Ident, Link, Step};
+use aql_func::{BinOp, UnaryOp, arity, binary, call, lookup, range, unary};
+use aql_tree::{Expr, Field, Ident, Link, QuantKind, Step};
 use aql_value::{Items, Members, OutOfMemory, Value, copy, to_number, to_text, truthy};
 use std::alloc::Global;
 
@@ -53,62 +58,200 @@ fn evaluate<R: RowView>(
         Expr::Lit(value) => copy(alloc, value),
         Expr::Var(ident) => copy_of(alloc, row, ident),
         Expr::Current => copy(alloc, cur),
-        Expr::List(items) => {
-            let values = evaluate_all(alloc, items.as_slice(), row, cur)?;
-            Ok(Value::List(values))
-        }
-        Expr::Object(fields) => {
-            let members = evaluate_members(alloc, fields.as_slice(), row, cur)?;
-            Ok(Value::Object(members))
-        }
-        Expr::Access { of, steps } => match &**of {
-            Expr::Var(ident) => follow_variable(alloc, steps.as_slice(), row, cur, ident),
-            Expr::Current => follow(alloc, steps.as_slice(), 0, row, cur, cur),
-            of => {
-                let from = evaluate(alloc, of, row, cur)?;
-                follow(alloc, steps.as_slice(), 0, row, cur, &from)
-            }
-        },
-        Expr::Call { name, args } => {
-            let args = evaluate_all(alloc, args.as_slice(), row, cur)?;
-            call_by_name(alloc, name.as_str(), &args)
-        }
-        Expr::Unary { op, of } => {
-            let of = evaluate(alloc, of, row, cur)?;
-            unary(*op, &of)
-        }
-        Expr::Chain { first, rest } => {
-            let first = evaluate(alloc, first, row, cur)?;
-            evaluate_links(alloc, rest.as_slice(), row, cur, first)
-        }
+        Expr::List(items) => evaluate_list(alloc, items.as_slice(), row, cur),
+        Expr::Object(fields) => evaluate_object(alloc, fields.as_slice(), row, cur),
+        Expr::Access { of, steps } => evaluate_access(alloc, of, steps.as_slice(), row, cur),
+        Expr::Call { name, args } => evaluate_call(alloc, name.as_str(), args.as_slice(), row, cur),
+        Expr::Unary { op, of } => evaluate_unary(alloc, *op, of, row, cur),
+        Expr::Chain { first, rest } => evaluate_chain(alloc, first, rest.as_slice(), row, cur),
         Expr::Quant {
             left,
             kind,
             op,
             right,
-        } => {
-            let left = evaluate(alloc, left, row, cur)?;
-            let right = evaluate(alloc, right, row, cur)?;
-            quantify(alloc, *kind, *op, &left, &right)
-        }
-        Expr::Cond { test, yes, no } => {
-            let test = evaluate(alloc, test, row, cur)?;
-            if truthy(&test) {
-                match yes {
-                    Some(yes) => evaluate(alloc, yes, row, cur),
-                    None => Ok(test),
-                }
-            } else {
-                evaluate(alloc, no, row, cur)
-            }
-        }
-        Expr::Range { low, high } => {
-            let low = evaluate(alloc, low, row, cur)?;
-            let high = evaluate(alloc, high, row, cur)?;
-            range(alloc, to_number(&low), to_number(&high))
-        }
+        } => evaluate_comparison(alloc, left, *kind, *op, right, row, cur),
+        Expr::Cond { test, yes, no } => evaluate_condition(alloc, test, yes, no, row, cur),
+        Expr::Range { low, high } => evaluate_range(alloc, low, high, row, cur),
         Expr::Sub(_) => Ok(Value::Null),
     }
+}
+
+// An array literal.
+#[cycle(evaluation)]
+fn evaluate_list<R: RowView>(
+    alloc: Global,
+    items: &[Expr],
+    row: &R,
+    cur: &Value,
+) -> Result<Value, OutOfMemory>
+    ensures { IfOk result (λ v. datum_of v
+        ≡ list (spec.values (trees (map tree items.now)) (datum_of cur.now) (R.vars row.now))) }
+{
+    let values = evaluate_all(alloc, items, row, cur)?;
+    Ok(Value::List(values))
+}
+
+// An object literal.
+#[cycle(evaluation)]
+fn evaluate_object<R: RowView>(
+    alloc: Global,
+    fields: &[Field],
+    row: &R,
+    cur: &Value,
+) -> Result<Value, OutOfMemory>
+    ensures { IfOk result (λ v. datum_of v ≡ object_value
+        (spec.members (members (map member_part fields.now)) (datum_of cur.now) (R.vars row.now))) }
+{
+    let members = evaluate_members(alloc, fields, row, cur)?;
+    Ok(Value::Object(members))
+}
+
+// A part of a variable or of CURRENT is taken without a copy of the whole.
+#[cycle(evaluation)]
+fn evaluate_access<R: RowView>(
+    alloc: Global,
+    of: &Expr,
+    all: &[Step],
+    row: &R,
+    cur: &Value,
+) -> Result<Value, OutOfMemory>
+    ensures { IfOk result (λ v. datum_of v ≡ spec.steps_value (steps (map step_part all.now))
+        (datum_of cur.now) (R.vars row.now)
+        (spec.value (tree of.now) (datum_of cur.now) (R.vars row.now))) }
+{
+    match of {
+        Expr::Var(ident) => follow_variable(alloc, all, row, cur, ident),
+        Expr::Current => follow(alloc, all, 0, row, cur, cur),
+        of => evaluate_accessed(alloc, of, all, row, cur),
+    }
+}
+
+// Any other value is made first, then the steps are taken.
+#[cycle(evaluation)]
+fn evaluate_accessed<R: RowView>(
+    alloc: Global,
+    of: &Expr,
+    all: &[Step],
+    row: &R,
+    cur: &Value,
+) -> Result<Value, OutOfMemory>
+    ensures { IfOk result (λ v. datum_of v ≡ spec.steps_value (steps (map step_part all.now))
+        (datum_of cur.now) (R.vars row.now)
+        (spec.value (tree of.now) (datum_of cur.now) (R.vars row.now))) }
+{
+    let from = evaluate(alloc, of, row, cur)?;
+    follow(alloc, all, 0, row, cur, &from)
+}
+
+#[cycle(evaluation)]
+fn evaluate_call<R: RowView>(
+    alloc: Global,
+    name: &str,
+    args: &[Expr],
+    row: &R,
+    cur: &Value,
+) -> Result<Value, OutOfMemory>
+    ensures { IfOk result (λ v. datum_of v ≡ call_named name.now
+        (spec.values (trees (map tree args.now)) (datum_of cur.now) (R.vars row.now))) }
+{
+    let args = evaluate_all(alloc, args, row, cur)?;
+    call_by_name(alloc, name, &args)
+}
+
+#[cycle(evaluation)]
+fn evaluate_unary<R: RowView>(
+    alloc: Global,
+    op: UnaryOp,
+    of: &Expr,
+    row: &R,
+    cur: &Value,
+) -> Result<Value, OutOfMemory>
+    ensures { IfOk result (λ v. datum_of v
+        ≡ operators.unary op (spec.value (tree of.now) (datum_of cur.now) (R.vars row.now))) }
+{
+    let of = evaluate(alloc, of, row, cur)?;
+    unary(op, &of)
+}
+
+#[cycle(evaluation)]
+fn evaluate_chain<R: RowView>(
+    alloc: Global,
+    first: &Expr,
+    rest: &[Link],
+    row: &R,
+    cur: &Value,
+) -> Result<Value, OutOfMemory>
+    ensures { IfOk result (λ v. datum_of v ≡ spec.links_value (links (map link_part rest.now))
+        (datum_of cur.now) (R.vars row.now)
+        (spec.value (tree first.now) (datum_of cur.now) (R.vars row.now))) }
+{
+    let first = evaluate(alloc, first, row, cur)?;
+    evaluate_links(alloc, rest, row, cur, first)
+}
+
+// An array comparison, as `left ALL op right`.
+#[cycle(evaluation)]
+fn evaluate_comparison<R: RowView>(
+    alloc: Global,
+    left: &Expr,
+    kind: QuantKind,
+    op: BinOp,
+    right: &Expr,
+    row: &R,
+    cur: &Value,
+) -> Result<Value, OutOfMemory>
+    ensures { IfOk result (λ v. datum_of v ≡ expressions.quantify kind op
+        (spec.value (tree left.now) (datum_of cur.now) (R.vars row.now))
+        (spec.value (tree right.now) (datum_of cur.now) (R.vars row.now))) }
+{
+    let left = evaluate(alloc, left, row, cur)?;
+    let right = evaluate(alloc, right, row, cur)?;
+    quantify(alloc, kind, op, &left, &right)
+}
+
+// `test ? yes : no`.
+#[cycle(evaluation)]
+fn evaluate_condition<R: RowView>(
+    alloc: Global,
+    test: &Expr,
+    yes: &Option<Box<Expr>>,
+    no: &Expr,
+    row: &R,
+    cur: &Value,
+) -> Result<Value, OutOfMemory>
+    ensures { IfOk result (λ v. datum_of v
+        ≡ cond (truth (spec.value (tree test.now) (datum_of cur.now) (R.vars row.now)))
+        (spec.value_or (maybe (option_map (λ b. tree b.value) yes.now)) (datum_of cur.now)
+        (R.vars row.now)
+        (spec.value (tree test.now) (datum_of cur.now) (R.vars row.now)))
+        (spec.value (tree no.now) (datum_of cur.now) (R.vars row.now))) }
+{
+    let test = evaluate(alloc, test, row, cur)?;
+    if truthy(&test) {
+        match yes {
+            Some(yes) => evaluate(alloc, yes, row, cur),
+            None => Ok(test),
+        }
+    } else {
+        evaluate(alloc, no, row, cur)
+    }
+}
+
+#[cycle(evaluation)]
+fn evaluate_range<R: RowView>(
+    alloc: Global,
+    low: &Expr,
+    high: &Expr,
+    row: &R,
+    cur: &Value,
+) -> Result<Value, OutOfMemory>
+    ensures { IfOk result (λ v. datum_of v ≡ operators.range
+        (convert.to_number (spec.value (tree low.now) (datum_of cur.now) (R.vars row.now)))
+        (convert.to_number (spec.value (tree high.now) (datum_of cur.now) (R.vars row.now)))) }
+{
+    let low = evaluate(alloc, low, row, cur)?;
+    let high = evaluate(alloc, high, row, cur)?;
+    range(alloc, to_number(&low), to_number(&high))
 }
 
 #[cycle(evaluation)]
@@ -121,7 +264,7 @@ fn evaluate_all<R: RowView>(
     ensures { IfOk result (λ w. w
         ≡ spec.values (trees (map tree exprs.now)) (datum_of cur.now) (R.vars row.now)) }
 {
-    let mut out = Items::new(alloc);
+    let mut out = Items::with_room(alloc, exprs.len())?;
     for expr in exprs {
         out.push(evaluate(alloc, expr, row, cur)?)?;
     }
@@ -203,23 +346,58 @@ fn follow<R: RowView>(
     for at in start..all.len() {
         match &all[at] {
             Step::Name(name) => value = attribute(value, name.as_str(), null),
-            Step::At(which) => {
-                let which = evaluate(alloc, which, row, cur)?;
-                value = access(value, &which, null);
-            }
+            Step::At(which) => value = access_at(alloc, which, row, cur, value, null)?,
             Step::Each { filter, project } => {
-                let mut out = Items::new(alloc);
-                for element in elements(value) {
-                    if is_kept(alloc, filter, row, element)? {
-                        let given = projection_of(alloc, project, row, element)?;
-                        out.push(follow_given(alloc, all, at + 1, row, cur, given, element)?)?;
-                    }
-                }
-                return Ok(Value::List(out));
+                return follow_each(alloc, all, at + 1, row, cur, value, filter, project);
             }
         }
     }
     copy(alloc, value)
+}
+
+// `value[which]`; null where there is no such part.
+#[cycle(evaluation)]
+fn access_at<'a, R: RowView>(
+    alloc: Global,
+    which: &Expr,
+    row: &R,
+    cur: &Value,
+    value: &'a Value,
+    missing: &'a Value,
+) -> Result<&'a Value, OutOfMemory>
+    requires { datum_of missing.now ≡ null }
+    ensures { IfOk result (λ v. datum_of v.now ≡ at_value (datum_of value.now)
+        (spec.value (tree which.now) (datum_of cur.now) (R.vars row.now))) }
+{
+    let which = evaluate(alloc, which, row, cur)?;
+    Ok(access(value, &which, missing))
+}
+
+// The elements that an inline expression keeps, each followed on from the step at `next`.
+#[cycle(evaluation)]
+fn follow_each<R: RowView>(
+    alloc: Global,
+    all: &[Step],
+    next: usize,
+    row: &R,
+    cur: &Value,
+    value: &Value,
+    filter: &Option<Expr>,
+    project: &Option<Expr>,
+) -> Result<Value, OutOfMemory>
+    ensures { IfOk result (λ v. datum_of v ≡ spec.steps_value
+        (inline_then (maybe (option_map tree filter.now)) (maybe (option_map tree project.now))
+        (steps (map step_part (drop next all.now))))
+        (datum_of cur.now) (R.vars row.now) (datum_of value.now)) }
+{
+    let mut out = Items::new(alloc);
+    for element in elements(value) {
+        if is_kept(alloc, filter, row, element)? {
+            let given = projection_of(alloc, project, row, element)?;
+            out.push(follow_given(alloc, all, next, row, cur, given, element)?)?;
+        }
+    }
+    Ok(Value::List(out))
 }
 
 // Whether an inline expression keeps the element.
