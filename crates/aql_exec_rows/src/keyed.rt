@@ -10,7 +10,7 @@ ghost use Rattle.aql_meaning.specs.AtRows.{keys_of};
 ghost use Rattle.aql_meaning.specs.Clauses.{KeyedRow, key_cmp, keys_cmp, comes_before};
 ghost use Rattle.aql_block.specs.Rows.{row_of};
 ghost use Rattle.aql_block.specs.Tables.{rows_of};
-ghost use Rattle.aql_exec_rows.specs.Keys.{with_keys, keyed_in, first_of};
+ghost use Rattle.aql_exec_rows.specs.Keys.{values_in, with_keys, keyed_in, first_of};
 
 use aql_block::{Block, Row};
 use aql_expr::eval;
@@ -18,12 +18,31 @@ use aql_tree::Key;
 use aql_value::{OutOfMemory, Value, cmp};
 use std::alloc::Global;
 use std::cmp::Ordering;
+use std::slice;
+
+/// The values of keys. One that is alone stands without a list of its own.
+#[derive(Drop)]
+pub(crate) enum KeyValues {
+    One(Value),
+    Several(Vec<Value>),
+}
 
 /// A row with the values of its keys.
 #[derive(Drop)]
 pub(crate) struct Keyed {
-    pub(crate) keys: Vec<Value>,
+    pub(crate) keys: KeyValues,
     pub(crate) row: Row,
+}
+
+impl KeyValues {
+    fn as_slice(&self) -> &[Value]
+        ensures { datums_in result.now ≡ values_in self.now }
+    {
+        match self {
+            KeyValues::One(value) => slice::from_ref(value),
+            KeyValues::Several(values) => values.as_slice(),
+        }
+    }
 }
 
 impl Keyed {
@@ -36,7 +55,18 @@ impl Keyed {
 }
 
 // The values of the keys at a row, in order.
-fn keys_at(alloc: Global, keys: &[Key], row: &Row) -> Result<Vec<Value>, OutOfMemory>
+fn keys_at(alloc: Global, keys: &[Key], row: &Row) -> Result<KeyValues, OutOfMemory>
+    requires { AllPlain (key_trees keys.now) }
+    ensures { IfOk result (λ values. values_in values ≡ keys_of (key_trees keys.now) (row_of row.now)) }
+{
+    match keys {
+        [key] => Ok(KeyValues::One(eval(alloc, &key.expr, row)?)),
+        _ => Ok(KeyValues::Several(list_at(alloc, keys, row)?)),
+    }
+}
+
+// The same as a list.
+fn list_at(alloc: Global, keys: &[Key], row: &Row) -> Result<Vec<Value>, OutOfMemory>
     requires { AllPlain (key_trees keys.now) }
     ensures { IfOk result
         (λ values. datums_in values.items ≡ keys_of (key_trees keys.now) (row_of row.now)) }
@@ -112,7 +142,7 @@ fn sort_rows(keys: &[Key], held: &mut Vec<Keyed>) -> Result<(), OutOfMemory>
     ensures sorted { OnOk result
         (IsSortedBy (comes_before (directions keys.now)) (keyed_in held.new.items)) }
 {
-    held.sort_by(|left, right| compare(keys, &left.keys, &right.keys))?;
+    held.sort_by(|left, right| compare(keys, left.keys.as_slice(), right.keys.as_slice()))?;
     Ok(())
 }
 
