@@ -5,7 +5,8 @@ use Rattle.std.specs.List.{AllByRecursion}
 use Rattle.aql_meaning.specs.Numbered.{IsNumber}
 use Rattle.aql_meaning.specs.declared.grouping.Stage.TheVariants as stage
 use Rattle.aql_plan.specs.declared.facts.Facts.{Facts}
-use Rattle.aql_plan.specs.Plan.{Plan, Singleton, Over, Node, Index, Traversal, Subquery, Collect, NoResults}
+use Rattle.aql_plan.specs.Plan.{Plan, Singleton, Over, Node, EnumerateCollection, EnumerateList, Index, Traversal}
+use Rattle.aql_plan.specs.Plan.{Subquery, Collect, NoResults}
 use Rattle.aql_plan.specs.Needs.{sets}
 use Rattle.aql_exec.specs.Operators.{Operator, NoRows, OnRows, WithBody, OperatorTree, leaf}
 use Rattle.aql_engine.specs.OperatorsOf.{operators_of}
@@ -29,6 +30,14 @@ node_gives_none n = false
 abbrev pub gives_none : Plan → Bool
 gives_none Singleton = false
 gives_none (Over b n) = node_gives_none n
+
+-- a node gives several rows for one of its input
+abbrev pub IsEnumeration : Node → Type 0
+IsEnumeration (EnumerateCollection x) = Unit {0}
+IsEnumeration (EnumerateList x e) = Unit {0}
+IsEnumeration (Index x index equal last ordered) = Unit {0}
+IsEnumeration (Traversal shape e colls prune keep) = Unit {0}
+IsEnumeration n = ⊥
 
 abbrev pub IsIndexNode : Node → Type 0
 IsIndexNode (Index x index equal last ordered) = Unit {0}

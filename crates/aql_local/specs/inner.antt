@@ -1,2 +1,3 @@
 pub mod EdgeSteps
 pub mod Lookups
+pub mod Running

@@ -5,34 +5,28 @@ ghost use Rattle.aql_plan.specs.declared.facts.Facts.{Facts};
 ghost use Rattle.aql_plan.specs.Plan as spec;
 ghost use Rattle.aql_plan.specs.Fits.{Fits};
 ghost use Rattle.aql_plan.specs.View.{node_tree, plan_tree};
-ghost use Rattle.aql_exec.specs.Operators.{StartRow, NoRows, OnRows};
-ghost use Rattle.aql_exec_graph.specs.Searches as graph;
+ghost use Rattle.aql_exec.specs.Operators.{StartRow, NoRows};
 ghost use Rattle.aql_engine.specs.EachFits.{EachFits, BodyFits};
 ghost use Rattle.aql_engine.specs.OperatorsOf.{operators_of};
 ghost use Rattle.aql_shard.specs.Datasets.{stock};
 ghost use Rattle.aql_local.specs.Building.{operator_of, body_operators, gives_none, node_gives_none};
-ghost use Rattle.aql_local.specs.Building.{IsIndexNode, IsTraversal, SetsNumbers, NodeSetsNumbers};
+ghost use Rattle.aql_local.specs.Building.{SetsNumbers, NodeSetsNumbers};
 ghost use Rattle.aql_local.specs.Fragments.{StandsApart, StandsOutside, is_gather};
 ghost use Rattle.aql_local.specs.Fragments.{gather_operator};
 
 use crate::World;
-use crate::bounds::copy_last;
 use crate::fragments::{ShardExecutor, below_foot, foot_of, with_body};
 use crate::gathers::{OfNode, gather_executor, unlinked};
 use crate::nodes::{
-    UnlinkedNode, calculation, collect, distinct_results, enumerate_collection, enumerate_list,
-    filter, index, limit, no_results, results, sort, start_row, subquery, traversal,
+    EnumerationExecutor, UnlinkedNode, calculation, collect, distinct_results, enumeration, filter,
+    limit, no_results, results, sort, start_row, subquery,
 };
 use crate::reach::shards_reached;
-use crate::readings::reading_of;
 use aql_engine::Tree;
 use aql_exec::{Executor, Feed, Unlinked, Wired};
-use aql_exec_graph::Search;
 use aql_plan::{Node, Plan};
 use aql_shard::Servers;
-use aql_tree::{
-    copy_aggregates, copy_colls, copy_expr, copy_exprs, copy_into, copy_keys, copy_lets, copy_maybe,
-};
+use aql_tree::{copy_aggregates, copy_expr, copy_into, copy_keys, copy_lets};
 use aql_value::OutOfMemory;
 use std::alloc::Global;
 
@@ -82,16 +76,16 @@ pub trait UnlinkedExecutor: Unlinked<World> + Drop {
         ensures { IfOk result (λ x. Self.node x ≡ operator_of (spec.top (plan_tree plan.now))) };
 }
 
-impl UnlinkedExecutor for UnlinkedNode {
-    fn start_row() -> UnlinkedNode {
+impl<E: EnumerationExecutor> UnlinkedExecutor for UnlinkedNode<E> {
+    fn start_row() -> UnlinkedNode<E> {
         start_row()
     }
 
-    fn no_results() -> UnlinkedNode {
+    fn no_results() -> UnlinkedNode<E> {
         no_results()
     }
 
-    fn of_node(alloc: Global, plan: &Plan) -> Result<UnlinkedNode, OutOfMemory> {
+    fn of_node(alloc: Global, plan: &Plan) -> Result<UnlinkedNode<E>, OutOfMemory> {
         top_executor(alloc, plan)
     }
 }
@@ -222,11 +216,14 @@ fn is_no_results(plan: &Plan) -> bool
 }
 
 // The executor of the node at the top of a plan.
-fn top_executor(alloc: Global, plan: &Plan) -> Result<UnlinkedNode, OutOfMemory>
+fn top_executor<E: EnumerationExecutor>(
+    alloc: Global,
+    plan: &Plan,
+) -> Result<UnlinkedNode<E>, OutOfMemory>
     requires outside { StandsOutside (spec.top (plan_tree plan.now)) }
     requires fits { (facts : Facts) × Fits facts (spec.top (plan_tree plan.now)) }
     requires numbers { NodeSetsNumbers (spec.top (plan_tree plan.now)) }
-    ensures { IfOk result (λ x. ⟦<UnlinkedNode as Executor<World>>⟧.node x
+    ensures { IfOk result (λ x. ⟦<UnlinkedNode<E> as Executor<World>>⟧.node x
         ≡ operator_of (spec.top (plan_tree plan.now))) }
 {
     match plan {
@@ -237,30 +234,22 @@ fn top_executor(alloc: Global, plan: &Plan) -> Result<UnlinkedNode, OutOfMemory>
 }
 
 // The executor of a node without a body.
-fn executor_of(alloc: Global, node: &Node) -> Result<UnlinkedNode, OutOfMemory>
+fn executor_of<E: EnumerationExecutor>(
+    alloc: Global,
+    node: &Node,
+) -> Result<UnlinkedNode<E>, OutOfMemory>
     requires outside { StandsOutside (node_tree node.now) }
     requires fits { (facts : Facts) × Fits facts (node_tree node.now) }
     requires numbers { NodeSetsNumbers (node_tree node.now) }
-    ensures { IfOk result (λ x. ⟦<UnlinkedNode as Executor<World>>⟧.node x
+    ensures { IfOk result (λ x. ⟦<UnlinkedNode<E> as Executor<World>>⟧.node x
         ≡ operator_of (node_tree node.now)) }
 {
     match node {
         Node::NoResults => Ok(no_results()),
-        Node::EnumerateCollection {
-            var,
-            coll,
-            filter,
-            attrs,
-            shard,
-        } => {
-            let reading = reading_of(alloc, *var, *coll, filter, attrs, *shard)?;
-            Ok(enumerate_collection(alloc, reading))
-        }
-        Node::Index { .. } => Ok(index_of(alloc, node)?),
-        Node::EnumerateList { var, list, .. } => {
-            Ok(enumerate_list(alloc, *var, copy_expr(alloc, list)?))
-        }
-        Node::Traversal { .. } => Ok(traversal(alloc, search_of(alloc, node)?)),
+        Node::EnumerateCollection { .. }
+        | Node::Index { .. }
+        | Node::EnumerateList { .. }
+        | Node::Traversal { .. } => Ok(enumeration(E::of_node(alloc, node)?)),
         Node::Calculation { var, expr, .. } => {
             Ok(calculation(alloc, *var, copy_expr(alloc, expr)?))
         }
@@ -287,70 +276,6 @@ fn executor_of(alloc: Global, node: &Node) -> Result<UnlinkedNode, OutOfMemory>
             }
             Ok(results(alloc, expr))
         }
-        _ => unreachable!(),
-    }
-}
-
-// FOR over a collection by an index.
-fn index_of(alloc: Global, node: &Node) -> Result<UnlinkedNode, OutOfMemory>
-    requires index { IsIndexNode (node_tree node.now) }
-    ensures { IfOk result (λ x. ⟦<UnlinkedNode as Executor<World>>⟧.node x
-        ≡ OnRows (node_tree node.now)) }
-{
-    match node {
-        Node::Index {
-            var,
-            coll,
-            filter,
-            attrs,
-            shard,
-            index: number,
-            equal,
-            last,
-            ordered,
-        } => {
-            let reading = reading_of(alloc, *var, *coll, filter, attrs, *shard)?;
-            let equal = copy_exprs(alloc, equal.as_slice())?;
-            let last = copy_last(alloc, last)?;
-            Ok(index(alloc, reading, *number, equal, last, *ordered))
-        }
-        _ => unreachable!(),
-    }
-}
-
-// What a traversal is set to.
-fn search_of(alloc: Global, node: &Node) -> Result<Search, OutOfMemory>
-    requires traversal { IsTraversal (node_tree node.now) }
-    ensures { IfOk result (λ s. graph.node_of s ≡ node_tree node.now) }
-{
-    match node {
-        Node::Traversal {
-            vertex,
-            edge,
-            path,
-            min,
-            max,
-            direction,
-            start,
-            collections,
-            prune,
-            options,
-            filter,
-        } => Ok(Search {
-            vertex: *vertex,
-            edge: *edge,
-            path: *path,
-            min: *min,
-            max: *max,
-            direction: *direction,
-            unique_edges: options.edges,
-            unique_vertices: options.vertices,
-            bfs: options.bfs,
-            start: copy_expr(alloc, start)?,
-            collections: copy_colls(alloc, collections.as_slice())?,
-            prune: copy_maybe(alloc, prune)?,
-            filter: copy_maybe(alloc, filter)?,
-        }),
         _ => unreachable!(),
     }
 }

@@ -9,12 +9,13 @@ ghost use Rattle.aql_shard.specs.Datasets.{stock};
 ghost use Rattle.aql_engine.specs.EachFits.{FewShards};
 ghost use Rattle.aql_engine.specs.Engine.{CanRun, IsRunOver, OwnCounted};
 ghost use Rattle.aql_engine.specs.Run.{PickedBy};
+ghost use Rattle.aql_local.specs.inner.Running.{HasRun};
 
 use crate::World;
 use crate::building::{PlanExecutor, UnlinkedExecutor, tree_of};
 use crate::fragments::ShardExecutor;
 use crate::gathers::OfNode;
-use crate::nodes::UnlinkedNode;
+use crate::nodes::{Enumeration, EnumerationExecutor, UnlinkedNode};
 use crate::reach::recall_few_shards;
 use crate::results::results_of;
 use crate::shard_nodes::{OnShard, UnlinkedOnShard, UnlinkedShardExecutor};
@@ -61,13 +62,7 @@ fn run_on<U: UnlinkedShardExecutor, P: Picker>(
 ) -> Result<Ran, OutOfMemory>
     requires plan { CanRun (stock servers.old) plan }
     requires batch { (1 ≤ batch) × (batch ≤ 10000) }
-    ensures stock { stock servers.new ≡ stock servers.old }
-    ensures run { IfOk result (λ ran. (ran.plan ≡ plan) × (ran.batch ≡ batch)
-        × IsRunOver (stock servers.old) ran) }
-    ensures counted { IfOk result
-        (λ ran. OwnCounted servers.old.counts servers.new.counts ran.tally) }
-    ensures picked { IfOk result
-        (λ ran. PickedBy P.picks picker.old (picks_in ran.log) picker.new) }
+    ensures { HasRun P.picks plan batch servers.old servers.new picker.old picker.new result }
 {
     run_on_shards::<OnShard<U>, P>(alloc, plan, servers, picker, batch)
 }
@@ -82,15 +77,24 @@ fn run_on_shards<X: ShardExecutor, P: Picker>(
 ) -> Result<Ran, OutOfMemory>
     requires plan { CanRun (stock servers.old) plan }
     requires batch { (1 ≤ batch) × (batch ≤ 10000) }
-    ensures stock { stock servers.new ≡ stock servers.old }
-    ensures run { IfOk result (λ ran. (ran.plan ≡ plan) × (ran.batch ≡ batch)
-        × IsRunOver (stock servers.old) ran) }
-    ensures counted { IfOk result
-        (λ ran. OwnCounted servers.old.counts servers.new.counts ran.tally) }
-    ensures picked { IfOk result
-        (λ ran. PickedBy P.picks picker.old (picks_in ran.log) picker.new) }
+    ensures { HasRun P.picks plan batch servers.old servers.new picker.old picker.new result }
 {
-    run_by::<UnlinkedNode, X, P>(alloc, plan, servers, picker, batch)
+    run_beside::<Enumeration, X, P>(alloc, plan, servers, picker, batch)
+}
+
+// The same by executors of any such types of nodes that give several rows for one, and on shards.
+fn run_beside<E: EnumerationExecutor, X: ShardExecutor, P: Picker>(
+    alloc: Global,
+    plan: Plan,
+    servers: &mut Servers,
+    picker: &mut P,
+    batch: u32,
+) -> Result<Ran, OutOfMemory>
+    requires plan { CanRun (stock servers.old) plan }
+    requires batch { (1 ≤ batch) × (batch ≤ 10000) }
+    ensures { HasRun P.picks plan batch servers.old servers.new picker.old picker.new result }
+{
+    run_by::<UnlinkedNode<E>, X, P>(alloc, plan, servers, picker, batch)
 }
 
 // The same by executors of any such types of nodes that own no link, and of nodes on shards.
@@ -103,13 +107,7 @@ fn run_by<U: UnlinkedExecutor, X: ShardExecutor, P: Picker>(
 ) -> Result<Ran, OutOfMemory>
     requires plan { CanRun (stock servers.old) plan }
     requires batch { (1 ≤ batch) × (batch ≤ 10000) }
-    ensures stock { stock servers.new ≡ stock servers.old }
-    ensures run { IfOk result (λ ran. (ran.plan ≡ plan) × (ran.batch ≡ batch)
-        × IsRunOver (stock servers.old) ran) }
-    ensures counted { IfOk result
-        (λ ran. OwnCounted servers.old.counts servers.new.counts ran.tally) }
-    ensures picked { IfOk result
-        (λ ran. PickedBy P.picks picker.old (picks_in ran.log) picker.new) }
+    ensures { HasRun P.picks plan batch servers.old servers.new picker.old picker.new result }
 {
     run_with::<OfNode<U, X>, P>(alloc, plan, servers, picker, batch)
 }
