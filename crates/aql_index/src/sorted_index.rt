@@ -89,7 +89,7 @@ impl SortedIndex {
         deal(alloc, self.width, self.entries.as_slice(), shards, count)
     }
 
-    // An index of no documents over so many attributes, with room for some entries.
+    /// An index of no documents over so many attributes, with room for some entries.
     pub(crate) fn with_room(
         alloc: Global,
         width: usize,
@@ -101,7 +101,7 @@ impl SortedIndex {
         Ok(SortedIndex { width, entries })
     }
 
-    // Appends an entry that stands behind all that are there.
+    /// Appends an entry that stands behind all that are there.
     pub(crate) fn append(&mut self, entry: Entry) -> Result<(), OutOfMemory>
         requires { IsIndex self.old.width (self.old.entries ++ entry ∷ []) }
         ensures { OnOk result (self.new

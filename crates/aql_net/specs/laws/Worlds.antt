@@ -60,8 +60,8 @@ closed-is p w t is told l =
     let talk = talk_on l t.log in
     let on = filter (λ (e : Envelope). e.link == l) t.flying in
     ap (λ (z : Line). closed_by z.talk z.flying) (is.flight l) ∙ closed-map (λ (e : Envelope). e.message) talk on
-    ∙ sym (ap (λ z. closed_by talk (filter (λ (m : Dispatch). m.link == l) z)) told ∙ ap (closed_by talk) (told-on l t.flying)
-    ∙ closed-map dispatch_of talk on)
+    ∙ sym (ap (λ z. closed_by talk (filter (λ (m : Dispatch). m.link == l) z)) told
+    ∙ ap (closed_by talk) (told-on l t.flying) ∙ closed-map dispatch_of talk on)
 
 module _ {W : Type 0} (p : Surroundings.Ghosts W) (w w' : W) (t t' : Traffic)
     (is : LinksOf p w t) (is' : LinksOf p w' t') (stock : p.stock w' ≡ p.stock w) where
