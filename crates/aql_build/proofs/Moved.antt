@@ -1,5 +1,5 @@
 -- The items of a list move into the plan one after another; what stays in their places is not looked at.
-use Rattle.std.proofs.Common.{◌≡◌, ◌∙◌, ℕ, ◌+◌, ◌<◌, ◌≤◌, List, [], ◌∷◌, length, get_or, drop, map, sym, ap, subst}
+use Rattle.std.proofs.Common.{◌≡◌, ◌∙◌, ℕ, Bool, ◌+◌, ◌<◌, ◌≤◌, List, [], ◌∷◌, length, get_or, drop, map, sym, ap, subst}
 use Rattle.std.proofs.lemmas.List.{drop_all}
 use Rattle.aql_tree.specs.declared.syntax.Link.{Link}
 use Rattle.aql_tree.specs.declared.syntax.Clause.{Clause}
@@ -40,22 +40,22 @@ pub sides_moved : (all : List Link) (i : ℕ) (plan whole : Plan) → drop i all
 sides_moved all i plan whole none h =
     ap (λ (ls : List Link). filters plan (right_sides (links (map link_part ls)))) (sym none) ∙ h
 
-module _ (facts : Facts) where
+module _ (facts : Facts) (split : Bool) where
   -- one more clause has its nodes
   pub clause_moved : (all : List Clause) (i : ℕ) (x : Clause) (plan then whole : Plan)
       → drop i all ≡ x ∷ drop (i + 1) all
-      → after_clauses facts plan (clauses (map clause_tree (drop i all))) ≡ whole
-      → then ≡ after_clause facts plan (clause_tree x)
-      → after_clauses facts then (clauses (map clause_tree (drop (i + 1) all))) ≡ whole
+      → after_clauses facts split plan (clauses (map clause_tree (drop i all))) ≡ whole
+      → then ≡ after_clause facts split plan (clause_tree x)
+      → after_clauses facts split then (clauses (map clause_tree (drop (i + 1) all))) ≡ whole
   clause_moved all i x plan then whole here h is =
-      ap (λ (p : Plan). after_clauses facts p (clauses (map clause_tree (drop (i + 1) all)))) is
-      ∙ ap (λ (cs : List Clause). after_clauses facts plan (clauses (map clause_tree cs))) (sym here)
+      ap (λ (p : Plan). after_clauses facts split p (clauses (map clause_tree (drop (i + 1) all)))) is
+      ∙ ap (λ (cs : List Clause). after_clauses facts split plan (clauses (map clause_tree cs))) (sym here)
       ∙ h
 
   pub clauses_moved : (all : List Clause) (i : ℕ) (plan whole : Plan) → drop i all ≡ []
-      → after_clauses facts plan (clauses (map clause_tree (drop i all))) ≡ whole → plan ≡ whole
+      → after_clauses facts split plan (clauses (map clause_tree (drop i all))) ≡ whole → plan ≡ whole
   clauses_moved all i plan whole none h =
-      ap (λ (cs : List Clause). after_clauses facts plan (clauses (map clause_tree cs))) (sym none) ∙ h
+      ap (λ (cs : List Clause). after_clauses facts split plan (clauses (map clause_tree cs))) (sym none) ∙ h
 
 -- the clause at hand has numbers, and the rest
 pub numbers_split : (all : List Clause) (i : ℕ) (x : Clause) → drop i all ≡ x ∷ drop (i + 1) all

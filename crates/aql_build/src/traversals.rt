@@ -1,6 +1,6 @@
 //! The node of a traversal.
 
-ghost use Rattle.std.specs.Prelude.{◌≡◌, ◌<◌, ◌^◌, ◌++◌, ◌∷◌, IfOk, map, length, filter, not, bytes_eq, option_map, option_to_list};
+ghost use Rattle.std.specs.Prelude.{true, ◌≡◌, ◌<◌, ◌^◌, ◌++◌, ◌∷◌, IfOk, map, length, filter, not, bytes_eq, option_map, option_to_list};
 ghost use Rattle.std.specs.List.{AllByRecursion, list_any};
 ghost use Rattle.aql_value.specs.declared.lists.CollNo.{CollNo};
 ghost use Rattle.aql_tree.specs.View.{traversal_part, traversal_clause};
@@ -37,7 +37,7 @@ fn collection_numbers(alloc: Global, names: &[Text], facts: &Facts) -> Result<Co
     Ok(numbers)
 }
 
-/// FOR over paths.
+/// FOR over paths. It has no conditions that could be split.
 pub fn paths(
     traversal: &mut Traversal,
     below: Plan,
@@ -46,7 +46,7 @@ pub fn paths(
 ) -> Result<Plan, OutOfMemory>
     requires few { length facts.now.collections < 2 ^ 32 }
     requires vars { AllByRecursion IsNumber (traversal_vars (traversal_part traversal.old).0) }
-    ensures { IfOk result (λ p. plan_tree p ≡ after_clause facts.now (plan_tree below)
+    ensures { IfOk result (λ p. plan_tree p ≡ after_clause facts.now true (plan_tree below)
         (traversal_clause (traversal_part traversal.old))) }
 {
     let collections = collection_numbers(alloc, traversal.collections.as_slice(), facts)?;

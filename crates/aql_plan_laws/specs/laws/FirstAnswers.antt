@@ -1,6 +1,6 @@
 -- Each list of the first plan of a scoped query is an answer of the query.
 use Rattle.std.proofs.Common.{◌≡◌, ◌∙◌, ℕ, suc, List, [], ◌∷◌, ◌++◌, map, Bool, true, false, true≢false, cond, refl, ap, ap₂, sym, subst}
-use Rattle.std.specs.Prelude.{Option, None, MatchOption, filter, flat_map, bytes_eq, IsPermutation, ◌&&◌}
+use Rattle.std.specs.Prelude.{nat_le, Option, None, MatchOption, filter, flat_map, bytes_eq, IsPermutation, ◌&&◌}
 use Rattle.std.specs.List.{AllZip}
 use Rattle.aql_value.specs.Datum.{Datum, null}
 use Rattle.aql_value.specs.Contents.{list}
@@ -31,7 +31,7 @@ use Rattle.aql_plan.specs.Plan.{Plan, Singleton, Over, Filter}
 use Rattle.aql_plan.specs.Runs.{Dataset, Outside, edges_in, result_row, result_of, Runs}
 use Rattle.aql_meaning.specs.AtRows.{values_of, keys_of, passes, stops}
 use Rattle.aql_plan.specs.Refines.{dataset, Answers}
-use Rattle.aql_plan.specs.FirstPlan.{number_among, coll_number, all_and, right_sides, conjuncts, filters, after_clause, after_clauses, first_plan}
+use Rattle.aql_plan.specs.FirstPlan.{number_among, coll_number, all_and, right_sides, conjuncts, conditions, conditions_of, filters, after_clause, after_clauses, plan_of, first_plan}
 
 -- ---- words of clauses and of nodes
 
@@ -138,15 +138,20 @@ linked_truth (link_then And e ls) h row a =
     ∙ and_grouped (truth a) (truth (value e null row)) (all_hold (right_sides ls) row)
 linked_truth (link_then op e ls) h row a = absurd (true≢false (sym h))
 
-parts_hold : (e : ExprTree) (row : Row) → truth (value e null row) ≡ all_hold (conjuncts e) row
-parts_hold (chain e ls) row = by (all_and ls) refl
+conjuncts_hold : (e : ExprTree) (row : Row) → truth (value e null row) ≡ all_hold (conjuncts e) row
+conjuncts_hold (chain e ls) row = by (all_and ls) refl
   where
     by : (b : Bool) → all_and ls ≡ b
         → truth (links_value ls null row (value e null row))
         ≡ all_hold (cond b (e ∷ right_sides ls) (chain e ls ∷ [])) row
     by true h = linked_truth ls h row (value e null row)
     by false h = and_true (truth (links_value ls null row (value e null row)))
-parts_hold e row = and_true (truth (value e null row))
+conjuncts_hold e row = and_true (truth (value e null row))
+
+conditions_hold : (split : Bool) (e : ExprTree) (row : Row)
+    → truth (value e null row) ≡ all_hold (conditions_of split e) row
+conditions_hold true e row = conjuncts_hold e row
+conditions_hold false e row = and_true (truth (value e null row))
 
 no_collection : (e : ExprTree) → IsNoName e → (start : Row) (vars : List Ident)
     → collection_meant e start vars ≡ None
@@ -158,7 +163,7 @@ results_back : (vs : List Datum) → map result_of (map result_row vs) ≡ vs
 results_back [] = refl
 results_back (v ∷ vs) = ap (λ ws. v ∷ ws) (results_back vs)
 
-module _ (facts : Facts) (db : Database) (meets : Meets facts db) where
+module _ (facts : Facts) (db : Database) (meets : Meets facts db) (split : Bool) where
   plain_values : (e : ExprTree) → IsPlain e → (rows : List Row)
       → AllZip (Evaluates db e null) rows (values_of e rows)
   plain_values e h [] = tt
@@ -209,10 +214,10 @@ module _ (facts : Facts) (db : Database) (meets : Meets facts db) where
 
   -- the values of a subquery, where each list of its plan is an answer
   bodies : (x : Ident) (q : QueryTree)
-      → ((row : Row) (results : List Row) → Runs (first_plan facts q) (dataset facts db) Outside row results
+      → ((row : Row) (results : List Row) → Runs (plan_of facts split q) (dataset facts db) Outside row results
       → IsAnswer db q row (map result_of results)) → (rows out : List Row)
       → AllZip (λ row given. (results : List Row)
-      × Runs (first_plan facts q) (dataset facts db) Outside row results
+      × Runs (plan_of facts split q) (dataset facts db) Outside row results
       × (given ≡ bind x row (list (map result_of results)))) rows out
       → (vs : List Datum) × AllZip (Evaluates db (subquery q) null) rows vs × (out ≡ with_values x rows vs)
   bodies x q f [] [] h = ([], tt, refl)
@@ -235,7 +240,7 @@ module _ (facts : Facts) (db : Database) (meets : Meets facts db) where
   mutual
     clause_law : (c : ClauseTree) → ClauseLifted c
         → (b : Plan) (start : Row) (vars : List Ident) (out : List Row)
-        → Runs (after_clause facts b c) (dataset facts db) Outside start out
+        → Runs (after_clause facts split b c) (dataset facts db) Outside start out
         → (rows : List Row) × Runs b (dataset facts db) Outside start rows × Changes db c start vars rows out
     clause_law (for_each x e) h b start vars out g = (
       g.0,
@@ -267,14 +272,14 @@ module _ (facts : Facts) (db : Database) (meets : Meets facts db) where
     clause_law (traversal w e names prune (named_then n m ms)) h b start vars out g = absurd h.2
     clause_law (traversal w e names prune (computed_then n m ms)) h b start vars out g = absurd h.2
     clause_law (filter_by e) h b start vars out g =
-        let k = filters_run (dataset facts db) (conjuncts e) b start out g in (
+        let k = filters_run (dataset facts db) (conditions_of split e) b start out g in (
           k.0,
           k.1,
           (
             values_of e k.0,
             plain_values e h k.0,
-            k.2 ∙ same_filter (all_hold (conjuncts e)) (λ row. truth (value e null row))
-                (λ row. sym (parts_hold e row)) k.0
+            k.2 ∙ same_filter (all_hold (conditions_of split e)) (λ row. truth (value e null row))
+                (λ row. sym (conditions_hold split e row)) k.0
                 ∙ sym (kept_of e k.0),
           ),
         )
@@ -299,16 +304,16 @@ module _ (facts : Facts) (db : Database) (meets : Meets facts db) where
 
     clauses_law : (cs : ClauseTrees) → ClausesLifted cs
         → (b : Plan) (start : Row) (vars : List Ident) (out : List Row)
-        → Runs (after_clauses facts b cs) (dataset facts db) Outside start out
+        → Runs (after_clauses facts split b cs) (dataset facts db) Outside start out
         → (rows : List Row) × Runs b (dataset facts db) Outside start rows × Through db cs start vars rows out
     clauses_law no_clauses h b start vars out g = (out, g, refl)
     clauses_law (clause_then c cs) h b start vars out g =
-        let more = clauses_law cs h.1 (after_clause facts b c) start (vars_after c vars) out g in
+        let more = clauses_law cs h.1 (after_clause facts split b c) start (vars_after c vars) out g in
         let one = clause_law c h.0 b start vars more.0 more.1 in
         (one.0, one.1, (more.0, one.2, more.2))
 
     pub query_law : (q : QueryTree) → IsLifted q → (start : Row) (rows : List Row)
-        → Runs (first_plan facts q) (dataset facts db) Outside start rows
+        → Runs (plan_of facts split q) (dataset facts db) Outside start rows
         → IsAnswer db q start (map result_of rows)
     query_law (query with cs distinct e) h start rows g =
         let through = clauses_law cs h.0 Singleton start [] g.0 g.1 in (
@@ -323,4 +328,4 @@ pub first_answers : (facts : Facts) (db : Database) → Meets facts db → (q : 
     → (start : Row)
     → (vs : List Datum) → Answers (first_plan facts q) (dataset facts db) start vs → IsAnswer db q start vs
 first_answers facts db meets q h start vs g =
-    subst (λ (ts : List Datum). IsAnswer db q start ts) (sym g.2) (query_law facts db meets q h start g.0 g.1)
+    subst (λ (ts : List Datum). IsAnswer db q start ts) (sym g.2) (query_law facts db meets (nat_le (conditions q) 256) q h start g.0 g.1)

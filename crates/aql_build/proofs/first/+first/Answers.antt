@@ -16,7 +16,7 @@ clauses_plan-loop-clause-preserved t c =
     let here = at_hand all i items c.as_mut_slice-items.result.now c.clause-item.result ahead
     c.as_mut_slice-items.ensures.value c.loop-clause-test.true c.clause-item.is in (
       (numbers_split all i clause here c.loop-clause.invariant.0).1,
-      clause_moved c.args.facts.now all i clause (plan_tree c.loop-clause.plan) (plan_tree c.in_ok-plan.plan) _
+      clause_moved c.args.facts.now c.args.split all i clause (plan_tree c.loop-clause.plan) (plan_tree c.in_ok-plan.plan) _
           here c.loop-clause.invariant.1 c.in_ok-plan.ensures,
       one_further all i items ahead c.after_clause.new.clause,
     )
@@ -25,7 +25,7 @@ pub clauses_plan-returns : goal.clauses_plan-returns
 clauses_plan-returns t c =
     let all = c.args.clauses.now in
     let i = c.loop-clause.clause-index in
-    clauses_moved c.args.facts.now all i (plan_tree c.loop-clause.plan) _
+    clauses_moved c.args.facts.now c.args.split all i (plan_tree c.loop-clause.plan) _
     (none_left all i c.as_mut_slice-items.result.now c.as_mut_slice-items.ensures.value c.loop-clause-test.false)
     c.loop-clause.invariant.1
 
