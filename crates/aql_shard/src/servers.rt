@@ -17,14 +17,17 @@ ghost use Rattle.aql_shard.specs.contracts.servers.Servers.{the_row};
 
 use crate::collections::{document_at, shard_count};
 use crate::known::collect_facts;
-use crate::parts::{AllParts, build_all, index_in, part_at, place_in};
+use crate::parts::{AllParts, Part, build_all, index_in, part_at, place_in};
 use aql_block::Tally;
 use aql_doc::Catalog;
 use aql_index::{Bound, Span, Spans, spans_of};
 use aql_plan::Facts;
-use aql_value::{CollNo, Items, OutOfMemory, Value};
+use aql_value::{CollNo, DocNo, Items, OutOfMemory, Text, Value};
 use std::alloc::Global;
 use std::marker::Model;
+
+// So many documents are looked at together, before the first of them is handed out.
+const AHEAD: usize = 32;
 
 /// The documents of a catalog with their indexes, as the servers hold them, and what the servers
 /// have counted. Contracts see what the catalog held, the number of servers and the counts; `stock`
@@ -36,6 +39,8 @@ pub struct Servers {
     servers: u32,
     parts: AllParts,
     counts: Tally,
+    /// what looking ahead found last; it is kept so that no compiler leaves the looking out
+    longest: usize,
 }
 
 impl Drop for Servers {
@@ -45,6 +50,7 @@ impl Drop for Servers {
             servers: _,
             parts: _,
             counts: _,
+            longest: _,
         } = self;
     }
 }
@@ -78,6 +84,7 @@ pub fn split(alloc: Global, catalog: Catalog, servers: u32) -> Result<Servers, O
         servers,
         parts,
         counts: Tally::new(),
+        longest: 0,
     })
 }
 
@@ -203,7 +210,9 @@ impl Servers {
     {
         tally.add_full(1);
         self.counts.add_full(1);
-        let at = place_in(part_at(&self.parts, coll, shard), place as usize);
+        let part = part_at(&self.parts, coll, shard);
+        self.longest = look_ahead(&self.catalog, coll, part, place as usize);
+        let at = place_in(part, place as usize);
         document_at(&self.catalog, coll, at)
     }
 
@@ -235,5 +244,35 @@ impl Servers {
         };
         let at = place_in(part, found as usize);
         document_at(&self.catalog, coll, at)
+    }
+}
+
+// Where a run of documents begins at this place, looks at each of them: the length of the longest
+// first name. A processor fetches their memory together, where it would wait for that of each as
+// they are handed out.
+fn look_ahead(catalog: &Catalog, coll: CollNo, part: &Part, place: usize) -> usize {
+    if place % AHEAD > 0 {
+        return 0;
+    }
+    let mut longest = 0;
+    for step in 0..AHEAD {
+        if let Some(name) = first_name(catalog, coll, part, place.saturating_add(step)) {
+            longest = name.as_str().len().max(longest);
+        }
+    }
+    longest
+}
+
+// The first name of the document at a place.
+fn first_name<'a>(
+    catalog: &'a Catalog,
+    coll: CollNo,
+    part: &Part,
+    place: usize,
+) -> Option<&'a Text> {
+    let at = part.places.get(place)?;
+    match catalog.document(coll, DocNo(*at))? {
+        Value::Object(members) => members.name(0),
+        _ => None,
     }
 }

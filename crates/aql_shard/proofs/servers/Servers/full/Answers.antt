@@ -10,8 +10,8 @@ use Rattle.aql_shard.proofs.Places.{place_there, reads_document}
 use Rattle.aql_shard.proofs.Searched.{parts_there, reads, as_many}
 use Rattle.aql_shard.proofs.servers.Servers.full.Goals as goal
 
-pub part_at-requires : goal.part_at-requires
-part_at-requires c =
+pub part_at-part-requires : goal.part_at-part-requires
+part_at-part-requires c =
     let theirs = c.self.invariant ∙ ap (λ (h : Holding). map (parts_of h.servers) h.held) c.self.view_is in
     parts_there c.args.self.now c.self.inside.parts theirs c.args.coll.0 c.args.shard c.requires.shard
 
@@ -19,7 +19,7 @@ pub place_in-at-requires : goal.place_in-at-requires
 place_in-at-requires c =
     let theirs = c.self.invariant ∙ ap (λ (h : Holding). map (parts_of h.servers) h.held) c.self.view_is in
     subst (λ n. c.args.place < n) (sym (as_many c.args.self.now c.self.inside.parts theirs c.args.coll.0
-    c.args.shard c.requires.shard c.part_at.result.now c.part_at.ensures)) c.requires.place
+    c.args.shard c.requires.shard c.part_at-part.result.now c.part_at-part.ensures)) c.requires.place
 
 pub document_at-requires : goal.document_at-requires
 document_at-requires c =
@@ -28,11 +28,11 @@ document_at-requires c =
     let shard = c.args.shard in
     let theirs = c.self.invariant ∙ ap (λ (h : Holding). map (parts_of h.servers) h.held) c.self.view_is in
     let reads = reads me c.self.inside.parts theirs coll shard c.requires.shard
-    c.part_at.result.now c.part_at.ensures in
+    c.part_at-part.result.now c.part_at-part.ensures in
     let here = ap (λ (h : Holding). documents_at h.held coll) c.self.view_is in
     subst (λ (ds : List Datum). c.place_in-at.result < length ds) (sym here)
     (place_there (documents_at me.held coll) (documents_read (stock me) coll shard)
-    c.part_at.result.now.places reads c.args.place c.place_in-at.result c.place_in-at.ensures)
+    c.part_at-part.result.now.places reads c.args.place c.place_in-at.result c.place_in-at.ensures)
 
 pub returns : goal.returns
 returns c =
@@ -41,7 +41,7 @@ returns c =
     let shard = c.args.shard in
     let theirs = c.self.invariant ∙ ap (λ (h : Holding). map (parts_of h.servers) h.held) c.self.view_is in
     let reads = reads me c.self.inside.parts theirs coll shard c.requires.shard
-    c.part_at.result.now c.part_at.ensures in
+    c.part_at-part.result.now c.part_at-part.ensures in
     let here = ap (λ (h : Holding). documents_at h.held coll) c.self.view_is in (
       (
         refl,
@@ -55,7 +55,7 @@ returns c =
       ),
       record {
         document = reads_document (documents_at me.held coll) (documents_read (stock me) coll shard)
-            c.part_at.result.now.places reads c.args.place c.place_in-at.result c.place_in-at.ensures
+            c.part_at-part.result.now.places reads c.args.place c.place_in-at.result c.place_in-at.ensures
             (datum_of c.document_at.result.now)
             (ap (λ ds. slice_get ds c.place_in-at.result) (sym here) ∙ c.document_at.ensures);
         tally = c.add_full.ensures;
