@@ -15,6 +15,7 @@ use Rattle.aql_exec_rows.specs.declared.keyed.KeyValues.TheVariants.{One, Severa
 abbrev pub with_keys : ExprTrees → Row → KeyedRow
 with_keys es row = (keys_of es row, row)
 
+-- the values of a row's keys; one that is alone stands without a list
 abbrev pub values_in : KeyValues → List Datum
 values_in (One v) = datum_of v ∷ []
 values_in (Several vs) = datums_in vs.items

@@ -52,7 +52,8 @@ record Gathers (facts : Facts) (directions : List Bool) (keys : ExprTrees) (f : 
   pub over : (c : Plan) → Shaped facts c (Fragment order)
       → Shaped facts (gathered directions keys c) (Rows false)
 
-sent_fragment : (facts : Facts) (f : Plan) (o : Order) → Shaped facts (Over f Remote) (Sent (Fragment o))
+-- what a fragment sends is what it gives
+pub sent_fragment : (facts : Facts) (f : Plan) (o : Order) → Shaped facts (Over f Remote) (Sent (Fragment o))
     → Shaped facts f (Fragment o)
 sent_fragment facts f o (remote i h) = h
 

@@ -14,13 +14,10 @@ use Rattle.aql_rewrite.specs.Swaps.{SetsNoMore, KeepsPlaced}
 use Rattle.aql_rules_cluster.specs.DistributeFiltercalcToCluster.{gathered}
 use Rattle.aql_rules_cluster.specs.FragmentParts.{over_link, ReadsHere}
 use Rattle.aql_rules_cluster.specs.RemoveUnnecessaryRemoteScatter.{RunsOnOne, named, scattered, above_foot, with_shard, Joins, joined}
+use Rattle.aql_rules_cluster.specs.laws.FiltercalcRefines.{sent_fragment}
 use Rattle.aql_rules_cluster.specs.laws.KeptAbove.{kept_at_gather}
 
 -- ---- the lower fragment
-
-sent_fragment : (facts : Facts) (f : Plan) (o : Order) → Shaped facts (Over f Remote) (Sent (Fragment o))
-    → Shaped facts f (Fragment o)
-sent_fragment facts f o (remote i h) = h
 
 -- its Gather gives many rows
 gathered_rows : (facts : Facts) (directions : List Bool) (keys : ExprTrees) (f : Plan) (one : Bool)
