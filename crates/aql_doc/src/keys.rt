@@ -93,13 +93,7 @@ fn allow(key: Option<&str>) -> Result<&str, DocFault>
 pub(crate) fn id_of(alloc: Global, name: &Text, key: &str) -> Result<Text, OutOfMemory>
     ensures { IfOk result (λ id. id ≡ name.now ++ 47 ∷ key.now) }
 {
-    let name = name.as_str();
-    let room = name.len().saturating_add(key.len()).saturating_add(1);
-    let mut id = String::with_capacity(alloc, room)?;
-    id.push_str(name)?;
-    id.push('/')?;
-    id.push_str(key)?;
-    Ok(Text::from(id))
+    Text::with_slash(alloc, name.as_str(), key)
 }
 
 fn is_text(value: &Value, text: &Text) -> bool

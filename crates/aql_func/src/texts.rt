@@ -30,7 +30,7 @@ pub(crate) fn text_of(alloc: Global, characters: &[char]) -> Result<Text, OutOfM
     for c in characters {
         out.push(*c)?;
     }
-    Ok(Text::from(out))
+    Text::from_string(out)
 }
 
 pub(crate) fn substring(alloc: Global, args: &Items) -> Result<Value, OutOfMemory>
@@ -213,7 +213,7 @@ fn join(alloc: Global, separator: &str, values: &[Value]) -> Result<Value, OutOf
             started = true;
         }
     }
-    Ok(Value::Text(Text::from(out)))
+    Ok(Value::Text(Text::from_string(out)?))
 }
 
 // Puts a text at the end, after the separator where something was put before.

@@ -128,7 +128,7 @@ pub(crate) fn text_scan<'a>(
     let mut left = inner;
     while let Some((character, after)) = first_character(left) {
         if character == quote {
-            return Ok(Scan::Token(TokenKind::Text(Text::from(value)), after));
+            return Ok(Scan::Token(TokenKind::Text(Text::from_string(value)?), after));
         }
         if character == '\\' {
             match escape(after) {

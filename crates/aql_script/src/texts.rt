@@ -41,7 +41,7 @@ fn at_line(alloc: Global, front: &str, line: u32, text: &str) -> Result<Text, Ou
     ensures { IfOk result (λ t. t ≡ at_line front.now line text.now) }
 {
     let whole = format!(in alloc; "{front}{line}: {text}")?;
-    Ok(Text::from(whole))
+    Text::from_string(whole)
 }
 
 fn line_text(kind: LineKind) -> &'static str

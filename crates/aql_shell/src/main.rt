@@ -37,7 +37,7 @@ fn words(rt: &(impl Env + AllocGlobal)) -> Result<Names, WordsFault> {
         }
     };
     for arg in args {
-        names.push(Text::from(arg))?;
+        names.push(Text::from_string(arg)?)?;
     }
     Ok(names)
 }

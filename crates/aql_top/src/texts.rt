@@ -30,7 +30,7 @@ fn at_byte(alloc: Global, place: u32, kind: LexKind) -> Result<Text, OutOfMemory
     ensures { IfOk result (λ t. t ≡ at_byte place (lex_text kind)) }
 {
     let text = format!(in alloc; "query: byte {place}: {kind}")?;
-    Ok(Text::from(text))
+    Text::from_string(text)
 }
 
 fn scope_text(alloc: Global, fault: &ScopeFault) -> Result<Text, OutOfMemory>
@@ -54,7 +54,7 @@ fn of_name(alloc: Global, what: &str, name: &Text) -> Result<Text, OutOfMemory>
 {
     let name = name.as_str();
     let text = format!(in alloc; "query: {what} {name}")?;
-    Ok(Text::from(text))
+    Text::from_string(text)
 }
 
 fn wrong_arity(alloc: Global, name: &Text, given: u32) -> Result<Text, OutOfMemory>
@@ -62,5 +62,5 @@ fn wrong_arity(alloc: Global, name: &Text, given: u32) -> Result<Text, OutOfMemo
 {
     let name = name.as_str();
     let text = format!(in alloc; "query: wrong number of arguments {name} {given}")?;
-    Ok(Text::from(text))
+    Text::from_string(text)
 }

@@ -25,7 +25,7 @@ fn json_of(alloc: Global, value: &Value) -> Result<Text, OutOfMemory>
     write_json(value, &mut bytes)?;
     recall_well_formed(value);
     match String::from_utf8(bytes) {
-        Ok(text) => Ok(Text::from(text)),
+        Ok(text) => Text::from_string(text),
         Err(_) => unreachable!(),
     }
 }

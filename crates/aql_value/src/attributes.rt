@@ -1,4 +1,4 @@
-ghost use Rattle.std.specs.Prelude.{◌≡◌, [], ℕ, List, filter, bytes_eq, option_map, IfOk, OnOk, OnErr};
+ghost use Rattle.std.specs.Prelude.{◌≡◌, [], ℕ, List, filter, bytes_eq, option_map, IfOk, IfSome, OnOk, OnErr};
 ghost use Rattle.std.specs.List.{list_any};
 ghost use Rattle.std.specs.Ordering.{nat_cmp};
 ghost use Rattle.std.specs.Cmp.Lexicographic.{slice_cmp};
@@ -28,16 +28,6 @@ impl Members {
         ensures { result ≡ [] }
     {
         Members { entries: None }
-    }
-
-    // No attributes, with room for so many.
-    pub(crate) fn with_room(alloc: Global, room: usize) -> Result<Members, OutOfMemory>
-        ensures { IfOk result (λ ms. ms ≡ []) }
-    {
-        let entries = Vec::with_capacity(alloc, room)?;
-        Ok(Members {
-            entries: Some(Rc::new(alloc, entries)?),
-        })
     }
 
     /// How many attributes there are.
@@ -110,18 +100,6 @@ impl Members {
         Ok(())
     }
 
-    // Gives back the room for more attributes than there are and than so many, where there are some
-    // and no copy shares them.
-    pub(crate) fn shrink(&mut self, room: usize)
-        ensures { self.new ≡ self.old }
-    {
-        if let Some(shared) = &mut self.entries {
-            if let Some(entries) = Rc::get_mut(shared) {
-                entries.shrink_to(room);
-            }
-        }
-    }
-
     /// Sets an attribute, in place of the one of this name if there is one. Where memory runs out
     /// all stays as it was.
     pub fn set(&mut self, name: Text, value: Value) -> Result<(), OutOfMemory>
@@ -186,7 +164,22 @@ fn value_among<'a>(entries: &'a [Member], name: &str) -> Option<&'a Value>
     None
 }
 
-fn set_in(entries: &mut Vec<Member>, name: Text, value: Value) -> Result<(), OutOfMemory>
+/// An object of these attributes; `None` where memory runs out.
+pub(crate) fn shared(alloc: Global, entries: Vec<Member>) -> Option<Members>
+    requires { FieldsWellFormed (object_of (fields_in entries.items)) }
+    ensures { IfSome result (λ ms. ms ≡ fields_in entries.items) }
+{
+    match Rc::new(alloc, entries) {
+        Ok(entries) => Some(Members {
+            entries: Some(entries),
+        }),
+        Err(_) => None,
+    }
+}
+
+/// Sets an attribute, in place of the one of this name if there is one. Where memory runs out all
+/// stays as it was.
+pub(crate) fn set_in(entries: &mut Vec<Member>, name: Text, value: Value) -> Result<(), OutOfMemory>
     requires { FieldsWellFormed (object_of (fields_in entries.old.items)) }
     ensures ok { OnOk result
         (fields_in entries.new.items
@@ -199,7 +192,11 @@ fn set_in(entries: &mut Vec<Member>, name: Text, value: Value) -> Result<(), Out
             Ok(())
         }
         Err(at) => {
-            entries.insert(at, Member { name, value })?;
+            if at == entries.len() {
+                entries.push(Member { name, value })?;
+            } else {
+                entries.insert(at, Member { name, value })?;
+            }
             Ok(())
         }
     }

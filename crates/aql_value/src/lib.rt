@@ -12,6 +12,7 @@ mod memory;
 mod operators;
 mod order;
 mod reading;
+mod short_texts;
 mod texts;
 mod tokens;
 mod values;

@@ -184,7 +184,7 @@ fn value_of(alloc: Global, json: serde_json::Value) -> Result<Value, JsonFault>
             Some(n) => Ok(Value::Num(n)),
             None => Err(JsonFault::NotWhole),
         },
-        serde_json::Value::String(text) => Ok(Value::Text(Text::from(text))),
+        serde_json::Value::String(text) => Ok(Value::Text(Text::from_string(text)?)),
         serde_json::Value::Array(items) => Ok(Value::List(items_of(alloc, items)?)),
         serde_json::Value::Object(members) => Ok(Value::Object(members_of(alloc, members)?)),
     }
@@ -211,7 +211,7 @@ fn members_of(alloc: Global, members: Map<String, serde_json::Value>) -> Result<
 {
     let mut entries = Vec::with_capacity(alloc, members.len())?;
     for (key, member) in members {
-        let name = Text::from(key);
+        let name = Text::from_string(key)?;
         let value = value_of(alloc, member)?;
         recall_well_formed(&value);
         recall_utf8(&name);

@@ -1,17 +1,16 @@
-ghost use Rattle.std.specs.Prelude.{◌≡◌, IfOk, IsUtf8};
+ghost use Rattle.std.specs.Prelude.{◌≡◌, ◌++◌, ◌∷◌, IfOk, IfSome, IsUtf8, string_bytes};
 
 use crate::OutOfMemory;
-use arrayvec::ArrayString;
+use crate::short_texts::ShortText;
 use std::alloc::Global;
 use std::marker::Model;
-
-// The most bytes of a text that stands in its value, without memory of its own.
-const SHORT: usize = 16;
+use std::rc::Rc;
 
 #[derive(Drop)]
 enum Bytes {
-    Short(ArrayString<SHORT>),
-    Long(String),
+    Short(ShortText),
+    /// shared with its copies
+    Long(Rc<String>),
 }
 
 /// A text in UTF-8. Contracts see it as the list of its bytes.
@@ -34,11 +33,44 @@ impl Text {
     pub fn new(alloc: Global, text: &str) -> Result<Text, OutOfMemory>
         ensures { IfOk result (λ t. t ≡ text.now) }
     {
-        let bytes = match ArrayString::from(text) {
-            Ok(short) => Bytes::Short(short),
-            Err(_) => Bytes::Long(String::from_str(alloc, text)?),
+        let bytes = match ShortText::new(text) {
+            Some(short) => Bytes::Short(short),
+            None => Bytes::Long(Rc::new(alloc, String::from_str(alloc, text)?)?),
         };
         Ok(Text { alloc, bytes })
+    }
+
+    /// The text of a string, whose memory it takes where it is long.
+    pub fn from_string(text: String) -> Result<Text, OutOfMemory>
+        ensures { IfOk result (λ t. t ≡ string_bytes text) }
+    {
+        let alloc = *text.allocator();
+        let bytes = match ShortText::new(text.as_str()) {
+            Some(short) => Bytes::Short(short),
+            None => Bytes::Long(Rc::new(alloc, text)?),
+        };
+        Ok(Text { alloc, bytes })
+    }
+
+    /// The one text, a slash, and the other, as the id of a document is.
+    pub fn with_slash(alloc: Global, left: &str, right: &str) -> Result<Text, OutOfMemory>
+        ensures { IfOk result (λ t. t ≡ left.now ++ 47 ∷ right.now) }
+    {
+        if let Some(short) = ShortText::with_slash(left, right) {
+            return Ok(Text {
+                alloc,
+                bytes: Bytes::Short(short),
+            });
+        }
+        let room = left.len().saturating_add(right.len()).saturating_add(1);
+        let mut long = String::with_capacity(alloc, room)?;
+        long.push_str(left)?;
+        long.push('/')?;
+        long.push_str(right)?;
+        Ok(Text {
+            alloc,
+            bytes: Bytes::Long(Rc::new(alloc, long)?),
+        })
     }
 
     /// The text, borrowed.
@@ -56,13 +88,13 @@ impl Text {
         self.alloc
     }
 
-    /// An equal text.
+    /// An equal text. A long one shares its bytes with the copy.
     pub fn copy(&self, alloc: Global) -> Result<Text, OutOfMemory>
         ensures { IfOk result (λ t. t ≡ self.now) }
     {
         let bytes = match &self.bytes {
-            Bytes::Short(text) => Bytes::Short(*text),
-            Bytes::Long(text) => Bytes::Long(String::from_str(alloc, text.as_str())?),
+            Bytes::Short(text) => Bytes::Short(text.copy()),
+            Bytes::Long(text) => Bytes::Long(text.clone()?),
         };
         Ok(Text { alloc, bytes })
     }
@@ -73,21 +105,6 @@ pub fn recall_utf8(text: &Text)
     ensures { IsUtf8 text.now }
 {
     let _text = text.as_str();
-}
-
-impl From<String> for Text {
-    ghost use Rattle.std.specs.Prelude.{◌≡◌, string_bytes};
-
-    ghost from_gives = { λ s t. t ≡ string_bytes s };
-
-    fn from(text: String) -> Text {
-        let alloc = *text.allocator();
-        let bytes = match ArrayString::from(text.as_str()) {
-            Ok(short) => Bytes::Short(short),
-            Err(_) => Bytes::Long(text),
-        };
-        Text { alloc, bytes }
-    }
 }
 
 impl Drop for Text {

@@ -6,6 +6,9 @@ ghost use Rattle.aql_value.specs.JsonLine.{json_line};
 ghost use Rattle.aql_value.specs.inner.Tokens.{ReadsValue, ReadsItems, ReadsMembers};
 ghost use Rattle.aql_value.specs.View.{datum_of};
 
+use crate::attributes::{set_in, shared};
+use crate::texts::recall_utf8;
+use crate::values::recall_well_formed;
 use crate::{Items, Members, Text, Value};
 use fast_float::Numeral;
 use json::{Reader, Scratch, Token};
@@ -98,7 +101,7 @@ fn read_members(
     ensures reads { IfSome result (λ fs. ReadsMembers room reader.old reader.new fs) }
     ensures shorter { OnSome result (length reader.new < length reader.old) }
 {
-    let Ok(mut found) = Members::with_room(alloc, usual) else {
+    let Ok(mut found) = Vec::with_capacity(alloc, usual) else {
         return None;
     };
     'members: loop {
@@ -106,8 +109,8 @@ fn read_members(
             return None;
         };
         let Some(key) = key else {
-            found.shrink(usual);
-            return Some(found);
+            found.shrink_to(usual);
+            return shared(alloc, found);
         };
         if found.len() == ATTRIBUTES {
             return None;
@@ -116,7 +119,9 @@ fn read_members(
             return None;
         };
         let value = read(alloc, reader, room, 1)?;
-        if found.set(name, value).is_err() {
+        recall_utf8(&name);
+        recall_well_formed(&value);
+        if set_in(&mut found, name, value).is_err() {
             return None;
         }
     }

@@ -4,5 +4,5 @@ use Rattle.aql_value.specs.declared.texts.Bytes.{Bytes}
 use Rattle.aql_value.specs.declared.texts.Bytes.TheVariants.{Short, Long}
 
 abbrev pub bytes_of : Bytes → List ℕ
-bytes_of (Short text) = text.bytes
-bytes_of (Long text) = string_bytes text
+bytes_of (Short text) = text
+bytes_of (Long text) = string_bytes text.value

@@ -24,7 +24,7 @@ returns-then-character-quote-clause-takes c =
     writes_up_to c.args.quote c.in-Some.character c.args.quote _ _ _ _ c.loop-character.invariant.so_far
     (small_quote _ c.requires.quote) c.if-character-quote.true c.in-Some.ensures.split in
     let takes = text_takes c.args.quote _ _ c.requires.quote c.requires.split _ _ w in
-    rw c.from.ensures takes
+    rw c.in_ok-from_string.ensures takes
 
 pub loop-character-preserved-in-Some-escape : goal.loop-character-preserved-in-Some-escape
 loop-character-preserved-in-Some-escape c =

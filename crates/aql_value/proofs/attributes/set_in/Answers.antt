@@ -1,4 +1,6 @@
-use Rattle.std.proofs.Common.{Ok, Err, refl, ap, ◌∙◌, subst}
+use Rattle.std.proofs.Common.{◌≡◌, Ok, Err, length, refl, sym, ap, ◌∙◌, subst, arith}
+use Rattle.std.specs.List.{insert}
+use Rattle.std.proofs.lemmas.List.Edits.{insert_end}
 use Rattle.aql_value.specs.inner.NameSearch.{IsSearchResult}
 use Rattle.aql_value.specs.Fields.{fields_in}
 use Rattle.aql_value.specs.declared.values.Member.{Member}
@@ -24,5 +26,19 @@ returns-in_ok-insert-in-Err-clause-ok c =
     let p = subst
     (λ es. IsSearchResult (Err c.in-Err.at) c.args.name (fields_in es)) c.deref.ensures.value q in
     ap fields_in c.in_ok-insert-in-Err.ensures.items
+    ∙ inserted c.args.name c.args.value c.args.entries.now.items c.in-Err.at
+    (place_up_to c.args.entries.now.items c.in-Err.at p.0) p.1 p.2
+
+pub returns-in_ok-push-in-Err-clause-ok : goal.returns-in_ok-push-in-Err-clause-ok
+returns-in_ok-push-in-Err-clause-ok c =
+    let q = subst
+    (λ k. IsSearchResult (Err c.in-Err.at) k (fields_in c.deref.result.now)) c.as_str.ensures c.in-Err.ensures
+    in
+    let p = subst
+    (λ es. IsSearchResult (Err c.in-Err.at) c.args.name (fields_in es)) c.deref.ensures.value q in
+    let last : c.in-Err.at ≡ length c.args.entries.now.items = grind arith in
+    let member : Member = record { name = c.args.name; value = c.args.value } in
+    ap fields_in (c.in_ok-push-in-Err.ensures.items ∙ sym (insert_end c.args.entries.now.items member)
+    ∙ ap (λ i. insert c.args.entries.now.items i member) (sym last))
     ∙ inserted c.args.name c.args.value c.args.entries.now.items c.in-Err.at
     (place_up_to c.args.entries.now.items c.in-Err.at p.0) p.1 p.2

@@ -35,9 +35,9 @@ members_of-loop-key-preserved t c =
     let old = fields_in c.loop-key.entries.items in
     let e : Entry = (c.in-Some.key, c.in-Some.member) in
     let left = c.next.new.self in
-    let k = c.from-name.result in
+    let k = c.in_ok-name.name in
     let v = datum_of c.in_ok-value.value in
-    let named : string_bytes e.0 ≡ k = sym c.from-name.ensures in
+    let named : string_bytes e.0 ≡ k = sym c.in_ok-name.ensures in
     let pushed : fields_in c.push.new.self.items ≡ old ++ (k, v) ∷ [] =
     ap fields_in c.in_ok-push.ensures.items
     ∙ fields_pushed c.loop-key.entries.items (record { name = k; value = c.in_ok-value.value }) in
