@@ -1,10 +1,10 @@
 //! A FILTER as nodes: one for each part of an `&&` chain, where a query has few of them.
 
-ghost use Rattle.std.specs.Prelude.{◌≡◌, ◌-◌, IfOk, map, length, nat_le};
+ghost use Rattle.std.specs.Prelude.{◌≡◌, ◌-◌, IfOk, map, length};
 ghost use Rattle.aql_tree.specs.View.{tree, links, link_part, clause_tree, query_tree};
 ghost use Rattle.aql_plan.specs.Plan as spec;
 ghost use Rattle.aql_plan.specs.View.{plan_tree};
-ghost use Rattle.aql_plan.specs.FirstPlan.{right_sides, conjuncts, clause_conditions, conditions, conditions_of, filters};
+ghost use Rattle.aql_plan.specs.FirstPlan.{right_sides, conjuncts, clause_conditions, conditions, has_few_conditions as has_few, conditions_of, filters};
 
 use crate::clauses::{take, take_boxed};
 use aql_plan::{Node, Plan, is_all_and};
@@ -107,7 +107,7 @@ fn less_query(query: &Query, most: usize) -> usize
 /// Whether a query has so few conditions that its FILTERs are split: at most 256, those of its
 /// subqueries too.
 pub fn has_few_conditions(query: &Query) -> bool
-    ensures { result ≡ nat_le (conditions (query_tree query.now)) 256 }
+    ensures { result ≡ has_few (query_tree query.now) }
 {
     less_query(query, MOST_CONDITIONS + 1) > 0
 }

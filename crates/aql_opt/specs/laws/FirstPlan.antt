@@ -1,9 +1,8 @@
 -- The first plan of a query has no fragment, so the optimiser takes it.
 use Rattle.std.proofs.Common.{List, [], ◌∷◌, Bool, false}
-use Rattle.std.specs.Prelude.{nat_le}
 use Rattle.aql_tree.specs.Tree.{ExprTree, subquery, ClauseTree, for_each, for_documents, traversal, filter_by, let_be, sort_by, limit, collect, ClauseTrees, no_clauses, clause_then, QueryTree, query}
 use Rattle.aql_plan.specs.declared.facts.Facts.{Facts}
-use Rattle.aql_plan.specs.FirstPlan.{conditions, conditions_of, filters, after_clause, after_clauses, plan_of, first_plan}
+use Rattle.aql_plan.specs.FirstPlan.{has_few_conditions, conditions_of, filters, after_clause, after_clauses, plan_of, first_plan}
 use Rattle.aql_plan.specs.Plan.{Plan, Singleton, Over, Filter}
 use Rattle.aql_plan.specs.Shapes.{HasNoFragment}
 use Rattle.aql_plan.specs.WellFormed.{IsWellFormed}
@@ -35,4 +34,4 @@ module _ (facts : Facts) (split : Bool) where
 
 pub first_whole : (facts : Facts) (q : QueryTree) → IsWellFormed facts [] (first_plan facts q)
     → IsWhole false facts (first_plan facts q)
-first_whole facts q h = (h, plan_lone facts (nat_le (conditions q) 256) q)
+first_whole facts q h = (h, plan_lone facts (has_few_conditions q) q)

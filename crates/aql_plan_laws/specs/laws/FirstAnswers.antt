@@ -1,6 +1,6 @@
 -- Each list of the first plan of a scoped query is an answer of the query.
 use Rattle.std.proofs.Common.{◌≡◌, ◌∙◌, ℕ, suc, List, [], ◌∷◌, ◌++◌, map, Bool, true, false, true≢false, cond, refl, ap, ap₂, sym, subst}
-use Rattle.std.specs.Prelude.{nat_le, Option, None, MatchOption, filter, flat_map, bytes_eq, IsPermutation, ◌&&◌}
+use Rattle.std.specs.Prelude.{Option, None, MatchOption, filter, flat_map, bytes_eq, IsPermutation, ◌&&◌}
 use Rattle.std.specs.List.{AllZip}
 use Rattle.aql_value.specs.Datum.{Datum, null}
 use Rattle.aql_value.specs.Contents.{list}
@@ -31,7 +31,7 @@ use Rattle.aql_plan.specs.Plan.{Plan, Singleton, Over, Filter}
 use Rattle.aql_plan.specs.Runs.{Dataset, Outside, edges_in, result_row, result_of, Runs}
 use Rattle.aql_meaning.specs.AtRows.{values_of, keys_of, passes, stops}
 use Rattle.aql_plan.specs.Refines.{dataset, Answers}
-use Rattle.aql_plan.specs.FirstPlan.{number_among, coll_number, all_and, right_sides, conjuncts, conditions, conditions_of, filters, after_clause, after_clauses, plan_of, first_plan}
+use Rattle.aql_plan.specs.FirstPlan.{number_among, coll_number, all_and, right_sides, conjuncts, has_few_conditions, conditions_of, filters, after_clause, after_clauses, plan_of, first_plan}
 
 -- ---- words of clauses and of nodes
 
@@ -328,4 +328,5 @@ pub first_answers : (facts : Facts) (db : Database) → Meets facts db → (q : 
     → (start : Row)
     → (vs : List Datum) → Answers (first_plan facts q) (dataset facts db) start vs → IsAnswer db q start vs
 first_answers facts db meets q h start vs g =
-    subst (λ (ts : List Datum). IsAnswer db q start ts) (sym g.2) (query_law facts db meets (nat_le (conditions q) 256) q h start g.0 g.1)
+    subst (λ (ts : List Datum). IsAnswer db q start ts) (sym g.2)
+    (query_law facts db meets (has_few_conditions q) q h start g.0 g.1)
