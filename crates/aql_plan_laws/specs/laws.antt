@@ -18,4 +18,6 @@ pub mod RenamedUses
 pub mod UsesMapped
 pub mod FoundMapped
 pub mod RenamedPlaces
+pub mod Attributes
+pub mod Projections
 pub mod FirstAnswers

@@ -5,7 +5,6 @@ pub mod Moved
 pub mod SameUsed
 pub mod CalculationsExchanged
 pub mod CalculatedTwice
-pub mod Attributes
 pub mod NamesUsed
 pub mod Projected
 pub mod AttributesSet

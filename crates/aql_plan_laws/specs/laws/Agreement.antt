@@ -72,7 +72,7 @@ agreement = record {
   empty = λ us. agree_self us empty_row;
 }
 
-all_any : (xs : List Ident) → AllByRecursion Any xs
+pub all_any : (xs : List Ident) → AllByRecursion Any xs
 all_any [] = tt
 all_any (x ∷ xs) = (tt, all_any xs)
 

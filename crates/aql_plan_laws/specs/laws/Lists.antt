@@ -118,3 +118,10 @@ related_through R S Q f (x ∷ xs) [] zs h k = absurd h
 related_through R S Q f (x ∷ xs) (y ∷ ys) [] h k = absurd k
 related_through R S Q f (x ∷ xs) (y ∷ ys) (z ∷ zs) h k =
     (f x y z h.0 k.0, related_through R S Q f xs ys zs h.1 k.1)
+
+pub related_back : {A B : Type 0} (R : A → B → Type 0) (xs : List A) (ys : List B) → AllZip R xs ys
+    → AllZip (λ y x. R x y) ys xs
+related_back R [] [] h = tt
+related_back R [] (y ∷ ys) h = absurd h
+related_back R (x ∷ xs) [] h = absurd h
+related_back R (x ∷ xs) (y ∷ ys) h = (h.0, related_back R xs ys h.1)

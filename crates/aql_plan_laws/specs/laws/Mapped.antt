@@ -34,7 +34,7 @@ module _ (f : ExprTree → ExprTree) where
   into_kept (into x what keep) = refl
 
 -- a function that changes no expression changes no plan
-exprs_same : (es : ExprTrees) → map_exprs (λ e. e) es ≡ es
+pub exprs_same : (es : ExprTrees) → map_exprs (λ e. e) es ≡ es
 exprs_same no_exprs = refl
 exprs_same (expr_then e es) = ap (expr_then e) (exprs_same es)
 
@@ -42,12 +42,12 @@ maybe_same : (e : MaybeExpr) → map_maybe (λ e. e) e ≡ e
 maybe_same no_expr = refl
 maybe_same (one_expr e) = refl
 
-aggregates_same : (gs : AggregateTrees) → map_aggregates (λ e. e) gs ≡ gs
+pub aggregates_same : (gs : AggregateTrees) → map_aggregates (λ e. e) gs ≡ gs
 aggregates_same no_aggregates = refl
 aggregates_same (aggregate_then x name e rest) =
     ap₂ (aggregate_then x name) (maybe_same e) (aggregates_same rest)
 
-into_same : (i : IntoTree) → map_into (λ e. e) i ≡ i
+pub into_same : (i : IntoTree) → map_into (λ e. e) i ≡ i
 into_same no_into = refl
 into_same (into x what keep) = ap (λ e. into x e keep) (maybe_same what)
 

@@ -1,4 +1,4 @@
--- The attribute of a name: by the first attribute, and once one was set.
+-- The attribute of a name, once one was set.
 use Rattle.std.proofs.Common.{◌≡◌, ◌∙◌, ℕ, List, [], ◌∷◌, Bool, true, false, cond, refl, ap, sym}
 use Rattle.std.specs.Prelude.{Some, bytes_eq}
 use Rattle.std.specs.declared.cmp.Ordering.{Ordering}
@@ -10,18 +10,7 @@ use Rattle.std.proofs.lemmas.Map.Text.{is_eq-slice_cmp}
 use Rattle.std.proofs.lemmas.Slice.Eq.{bytes_eq-Decides}
 use Rattle.aql_value.specs.Datum.{Datum}
 use Rattle.aql_value.specs.Attributes.{with_attribute, attribute}
-
-by_equality : {X : Type 0} (o : Ordering) (x y : X) → match_ordering o x y x ≡ cond (is_eq o) y x
-by_equality Less x y = refl
-by_equality Equal x y = refl
-by_equality Greater x y = refl
-
-named_first : (k : List ℕ) (f : List ℕ × Datum) (fs : List (List ℕ × Datum))
-    → attribute k (f ∷ fs) ≡ cond (bytes_eq k f.0) (Some f.1) (attribute k fs)
-named_first k f fs = by_equality (slice_cmp nat_cmp k f.0) (attribute k fs) (Some f.1)
-    ∙ ap (λ (b : Bool). cond b (Some f.1) (attribute k fs)) (is_eq-slice_cmp k f.0)
-
--- ---- the attribute of a name, once one was set
+use Rattle.aql_plan_laws.specs.laws.Attributes.{named_first}
 
 once : {X : Type 0} (b : Bool) (x y z : X) → cond b x z ≡ cond b x (cond b y z)
 once true x y z = refl

@@ -35,6 +35,7 @@ use Rattle.aql_plan.specs.Runs.{Dataset, Outside, read, read_in_bounds, Indexed}
 use Rattle.aql_plan.specs.Shapes.{plain_rows, ordered_rows, lowest, lowest_in_order, other_reading, passing, KeepsShape}
 use Rattle.aql_meaning.specs.laws.Idents.{same_self}
 use Rattle.aql_plan_laws.specs.laws.Lists.{append_related}
+use Rattle.aql_plan_laws.specs.laws.Projections.{among, IsCovered, own_agree, kept_agree}
 use Rattle.aql_rewrite.specs.declared.swap.Rename.{Rename}
 use Rattle.aql_rewrite.specs.Places.{renamed_by, Stays, First}
 use Rattle.aql_rewrite.specs.Placed.{IsWhole, Placed}
@@ -44,15 +45,11 @@ use Rattle.aql_rewrite.specs.laws.PlacedBelow.{whole_placed}
 use Rattle.aql_rules_calc.specs.Projections.{AreAdded, AreKept, order_of, where_whole, read_whole, node_with_attrs, with_attrs}
 use Rattle.aql_rules_calc.specs.ReduceExtractionToProjection.{is_whole, used_whole, with_name, with_use, names_used, order_uses, keeping, Reduces, enumeration, by_index}
 use Rattle.aql_rules_calc.specs.Measures.{reads_whole, whole_readers, readers_in}
-use Rattle.aql_rules_calc.specs.laws.Attributes.{named_first}
 use Rattle.aql_rewrite.specs.Changed.{Changes}
 
 -- ---- each name that is used is kept
 
-abbrev among : List (List ℕ) → List ℕ → Bool
-among names name = list_any (bytes_eq name) names
-
-same_name : (name : List ℕ) → bytes_eq name name ≡ true
+abbrev same_name : (name : List ℕ) → bytes_eq name name ≡ true
 same_name name = (bytes_eq-Decides name name).1 refl
 
 -- a name stays, and the new one is there
@@ -95,11 +92,6 @@ stays_with_uses x n [] names h = h
 stays_with_uses x n (u ∷ us) names h =
     stays_with_uses x n us (with_use x names u) (stays_with_use x n u names h)
 
--- x is used by these names alone
-abbrev IsCovered : Ident → List (List ℕ) → Use → Type 0
-IsCovered x names (Whole y) = same_ident x y ≡ false
-IsCovered x names (Attribute y name) = same_ident x y ≡ true → among names name ≡ true
-
 covered : (x : Ident) (us : Uses) (before : List (List ℕ)) → used_whole x us ≡ false
     → AllByRecursion (IsCovered x (fold (with_use x) before us)) us
 covered x [] before h = tt
@@ -124,96 +116,32 @@ covered_back : (x : Ident) (names : List (List ℕ)) (us vs : Uses)
 covered_back x names [] vs h = h
 covered_back x names (u ∷ us) vs h = covered_back x names us vs h.1
 
--- ---- what is used of a document is what is used of its projection
+-- ---- the documents of each row
 
-still_named : (names : List (List ℕ)) (n : List ℕ) → among names n ≡ true → (fs : List (List ℕ × Datum))
-    → attribute n (filter (λ (f : List ℕ × Datum). among names f.0) fs) ≡ attribute n fs
-still_named names n h [] = refl
-still_named names n h (f ∷ fs) = by (among names f.0) refl (still_named names n h fs)
-  where
-    rest : List (List ℕ × Datum)
-    rest = filter (λ (f : List ℕ × Datum). among names f.0) fs
+module _ (x : Ident) (names : List (List ℕ)) (us : Uses) (cover : AllByRecursion (IsCovered x names) us) where
+  abbrev OfRow : List (List ℕ) → Bool → (Row → Bool) → Option (List (List ℕ)) → (Row → List Datum)
+      → Row → List Datum → Type 0
+  OfRow order descending pass attrs reads row list = (sorted : List Datum)
+      × InIndexOrder order descending (reads row) sorted × (list ≡ documents_kept x pass attrs row sorted)
 
-    other : (b : Bool) → bytes_eq n f.0 ≡ b → among names f.0 ≡ false → attribute n rest ≡ attribute n fs
-        → attribute n rest ≡ cond b (Some f.1) (attribute n fs)
-    other true e g k = absurd (true≢false
-        (sym (subst (λ (m : List ℕ). among names m ≡ true) ((bytes_eq-Decides n f.0).0 e) h) ∙ g))
-    other false e g k = k
-
-    by : (b : Bool) → among names f.0 ≡ b → attribute n rest ≡ attribute n fs
-        → attribute n (cond b (f ∷ rest) rest) ≡ attribute n (f ∷ fs)
-    by true e k = named_first n f rest ∙ ap (cond (bytes_eq n f.0) (Some f.1)) k ∙ sym (named_first n f fs)
-    by false e k = other (bytes_eq n f.0) refl e k ∙ sym (named_first n f fs)
-
-at_projection : (names : List (List ℕ)) (n : List ℕ) (d : Datum) → among names n ≡ true
-    → at_name (projection (Some names) d) n ≡ at_name d n
-at_projection names n d h = ap (λ (a : Option Datum). unwrap_or a null)
-    (ap (attribute n)
-    (fields_list-object_of (filter (λ (f : List ℕ × Datum). among names f.0) (attributes d)))
-    ∙ still_named names n h (attributes d))
-
-module _ (x : Ident) (names : List (List ℕ)) where
-  agree_at : (u : Use) → IsCovered x names u → (row : Row) (d : Datum)
-      → AgreeAt u (bind x row (projection (Some names) d)) (bind x row d)
-  agree_at (Whole y) h row d = by (same_ident x y) h
-    where
-      by : (b : Bool) → b ≡ false
-          → unwrap_or (cond b (Some (projection (Some names) d)) (row y)) null
-          ≡ unwrap_or (cond b (Some d) (row y)) null
-      by true e = absurd (true≢false e)
-      by false e = refl
-  agree_at (Attribute y n) h row d = by (same_ident x y) h
-    where
-      by : (b : Bool) → (b ≡ true → among names n ≡ true)
-          → at_name (unwrap_or (cond b (Some (projection (Some names) d)) (row y)) null) n
-          ≡ at_name (unwrap_or (cond b (Some d) (row y)) null) n
-      by true f = at_projection names n d (f refl)
-      by false f = refl
-
-  agree_all : (us : Uses) → AllByRecursion (IsCovered x names) us → (row : Row) (d : Datum)
-      → Agree us (bind x row (projection (Some names) d)) (bind x row d)
-  agree_all [] h row d = tt
-  agree_all (u ∷ us) h row d = (agree_at u h.0 row d, agree_all us h.1 row d)
-
-  module _ (us : Uses) (cover : AllByRecursion (IsCovered x names) us) where
-    own_agree : (row : Row) (ds : List Datum)
-        → AllZip (Agree us) (map (bind x row) (map (projection (Some names)) ds))
-        (map (bind x row) (map (projection None) ds))
-    own_agree row [] = tt
-    own_agree row (d ∷ ds) = (agree_all us cover row d, own_agree row ds)
-
-    kept_agree : (pass : Row → Bool) (reads : Row → List Datum) (rows : List Row)
-        → AllZip (Agree us)
-        (with_each (bind x) rows (map (λ row. documents_kept x pass (Some names) row (reads row)) rows))
-        (with_each (bind x) rows (map (λ row. documents_kept x pass None row (reads row)) rows))
-    kept_agree pass reads [] = tt
-    kept_agree pass reads (row ∷ rows) =
-        append_related (Agree us) _ _ _ _
-        (own_agree row (filter (λ d. pass (bind x row d)) (reads row))) (kept_agree pass reads rows)
-
-    abbrev OfRow : List (List ℕ) → Bool → (Row → Bool) → Option (List (List ℕ)) → (Row → List Datum)
-        → Row → List Datum → Type 0
-    OfRow order descending pass attrs reads row list = (sorted : List Datum)
-        × InIndexOrder order descending (reads row) sorted × (list ≡ documents_kept x pass attrs row sorted)
-
-    lists_agree : (order : List (List ℕ)) (descending : Bool) (pass : Row → Bool) (reads : Row → List Datum)
-        → (rows : List Row) (lists : List (List Datum))
-        → AllZip (OfRow order descending pass (Some names) reads) rows lists
-        → (others : List (List Datum)) × AllZip (OfRow order descending pass None reads) rows others
-        × AllZip (Agree us) (with_each (bind x) rows lists) (with_each (bind x) rows others)
-    lists_agree order descending pass reads [] [] h = ([], tt, tt)
-    lists_agree order descending pass reads [] (ds ∷ lists) h = absurd h
-    lists_agree order descending pass reads (row ∷ rows) [] h = absurd h
-    lists_agree order descending pass reads (row ∷ rows) (ds ∷ lists) h =
-        let sorted = h.0.0 in
-        let k = lists_agree order descending pass reads rows lists h.1 in
-        let own = documents_kept x pass None row sorted in (
-          own ∷ k.0,
-          ((sorted, h.0.1, refl), k.1),
-          append_related (Agree us) (map (bind x row) ds) (map (bind x row) own) _ _
-              (subst (λ (es : List Datum). AllZip (Agree us) (map (bind x row) es) (map (bind x row) own))
-              (sym h.0.2) (own_agree row (filter (λ d. pass (bind x row d)) sorted))) k.2,
-        )
+  lists_agree : (order : List (List ℕ)) (descending : Bool) (pass : Row → Bool) (reads : Row → List Datum)
+      → (rows : List Row) (lists : List (List Datum))
+      → AllZip (OfRow order descending pass (Some names) reads) rows lists
+      → (others : List (List Datum)) × AllZip (OfRow order descending pass None reads) rows others
+      × AllZip (Agree us) (with_each (bind x) rows lists) (with_each (bind x) rows others)
+  lists_agree order descending pass reads [] [] h = ([], tt, tt)
+  lists_agree order descending pass reads [] (ds ∷ lists) h = absurd h
+  lists_agree order descending pass reads (row ∷ rows) [] h = absurd h
+  lists_agree order descending pass reads (row ∷ rows) (ds ∷ lists) h =
+      let sorted = h.0.0 in
+      let k = lists_agree order descending pass reads rows lists h.1 in
+      let own = documents_kept x pass None row sorted in (
+        own ∷ k.0,
+        ((sorted, h.0.1, refl), k.1),
+        append_related (Agree us) (map (bind x row) ds) (map (bind x row) own) _ _
+            (subst (λ (es : List Datum). AllZip (Agree us) (map (bind x row) es) (map (bind x row) own))
+            (sym h.0.2) (own_agree x names us cover row (filter (λ d. pass (bind x row d)) sorted))) k.2,
+      )
 
 -- ---- the lists are the same in what is used
 
