@@ -1,6 +1,7 @@
 pub mod Merging
 pub mod Given
 pub mod Fragmented
+pub mod Looked
 pub mod Sound
 pub mod Trees
 pub mod Exactness

@@ -2,7 +2,7 @@
 use Rattle.std.proofs.Common.{ℕ, true, false, Some, None}
 use Rattle.aql_meaning.specs.declared.grouping.Stage.TheVariants as stage
 use Rattle.aql_plan.specs.declared.facts.Facts.{Facts}
-use Rattle.aql_plan.specs.Plan.{Plan, Singleton, Over, Node, EnumerateCollection, Index, EnumerateList, Traversal, Calculation, Subquery, Filter, Sort, Limit, Collect, Return, NoResults, Scatter, Distribute, Remote, Gather}
+use Rattle.aql_plan.specs.Plan.{Plan, Over, Node, EnumerateCollection, Index, EnumerateList, Traversal, Calculation, Filter, Sort, Limit, Collect, NoResults, Remote}
 use Rattle.aql_plan.specs.Shapes.{Shape, Rows, Foot, Fragment, States, AllStates, Sent, Result, IsOuter, ReadsFragment, ReadsShard, KeepsRowOrder, IsSent, Shaped, one_row, calculated, with_subquery, plain_rows, ordered_rows, scatter, distribute, remote, lowest, lowest_in_order, other_reading, passing, sorting, gather, gather_in_order, partial, joining, finishing, returning}
 use Rattle.aql_local.specs.Fragments.{StandsOnShard, IsFragment, StandsApart, FootStandsApart}
 

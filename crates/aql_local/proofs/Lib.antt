@@ -1,6 +1,7 @@
 pub mod Returned
 pub mod CanRun
 pub mod Apart
+pub mod Uncut
 pub mod Trees
 pub mod OnShards
 pub mod Reached

@@ -6,9 +6,9 @@ use Rattle.std.proofs.lemmas.List.{length-map}
 use Rattle.std.proofs.lemmas.Option.{slice_get_within}
 use Rattle.aql_value.specs.Datum.{Datum}
 use Rattle.aql_value.specs.Contents.{at_name, same}
-use Rattle.aql_value.specs.Database.{Collection, documents_of}
+use Rattle.aql_value.specs.Database.{documents_of}
 use Rattle.aql_doc.specs.Held.{Held, database, documents_at}
-use Rattle.aql_meaning.specs.Documents.{Last, no_last, in_bounds}
+use Rattle.aql_meaning.specs.Documents.{no_last, in_bounds}
 use Rattle.aql_plan.specs.declared.facts.IndexKind.{IndexKind}
 use Rattle.aql_plan.specs.declared.facts.IndexKind.TheVariants.{Primary, Edge}
 use Rattle.aql_plan.specs.declared.facts.IndexFact.{IndexFact}

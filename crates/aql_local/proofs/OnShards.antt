@@ -1,5 +1,5 @@
 -- The operators of a fragment on a shard, by its top node and what is below; and lists of trees.
-use Rattle.std.proofs.Common.{◌≡◌, ◌∙◌, ℕ, ◌+◌, ◌<◌, ◌≤◌, List, [], ◌∷◌, ◌++◌, length, get_or, take, Some, None, true, false, refl, ap, sym, subst, arith}
+use Rattle.std.proofs.Common.{◌≡◌, ◌∙◌, ℕ, ◌+◌, ◌<◌, ◌≤◌, List, [], ◌∷◌, ◌++◌, length, get_or, take, Some, None, true, false, refl, ap, sym, arith}
 use Rattle.std.proofs.lemmas.List.{take_more}
 use Rattle.aql_meaning.specs.declared.grouping.Stage.TheVariants as stage
 use Rattle.aql_plan.specs.declared.facts.Facts.{Facts}
@@ -10,7 +10,7 @@ use Rattle.aql_exec.specs.declared.feed.Feed
 use Rattle.aql_exec.specs.Operators as operator
 use Rattle.aql_exec.specs.Operators.{Operator, OperatorTree, OperatorTrees, no_trees, tree_then, NoRows, Shards, leaf, within}
 use Rattle.aql_engine.specs.EachFits.{EachFits}
-use Rattle.aql_engine.specs.OperatorsOf.{operators_at, operators_of, operators_below, foot, shards_of, each_tree}
+use Rattle.aql_engine.specs.OperatorsOf.{last_looks, looked_at, operators_at, operators_of, operators_below, foot, shards_of, each_tree}
 use Rattle.aql_exec_fragments.specs.Feeds.{trees_of}
 use Rattle.aql_local.specs.Building.{SetsNumbers}
 use Rattle.aql_local.specs.Fragments.{StandsOnShard, IsFragment, is_foot, operator_on, all_trees, StandsApart, FootStandsApart, below_foot, is_gather, reached, gather_of, gather_operator}
@@ -25,7 +25,7 @@ above_foot b (Distribute coll es) h e = absurd (cc)
 above_foot b n h e = h
 
 pub shard_operators : (facts : Facts) (shard : ℕ) (b : Plan) (n : Node) → StandsOnShard n
-    → within (operator_on shard n) (operators_at facts (Some shard) b) (leaf NoRows)
+    → within (operator_on shard n) (looked_at (last_looks n) (operators_at facts (Some shard) b)) (leaf NoRows)
     ≡ operators_at facts (Some shard) (Over b n)
 shard_operators facts shard b (EnumerateCollection x) h = refl
 shard_operators facts shard b (Index x index equal last ordered) h = refl

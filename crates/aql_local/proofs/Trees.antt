@@ -5,14 +5,15 @@ use Rattle.aql_plan.specs.Nodes.{weight, weight_in, body_in}
 use Rattle.aql_plan.specs.Plan.{Plan, Singleton, Over, Node, Subquery, NoResults, Scatter, Distribute, Remote, Gather, top}
 use Rattle.aql_exec.specs.Operators.{NoRows, leaf, within}
 use Rattle.aql_engine.specs.EachFits.{EachFits, BodyFits}
-use Rattle.aql_engine.specs.OperatorsOf.{operators_of}
+use Rattle.aql_engine.specs.OperatorsOf.{last_looks, looked_at, operators_of}
 use Rattle.aql_local.specs.Fragments.{IsFragment, StandsApart, FootStandsApart, StandsOutside, is_gather}
 use Rattle.aql_local.specs.Building.{operator_of, body_operators, gives_none, SetsNumbers, NodeSetsNumbers}
 
 -- ---- operators
 
 pub node_operators : (facts : Facts) (b : Plan) (n : Node) → StandsOutside n → gives_none (Over b n) ≡ false
-    → within (operator_of n) (operators_of facts b) (body_operators facts n) ≡ operators_of facts (Over b n)
+    → within (operator_of n) (looked_at (last_looks n) (operators_of facts b)) (body_operators facts n)
+    ≡ operators_of facts (Over b n)
 node_operators facts b NoResults h e = absurd (cc)
 node_operators facts b (Scatter coll only) h e = absurd h
 node_operators facts b (Distribute coll es) h e = absurd h

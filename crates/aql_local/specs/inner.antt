@@ -1,3 +1,4 @@
 pub mod EdgeSteps
 pub mod Lookups
 pub mod Running
+pub mod Whole

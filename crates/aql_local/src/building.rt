@@ -22,6 +22,7 @@ use crate::nodes::{
     limit, no_results, results, sort, start_row, subquery,
 };
 use crate::reach::shards_reached;
+use crate::whole::{either, whole_below};
 use aql_engine::Tree;
 use aql_exec::{Executor, Feed, Unlinked, Wired};
 use aql_plan::{Node, Plan};
@@ -135,7 +136,8 @@ pub fn tree_of<X: PlanExecutor>(
                 return gather_tree(alloc, servers, plan, below);
             }
             let executor = X::of_node(alloc, plan)?;
-            let below = tree_of(alloc, servers, below)?;
+            let whole = whole_below(alloc, plan, below)?;
+            let below = tree_of(alloc, servers, either(&whole, below))?;
             let body = body_of(alloc, servers, plan)?;
             with_body(alloc, executor, below, body)
         }

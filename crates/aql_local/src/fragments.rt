@@ -10,6 +10,7 @@ ghost use Rattle.aql_local.specs.Fragments.{StandsOnShard, IsFragment, is_foot, 
 ghost use Rattle.aql_local.specs.Fragments.{operator_on, all_trees};
 
 use crate::World;
+use crate::whole::{either, whole_below};
 use aql_engine::Tree;
 use aql_exec::{Executor, Feed, Wired};
 use aql_exec_cluster::Founded;
@@ -105,7 +106,8 @@ pub fn tree_on_shard<X: ShardExecutor>(
                 return Ok(Tree::Leaf(X::shard_rows()));
             }
             let executor = X::on_shard(alloc, node, shard)?;
-            let below = tree_on_shard(alloc, below, shard)?;
+            let whole = whole_below(alloc, plan, below)?;
+            let below = tree_on_shard(alloc, either(&whole, below), shard)?;
             let body = Tree::Leaf(X::no_results());
             with_body(alloc, executor, below, body)
         }

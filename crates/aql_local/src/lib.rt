@@ -19,6 +19,7 @@ mod reach;
 mod readings;
 mod results;
 mod shard_nodes;
+mod whole;
 mod world;
 
 pub use building::{PlanExecutor, tree_of};

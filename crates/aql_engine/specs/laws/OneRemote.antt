@@ -19,6 +19,7 @@ use Rattle.aql_net.specs.Logs.{Dispatch, sent_in, is_taken, in_flight, said_on, 
 use Rattle.aql_engine.specs.Engine.{IsRunOver}
 use Rattle.aql_engine.specs.NoLimit.{HasNoLimit}
 use Rattle.aql_engine.specs.OperatorsOf.{shards_of, each_tree, came_at, operators_at, operators_below, operators_of}
+use Rattle.aql_engine.specs.laws.Looked.{looked_runs, looked_exact}
 use Rattle.aql_engine.specs.declared.engine.Ran.{Ran}
 
 -- ---- as many Remotes ask over a link as take its last reply
@@ -86,8 +87,9 @@ mutual
       (λ l. h.2.5.1 (opened_on l) ∙ all_many (length shards) lists each l ∙ sym (h.2.5.1 (closed_on l)))
       (λ l. h.2.4.2 (opened_on l) ∙ below l ∙ sym (h.2.4.2 (closed_on l)))
   at_many w (Over b n) at came row r h =
-      sum_many r.counts (h.0 0).counts h.2.0 h.2.3 (at_many w b at came row (h.0 0) h.1)
-      (λ l. (h.2.2 l).1 ∙ sym (h.2.2 l).2)
+      let k = looked_runs w came row at n (operators_at w.facts at b) r h in
+      sum_many r.counts (k.0 0).counts k.2.0 k.2.3 (at_many w b at came row (k.0 0) k.1)
+      (λ l. (k.2.2 l).1 ∙ sym (k.2.2 l).2)
 
   below_many : (w : Dataset) (p : Plan) (came : List Row) (row : Row) (r : Rest)
       → ProducesOver (operators_below w.facts p) w came row r → AsMany r.counts
@@ -139,7 +141,8 @@ module _ (facts : Facts) (c : Counter) (i : IsOfLink c) where
     at_exact (Over b (Traversal shape e colls prune keep)) at h = both_exact _ _ _
         (of_traversal _ c i (is_traversal shape e colls prune keep)) (at_exact b at h) refl
     at_exact (Over b (Limit offset count)) at h = absurd h
-    at_exact (Over b n) at h = both_exact _ _ _ refl (at_exact b at h) refl
+    at_exact (Over b n) at h =
+        both_exact _ _ _ refl (looked_exact n (operators_at facts at b) c ∙ at_exact b at h) refl
 
     below_exact : (p : Plan) → HasNoLimit p → exact_tree (operators_below facts p) c ≡ true
     below_exact Singleton h = refl

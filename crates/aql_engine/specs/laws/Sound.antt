@@ -15,6 +15,7 @@ use Rattle.aql_exec.specs.Operators.{leaf, one_row, EachRow, Makes, ProducesOver
 use Rattle.aql_engine.specs.OperatorsOf.{foot, shards_of, came_at, operators_at, operators_below, operators_of}
 use Rattle.aql_engine.specs.laws.Merging.{first_lists, merged_first_lists}
 use Rattle.aql_engine.specs.laws.Given.{place_at, given}
+use Rattle.aql_engine.specs.laws.Looked.{looked_runs}
 use Rattle.aql_engine.specs.laws.Fragmented.{shards_are, rows_are, each_list}
 
 -- a subquery's row is one with a list of its body
@@ -72,11 +73,12 @@ mutual
             (sym h.2.6)
             (merged_first_lists (row_before directions es) (length shards) lists h.2.1.rows h.2.5.0),
       )
-  gives_runs w (Over b n) at rows row r h = (
-    (h.0 0).rows,
-    gives_runs w b at rows row (h.0 0) h.1,
-    given w rows row (h.0 0).rows r.rows h.2.0 at n h.2.1,
-  )
+  gives_runs w (Over b n) at rows row r h =
+      let k = looked_runs w rows row at n (operators_at w.facts at b) r h in (
+        (k.0 0).rows,
+        gives_runs w b at rows row (k.0 0) k.1,
+        given w rows row (k.0 0).rows r.rows k.2.0 at n k.2.1,
+      )
 
   -- the list that the foot of a fragment takes
   gives_feed : (w : Dataset) (p : Plan) (rows : List Row) (row : Row) (r : Rest)

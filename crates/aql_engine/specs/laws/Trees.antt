@@ -6,20 +6,39 @@ use Rattle.std.proofs.lemmas.List.{length-append}
 use Rattle.aql_tree.specs.declared.syntax.Ident.{Ident}
 use Rattle.aql_tree.specs.Tree.{ExprTrees, no_exprs, no_into}
 use Rattle.aql_meaning.specs.Plain.{AllPlain}
+use Rattle.aql_meaning.specs.Uses.{Uses}
 use Rattle.aql_meaning.specs.declared.grouping.Stage.TheVariants as stage
 use Rattle.aql_plan.specs.declared.facts.Facts.{Facts}
 use Rattle.aql_plan.specs.Facts.{shards_in, numbers_below}
 use Rattle.aql_plan.specs.Plan.{Plan, Singleton, Over, Node, EnumerateCollection, Index, EnumerateList, Traversal, Calculation, Subquery, Filter, Sort, Limit, Collect, Return, NoResults, Scatter, Distribute, Remote, Gather}
 use Rattle.aql_plan.specs.Fits.{IsShard, Fits}
+use Rattle.aql_plan.specs.Needs.{under}
 use Rattle.aql_plan.specs.Shapes.{by_keys, Shape, Rows, Foot, Fragment, States, AllStates, Sent, Result, IsOuter, ReadsFragment, ReadsShard, KeepsRowOrder, IsSent, Shaped, one_row, calculated, with_subquery, plain_rows, ordered_rows, scatter, distribute, remote, lowest, lowest_in_order, other_reading, passing, sorting, gather, gather_in_order, partial, joining, finishing, returning, is_inside, HasNoFragment}
 use Rattle.aql_exec.specs.Operators.{OnRows, WithBody, OperatorTree, within, count_of, is_below, ReachesAll, IsTree, AreTrees}
-use Rattle.aql_engine.specs.OperatorsOf.{reading_at, foot, shards_of, each_tree, on_top, operators_at, operators_below, operators_of}
+use Rattle.aql_engine.specs.OperatorsOf.{reading_at, looked_at, foot, shards_of, each_tree, on_top, operators_at, operators_below, operators_of}
 use Rattle.aql_engine.specs.EachFits.{EachFits, FewShards}
 
 module _ (facts : Facts) where
   -- a node over one input, and a subquery over its input and body
   on_rows : (n : Node) (t : OperatorTree) → IsTree facts t → Fits facts n → IsTree facts (on_top (OnRows n) t)
   on_rows n t h f = (omega arith, omega arith, h, (refl, tt), refl, refl, f)
+
+  -- a node that hands on no row
+  over_looked : (us : Uses) (t : OperatorTree) → IsTree facts t → IsTree facts (looked_at (Some us) t)
+  over_looked us (within (OnRows (EnumerateCollection x)) below body) h = h
+  over_looked us (within (OnRows (Calculation x e)) below body) h =
+      (h.0, h.1, over_looked (under (Calculation x e) us) below h.2, h.3, h.4, h.5, h.6)
+  over_looked us (within (OnRows (Filter e)) below body) h =
+      (h.0, h.1, over_looked (under (Filter e) us) below h.2, h.3, h.4, h.5, h.6)
+  over_looked us (within (OnRows (Sort directions es n)) below body) h =
+      (h.0, h.1, over_looked (under (Sort directions es n) us) below h.2, h.3, h.4, h.5, h.6)
+  over_looked us (within (OnRows (Limit offset count)) below body) h =
+      (h.0, h.1, over_looked (under (Limit offset count) us) below h.2, h.3, h.4, h.5, h.6)
+  over_looked us t h = h
+
+  on_looked : (us : Uses) (n : Node) (t : OperatorTree) → IsTree facts t → Fits facts n
+      → IsTree facts (on_top (OnRows n) (looked_at (Some us) t))
+  on_looked us n t h f = on_rows n (looked_at (Some us) t) (over_looked us t h) f
 
   with_body : (x : Ident) (t body : OperatorTree) → IsTree facts t → IsTree facts body
       → IsTree facts (within (WithBody x) t body)
@@ -33,13 +52,15 @@ module _ (facts : Facts) where
   plain_tree (Over b (Subquery x body)) h f = with_body x (operators_of facts b) (operators_of facts body)
       (plain_tree b h.0 f.0) (plain_tree body h.1 f.2)
   plain_tree (Over b (Collect xs es gs i stage.Whole)) h f =
-      on_rows (Collect xs es gs i stage.Whole) (operators_of facts b) (plain_tree b h.0 f.0) f.1
+      on_looked _ (Collect xs es gs i stage.Whole) (operators_of facts b) (plain_tree b h.0 f.0) f.1
   plain_tree (Over b (Collect xs es gs i stage.Partial)) h f = absurd h.1
   plain_tree (Over b (Collect xs es gs i stage.Final)) h f = absurd h.1
   plain_tree (Over b (Scatter coll only)) h f = absurd h.1
   plain_tree (Over b (Distribute coll es)) h f = absurd h.1
   plain_tree (Over b Remote) h f = absurd h.1
   plain_tree (Over b (Gather directions es)) h f = absurd h.1
+  plain_tree (Over b (Return distinct e)) h f =
+      on_looked _ (Return distinct e) (operators_of facts b) (plain_tree b h.0 f.0) f.1
   plain_tree (Over b n) h f = on_rows n (operators_of facts b) (plain_tree b h.0 f.0) f.1
 
   -- ---- the trees of a fragment
@@ -222,7 +243,7 @@ module _ (facts : Facts) where
   outer b (Sort directions es n) i f h = on_rows (Sort directions es n) (operators_of facts b) h f
   outer b (Limit offset count) i f h = on_rows (Limit offset count) (operators_of facts b) h f
   outer b (Collect xs es gs j stage.Whole) i f h =
-      on_rows (Collect xs es gs j stage.Whole) (operators_of facts b) h f
+      on_looked _ (Collect xs es gs j stage.Whole) (operators_of facts b) h f
   outer b NoResults i f h = (refl, tt)
   outer b n i f h = absurd i
 
@@ -292,14 +313,14 @@ module _ (facts : Facts) where
   stands few p s (partial {b = b} {xs = xs} {es = es} {gs = gs} {o = o} f h) =
       let k = stands few b (Fragment o) h in
       let node = Collect xs es gs no_into stage.Partial in
-      (k.0, (λ shard l. on_rows node (operators_at facts (Some shard) b) (k.1.0 shard l) f, k.1.1))
+      (k.0, (λ shard l. on_looked _ node (operators_at facts (Some shard) b) (k.1.0 shard l) f, k.1.1))
   stands few p s (joining {b = b} {xs = xs} {es = es} {gs = gs} h) =
       let k = stands few b (Sent (States xs es gs)) h in gathered b k.0 k.1 [] no_exprs tt
   stands few p s (finishing {b = b} {xs = xs} {es = es} {gs = gs} f h) =
-      on_rows (Collect xs es gs no_into stage.Final) (operators_of facts b)
+      on_looked _ (Collect xs es gs no_into stage.Final) (operators_of facts b)
       (stands few b (AllStates xs es gs) h) f
   stands few p s (returning {b = b} {distinct = distinct} {e = e} f h) =
-      on_rows (Return distinct e) (operators_of facts b) (stands few b (Rows false) h) f
+      on_looked _ (Return distinct e) (operators_of facts b) (stands few b (Rows false) h) f
 
   outside : (p : Plan) (s : Shape) → is_inside s ≡ false → Stands p s → IsTree facts (operators_of facts p)
   outside p (Rows one) e h = h

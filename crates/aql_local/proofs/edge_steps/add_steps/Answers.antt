@@ -10,7 +10,6 @@ use Rattle.aql_shard.specs.Datasets.{stock}
 use Rattle.aql_shard.specs.Holding.{Holding}
 use Rattle.aql_local.specs.inner.EdgeSteps.{near_end, edges_by, step_over}
 use Rattle.aql_local.specs.inner.Lookups.{order_by}
-use Rattle.aql_local.proofs.Places.{spanned_length}
 use Rattle.aql_local.proofs.Ways.{none_more, one_more_found, still_same, found_by_way, number_found, one_edge_more}
 use Rattle.aql_local.proofs.edge_steps.add_steps.Goals as goal
 use Rattle.aql_local.proofs.edge_steps.add_steps.Goals.{After-loop-place, in-Some+in_ok-push, in_default}

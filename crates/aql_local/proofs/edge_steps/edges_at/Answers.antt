@@ -1,10 +1,10 @@
-use Rattle.std.proofs.Common.{◌∙◌, ◌+◌, ◌<◌, ◌++◌, length, take, get_or, sym, ap, subst}
+use Rattle.std.proofs.Common.{◌∙◌, ◌<◌, ◌++◌, length, take, get_or, sym, ap, subst}
 use Rattle.std.specs.List.{AllByRecursion}
 use Rattle.aql_value.specs.declared.lists.CollNo.{CollNo}
 use Rattle.aql_value.specs.Database.{documents_of}
 use Rattle.aql_plan.specs.Fits.{IsEdgeCollection}
 use Rattle.aql_plan.specs.Runs.{edges_in}
-use Rattle.aql_exec_graph.specs.Found.{numbers, steps_in, edges_found}
+use Rattle.aql_exec_graph.specs.Found.{numbers, edges_found}
 use Rattle.aql_shard.specs.Datasets.{stock}
 use Rattle.aql_shard.specs.Holding.{Holding}
 use Rattle.aql_local.proofs.Ways.{each_has, one_more_collection, steps_after_other, counted_after_other, both_found, still_same}

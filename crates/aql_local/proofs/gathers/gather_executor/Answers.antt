@@ -6,7 +6,6 @@ use Rattle.aql_exec.specs.Operators as operator
 use Rattle.aql_local.specs.Building.{SetsNumbers}
 use Rattle.aql_local.specs.Fragments.{StandsApart, IsFragment, gather_of, gather_operator, is_gather, is_foot}
 use Rattle.aql_plan.specs.Plan.{Plan, top}
-use Rattle.aql_local.proofs.Returned.{if_map}
 use Rattle.aql_local.proofs.Trees.{apart_fragment}
 use Rattle.aql_local.proofs.OnShards.{foot_of_fragment, shards_is, gathered_is}
 use Rattle.aql_local.proofs.gathers.gather_executor.Goals as goal

@@ -1,5 +1,5 @@
 -- There are as many numbers as were asked for.
-use Rattle.std.proofs.Common.{◌≡◌, ◌∙◌, ◌<◌, ℕ, length, ap, subst, sym, arith}
+use Rattle.std.proofs.Common.{length, ap, arith}
 use Rattle.aql_index.specs.laws.Numbers.{length-numbers_below}
 use Rattle.aql_local.proofs.Returned.{if_map}
 use Rattle.aql_local.proofs.reach.shards_reached.Goals as goal
