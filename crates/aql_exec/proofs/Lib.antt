@@ -3,3 +3,4 @@ pub mod Advancing
 pub mod Limited
 pub mod Asking
 pub mod Answering
+pub mod Variables

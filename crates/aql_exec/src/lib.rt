@@ -36,4 +36,4 @@ pub use surroundings::Surroundings;
 pub use transform::Transform;
 pub use turns::{Message, Turn};
 pub use unlinked::{AsWired, Unlinked};
-pub use values::{take_front, values_in};
+pub use values::{take_front, values_in, variable_values};

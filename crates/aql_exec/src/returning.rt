@@ -8,7 +8,7 @@ ghost use Rattle.aql_plan.specs.Runs.{result_row};
 
 use crate::mapped::{Mapped, RowMap};
 use crate::surroundings::Surroundings;
-use crate::values::values_in;
+use crate::values::into_values;
 use aql_block::Block;
 use aql_tree::Expr;
 use aql_value::OutOfMemory;
@@ -34,7 +34,7 @@ impl<W: Surroundings> RowMap<W> for Results {
     fn map(&self, alloc: Global, _world: &W, block: Block) -> Result<Block, OutOfMemory> {
         // a block has fewer than 2^32 rows, so there are no more values
         let _count = block.len();
-        let values = values_in(alloc, &self.expr, &block)?;
+        let values = into_values(alloc, &self.expr, block)?;
         Block::from_values(alloc, 0, values)
     }
 

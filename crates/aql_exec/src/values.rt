@@ -1,15 +1,18 @@
 //! The values of an expression at the rows of a block.
 
-ghost use Rattle.std.specs.Prelude.{◌≡◌, IfOk, OnOk, take, drop};
+ghost use Rattle.std.specs.Prelude.{◌≡◌, map, replicate, IfOk, OnOk, take, drop};
+ghost use Rattle.aql_value.specs.Datum.{null};
 ghost use Rattle.aql_value.specs.View.{datums_in};
 ghost use Rattle.aql_tree.specs.View.{tree};
+ghost use Rattle.aql_tree.specs.declared.syntax.Ident.TheVariants.{Num};
+ghost use Rattle.aql_meaning.specs.Row.{value_at};
 ghost use Rattle.aql_meaning.specs.Plain.{IsPlain};
 ghost use Rattle.aql_meaning.specs.AtRows.{values_of};
 ghost use Rattle.aql_block.specs.Tables.{rows_of};
 
 use aql_block::Block;
 use aql_expr::eval;
-use aql_tree::Expr;
+use aql_tree::{Expr, Ident};
 use aql_value::{OutOfMemory, Value};
 use std::alloc::Global;
 use std::mem;
@@ -26,6 +29,44 @@ pub fn values_in(alloc: Global, e: &Expr, block: &Block) -> Result<Vec<Value>, O
             let value = eval(alloc, e, &row)?;
             values.push(value)?;
         }
+    }
+    Ok(values)
+}
+
+/// The same, where the rows are not needed any more: the values of a variable are moved.
+pub fn into_values(alloc: Global, e: &Expr, block: Block) -> Result<Vec<Value>, OutOfMemory>
+    requires { IsPlain (tree e.now) }
+    ensures { IfOk result
+        (λ values. datums_in values.items ≡ values_of (tree e.now) (rows_of block)) }
+{
+    match e {
+        Expr::Var(Ident::Num(var)) => variable_values(alloc, *var, block),
+        _ => values_in(alloc, e, &block),
+    }
+}
+
+/// The value of a variable in each row, in order, and null where a row has none. They are moved.
+pub fn variable_values(alloc: Global, var: u32, block: Block) -> Result<Vec<Value>, OutOfMemory>
+    ensures { IfOk result (λ values.
+        datums_in values.items ≡ map (λ row. value_at row (Num var)) (rows_of block)) }
+{
+    let count = block.len();
+    match block.into_values(var) {
+        Some(values) => Ok(values),
+        None => {
+            let values = nulls(alloc, count)?;
+            Ok(values)
+        }
+    }
+}
+
+// So many nulls.
+fn nulls(alloc: Global, count: u32) -> Result<Vec<Value>, OutOfMemory>
+    ensures { IfOk result (λ values. datums_in values.items ≡ replicate count null) }
+{
+    let mut values = Vec::with_capacity(alloc, count as usize)?;
+    for _null in 0..count {
+        values.push(Value::Null)?;
     }
     Ok(values)
 }

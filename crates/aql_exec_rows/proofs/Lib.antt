@@ -3,7 +3,6 @@ pub mod Ordered
 pub mod Arrays
 pub mod Keyings
 pub mod Joining
-pub mod Results
 pub mod Parts
 pub mod Keeping
 pub mod Seen

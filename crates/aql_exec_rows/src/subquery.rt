@@ -1,8 +1,7 @@
 //! LET of a subquery: each row with the array of what a body gives from it.
 
 ghost use Rattle.std.specs.Prelude.{◌≡◌, ◌+◌, ◌≤◌, ◌++◌, List, length, map, cond, option_map};
-ghost use Rattle.std.specs.Prelude.{slice_get, replicate, IfOk, OnOk};
-ghost use Rattle.aql_value.specs.Datum.{null};
+ghost use Rattle.std.specs.Prelude.{slice_get, IfOk, OnOk};
 ghost use Rattle.aql_value.specs.View.{datums_in};
 ghost use Rattle.aql_tree.specs.declared.syntax.Ident.TheVariants.{Num};
 ghost use Rattle.aql_meaning.specs.Row as meaning;
@@ -14,7 +13,7 @@ ghost use Rattle.aql_exec.specs.Steps.{IsCall, InCall, given, reported};
 ghost use Rattle.aql_exec.specs.Operators.{WithBody};
 
 use aql_block::{Block, Call, Progress, Row, Step, Tally};
-use aql_exec::{Executor, Surroundings, Turn, Unlinked, nothing, take_front};
+use aql_exec::{Executor, Surroundings, Turn, Unlinked, nothing, take_front, variable_values};
 use aql_value::{Items, OutOfMemory, Value};
 use std::alloc::Global;
 use std::mem;
@@ -75,14 +74,11 @@ fn row_at(alloc: Global, block: &Block, at: usize) -> Result<Option<Row>, OutOfM
 
 /// Adds the results that rows of a body stand for: the values of the variable 0, null where a row
 /// has none.
-pub fn add_results(block: Block, results: &mut Items) -> Result<(), OutOfMemory>
+pub fn add_results(alloc: Global, block: Block, results: &mut Items) -> Result<(), OutOfMemory>
     ensures { OnOk result (results.new ≡ results.old ++ map result_of (rows_of block)) }
 {
-    let count = block.len();
-    match block.into_values(0) {
-        Some(values) => add_values(values, results),
-        None => add_nulls(count, results),
-    }
+    let values = variable_values(alloc, 0, block)?;
+    add_values(values, results)
 }
 
 fn add_values(values: Vec<Value>, results: &mut Items) -> Result<(), OutOfMemory>
@@ -91,15 +87,6 @@ fn add_values(values: Vec<Value>, results: &mut Items) -> Result<(), OutOfMemory
     results.reserve(values.len())?;
     for value in values {
         results.push(value)?;
-    }
-    Ok(())
-}
-
-fn add_nulls(count: u32, results: &mut Items) -> Result<(), OutOfMemory>
-    ensures { OnOk result (results.new ≡ results.old ++ replicate count null) }
-{
-    for _null in 0..count {
-        results.push(Value::Null)?;
     }
     Ok(())
 }
@@ -266,7 +253,7 @@ impl<W: Surroundings> Executor<W> for Subquery {
             }
             return Ok(());
         }
-        add_results(block, &mut self.results)?;
+        add_results(alloc, block, &mut self.results)?;
         match progress {
             Progress::Waiting => self.waiting = true,
             Progress::HasMore => {}

@@ -15,7 +15,7 @@ pub fn results_of(alloc: Global, blocks: Vec<Block>) -> Result<Items, OutOfMemor
 {
     let mut results = Items::new(alloc);
     for block in blocks {
-        add_results(block, &mut results)?;
+        add_results(alloc, block, &mut results)?;
     }
     Ok(results)
 }
