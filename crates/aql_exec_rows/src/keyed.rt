@@ -2,6 +2,7 @@
 
 ghost use Rattle.std.specs.Prelude.{◌≡◌, List, ◌++◌, map, IfOk, OnOk, IsPermutation, IsSortedBy};
 ghost use Rattle.aql_value.specs.Datum.{null};
+ghost use Rattle.aql_value.specs.Compare.{compare};
 ghost use Rattle.aql_value.specs.View.{datum_of, datums_in};
 ghost use Rattle.aql_func.specs.Arguments.{argument};
 ghost use Rattle.aql_plan.specs.View.{directions, key_trees};
@@ -108,19 +109,42 @@ fn value_at<'a>(values: &'a [Value], at: usize, missing: &'a Value) -> &'a Value
     }
 }
 
+// How two values compare. Most keys are numbers, which need no call.
+fn compare_values(left: &Value, right: &Value) -> Ordering
+    ensures { result ≡ compare (datum_of left.now) (datum_of right.now) }
+{
+    match (left, right) {
+        (Value::Num(first), Value::Num(second)) => first.cmp(second),
+        _ => cmp(left, right),
+    }
+}
+
 // How two values of one key compare.
 fn compare_key(descending: bool, left: &Value, right: &Value) -> Ordering
     ensures { result ≡ key_cmp descending (datum_of left.now) (datum_of right.now) }
 {
     if descending {
-        cmp(right, left)
+        compare_values(right, left)
     } else {
-        cmp(left, right)
+        compare_values(left, right)
+    }
+}
+
+// How the values of two rows compare.
+fn compare_keys(keys: &[Key], left: &KeyValues, right: &KeyValues) -> Ordering
+    ensures { result
+        ≡ keys_cmp (directions keys.now) (values_in left.now) (values_in right.now) }
+{
+    match (keys, left, right) {
+        ([key], KeyValues::One(first), KeyValues::One(second)) => {
+            compare_key(key.descending, first, second)
+        }
+        _ => compare_lists(keys, left.as_slice(), right.as_slice()),
     }
 }
 
 // How two lists of values compare: the first key that differs decides.
-fn compare(keys: &[Key], left: &[Value], right: &[Value]) -> Ordering
+fn compare_lists(keys: &[Key], left: &[Value], right: &[Value]) -> Ordering
     ensures { result
         ≡ keys_cmp (directions keys.now) (datums_in left.now) (datums_in right.now) }
 {
@@ -142,7 +166,7 @@ fn sort_rows(keys: &[Key], held: &mut Vec<Keyed>) -> Result<(), OutOfMemory>
     ensures sorted { OnOk result
         (IsSortedBy (comes_before (directions keys.now)) (keyed_in held.new.items)) }
 {
-    held.sort_by(|left, right| compare(keys, left.keys.as_slice(), right.keys.as_slice()))?;
+    held.sort_by(|left, right| compare_keys(keys, &left.keys, &right.keys))?;
     Ok(())
 }
 

@@ -2,7 +2,7 @@ use Rattle.std.proofs.Common.{◌≡◌, drop}
 use Rattle.aql_value.specs.View.{datums_in}
 use Rattle.aql_plan.specs.View.{directions}
 use Rattle.aql_meaning.specs.Clauses.{keys_cmp}
-use Rattle.aql_exec_rows.proofs.keyed.compare.Given as goal
+use Rattle.aql_exec_rows.proofs.keyed.compare_lists.Given as goal
 
 -- the keys so far are equal, so the others decide
 abbrev pub invariant-loop-at : goal.invariant-loop-at

@@ -2,7 +2,7 @@ use Rattle.std.proofs.Common.{◌∙◌, ap₂, sym}
 use Rattle.aql_value.specs.View.{datums_in}
 use Rattle.aql_meaning.specs.Clauses.{key_cmp}
 use Rattle.aql_exec_rows.proofs.Keyings.{from_place, key_here, differs, equals}
-use Rattle.aql_exec_rows.proofs.keyed.compare.Goals as goal
+use Rattle.aql_exec_rows.proofs.keyed.compare_lists.Goals as goal
 
 pub returns-then-is_ne : goal.returns-then-is_ne
 returns-then-is_ne c =
