@@ -6,6 +6,7 @@ ghost use Rattle.aql_meaning.specs.Documents.{is_above, is_beneath};
 ghost use Rattle.aql_index.specs.Bounds.{end_of, range_of};
 ghost use Rattle.aql_index.specs.inner.Zones.{IsTail, range_zone, tail_zone, zone};
 
+use crate::keys::compare_values;
 use aql_value::{Value, cmp};
 use std::cmp::Ordering;
 
@@ -84,7 +85,7 @@ fn tail_zone(tail: &Tail<'_>, keys: &[Value]) -> Ordering
     match (tail, keys.first()) {
         (Tail::Any, _) => Ordering::Equal,
         (_, None) => Ordering::Less,
-        (Tail::One(value), Some(key)) => cmp(key, value),
+        (Tail::One(value), Some(key)) => compare_values(key, value),
         (Tail::Between(low, high), Some(key)) => range_zone(low, high, key),
     }
 }
@@ -96,7 +97,7 @@ pub(crate) fn zone(keys: &[Value], equal: &[Value], tail: &Tail<'_>) -> Ordering
     for (i, value) in equal.iter().enumerate() {
         match keys.get(i) {
             None => return Ordering::Less,
-            Some(key) => match cmp(key, value) {
+            Some(key) => match compare_values(key, value) {
                 Ordering::Equal => {}
                 order => return order,
             },

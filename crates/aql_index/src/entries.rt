@@ -12,8 +12,8 @@ ghost use Rattle.aql_index.specs.declared.entries.Entry.{Entry};
 ghost use Rattle.aql_index.specs.inner.Zones.{tail_zone, zone, in_zone};
 
 use crate::bounds::{Span, Tail, zone};
-use crate::keys::{Keys, keys_of};
-use aql_value::{OutOfMemory, Text, Value, cmp};
+use crate::keys::{Keys, compare_values, keys_of};
+use aql_value::{OutOfMemory, Text, Value};
 use std::alloc::Global;
 use std::cmp::Ordering;
 
@@ -29,10 +29,19 @@ pub struct Entry {
 pub(crate) fn compare(left: &[Value], right: &[Value]) -> Ordering
     ensures { result ≡ compare (list (datums_in left.now)) (list (datums_in right.now)) }
 {
+    match (left, right) {
+        ([first], [second]) => compare_values(first, second),
+        _ => compare_lists(left, right),
+    }
+}
+
+fn compare_lists(left: &[Value], right: &[Value]) -> Ordering
+    ensures { result ≡ compare (list (datums_in left.now)) (list (datums_in right.now)) }
+{
     for (i, value) in left.iter().enumerate() {
         match right.get(i) {
             None => return Ordering::Greater,
-            Some(other) => match cmp(value, other) {
+            Some(other) => match compare_values(value, other) {
                 Ordering::Equal => {}
                 order => return order,
             },

@@ -1,11 +1,13 @@
 //! The values of an index's attributes.
 
 ghost use Rattle.std.specs.Prelude.{◌≡◌, IfOk};
+ghost use Rattle.aql_value.specs.Compare.{compare};
 ghost use Rattle.aql_value.specs.View.{datum_of, datums_in};
 ghost use Rattle.aql_meaning.specs.Documents.{index_keys};
 
-use aql_value::{Items, OutOfMemory, Text, Value, copy, copy_attribute};
+use aql_value::{Items, OutOfMemory, Text, Value, cmp, copy, copy_attribute};
 use std::alloc::Global;
+use std::cmp::Ordering;
 use std::marker::Model;
 use std::slice;
 
@@ -37,6 +39,17 @@ impl Model for Keys {
     ghost coded = { coded_datums };
 
     ghost view = { λ k. datums_of k.values };
+}
+
+/// How two values compare. Most are numbers or texts, which need no call.
+pub(crate) fn compare_values(left: &Value, right: &Value) -> Ordering
+    ensures { result ≡ compare (datum_of left.now) (datum_of right.now) }
+{
+    match (left, right) {
+        (Value::Num(first), Value::Num(second)) => first.cmp(second),
+        (Value::Text(first), Value::Text(second)) => first.as_str().cmp(second.as_str()),
+        _ => cmp(left, right),
+    }
 }
 
 // Copies of the attributes of these names, in a list.

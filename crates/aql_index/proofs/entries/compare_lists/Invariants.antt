@@ -2,7 +2,7 @@ use Rattle.std.proofs.Common.{◌≡◌, ◌≤◌, length, drop}
 use Rattle.aql_value.specs.Compare.{compare}
 use Rattle.aql_value.specs.Contents.{list}
 use Rattle.aql_value.specs.View.{datums_in}
-use Rattle.aql_index.proofs.entries.compare.Given as goal
+use Rattle.aql_index.proofs.entries.compare_lists.Given as goal
 
 -- the values so far are equal, so the others decide
 abbrev pub invariant-loop-i : goal.invariant-loop-i
