@@ -1,7 +1,6 @@
 -- The texts of expressions with brackets, part by part.
-use Rattle.std.proofs.Common.{rules, ◌≡◌, ◌∙◌, ℕ, List, ◌++◌, ap, option_map, append_assoc}
+use Rattle.std.proofs.Common.{◌≡◌, ℕ, List, ◌++◌, option_map, append_assoc}
 use Rattle.std.specs.Prelude.{codes}
-use Rattle.aql_tree.specs.Tree.{range_of, ternary}
 use Rattle.aql_tree.specs.declared.syntax.Expr.{Expr, the_lemmas}
 use Rattle.aql_tree.specs.declared.syntax.Expr as code
 use Rattle.aql_tree.specs.View.{tree, maybe}

@@ -225,16 +225,18 @@ pub fn write_into(
     }
 }
 
-/// Appends a variable and the collection that it runs over.
+/// Appends a word, a variable, and the collection that it runs over.
 pub fn write_source(
+    word: &[u8],
     var: u32,
     coll: CollNo,
     known: &Known<'_>,
     out: &mut Vec<u8>,
 ) -> Result<(), OutOfMemory>
-    ensures { OnOk result (out.new.items ≡ out.old.items
+    ensures { OnOk result (out.new.items ≡ out.old.items ++ word.now
         ++ spec.source_text known.now.names.now known.now.facts.now (Num var) coll.0) }
 {
+    put(word, out)?;
     write_variable(var, known.names, out)?;
     put(b" IN ", out)?;
     write_collection(coll, known.facts, out)

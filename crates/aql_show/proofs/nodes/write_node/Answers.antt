@@ -1,4 +1,4 @@
-use Rattle.std.proofs.Common.{[], ap, sym, ◌∙◌, ◌++◌, map, option_map}
+use Rattle.std.proofs.Common.{ap, sym, ◌∙◌, ◌++◌, map, option_map}
 use Rattle.std.proofs.lemmas.Result.{on_ok_weaker}
 use Rattle.std.specs.Prelude.{codes, List, ℕ}
 use Rattle.aql_value.specs.declared.lists.CollNo.{CollNo}
@@ -8,11 +8,11 @@ use Rattle.aql_tree.specs.View.{tree}
 use Rattle.aql_meaning.specs.View.{last_tree, options_tree}
 use Rattle.aql_plan.specs.declared.plan.Node.{Node}
 use Rattle.aql_plan.specs.View.{node_tree, maybe_tree, expr_trees}
-use Rattle.aql_show.specs.Exprs.{expr_text, expr_texts}
+use Rattle.aql_show.specs.Exprs.{expr_text}
 use Rattle.aql_show.specs.Lists.{listed}
 use Rattle.aql_show.specs.Names.{variable_text, collection_text}
 use Rattle.aql_show.specs.Nodes.{node_text, source_text, reading_text, use_text, ordered_text, walk_text, paths_text}
-use Rattle.aql_show.proofs.Appended.{three, five, over_list, with_let, with_start, bracketed}
+use Rattle.aql_show.proofs.Appended.{over_list, read, used, with_let, with_start}
 use Rattle.aql_show.proofs.nodes.write_node.Goals as goal
 
 pub returns-in_ok-write_source-in-EnumerateCollection : goal.returns-in_ok-write_source-in-EnumerateCollection
@@ -22,49 +22,46 @@ returns-in_ok-write_source-in-EnumerateCollection c =
     let facts = c.args.known.now.facts.now in
     let out = c.args.out.now.items in
     on_ok_weaker c.write_reading.result
-    (λ h. three out c.put.new.out.items c.write_source.new.out.items c.write_reading.new.out.items
+    (λ h. read out c.write_source.new.out.items c.write_reading.new.out.items
     (codes "EnumerateCollection ") (source_text names facts (Num n.var) n.coll.0)
     (reading_text names (maybe_tree n.filter) n.attrs n.shard)
-    c.in_ok-put-in-EnumerateCollection.ensures c.in_ok-write_source-in-EnumerateCollection.ensures h
+    c.in_ok-write_source-in-EnumerateCollection.ensures h
     ∙ ap (λ (d : Node). out ++ node_text names facts (node_tree d)) (sym n.is))
     c.write_reading.ensures
 
-pub returns-in_ok-put-in-Index-2 : goal.returns-in_ok-put-in-Index-2
-returns-in_ok-put-in-Index-2 c =
+pub returns-in_ok-put-in-Index : goal.returns-in_ok-put-in-Index
+returns-in_ok-put-in-Index c =
     let n = c.in-Index in
     let names = c.args.known.now.names.now in
     let facts = c.args.known.now.facts.now in
     let out = c.args.out.now.items in
     on_ok_weaker c.write_reading-in-Index.result
-    (λ h. five out c.put-in-Index.new.out.items c.write_source-in-Index.new.out.items
-    c.write_use.new.out.items
-    c.put-in-Index-2.new.out.items c.write_reading-in-Index.new.out.items
+    (λ h. used out c.write_source-in-Index.new.out.items c.write_use.new.out.items
+    c.put.new.out.items c.write_reading-in-Index.new.out.items
     (codes "Index ") (source_text names facts (Num n.var) n.coll.0)
     (use_text names facts (Num n.var) n.coll.0 n.index (expr_trees n.equal) (last_tree n.last))
     (ordered_text n.ordered) (reading_text names (maybe_tree n.filter) n.attrs n.shard)
-    c.in_ok-put-in-Index.ensures c.in_ok-write_source-in-Index.ensures
+    c.in_ok-write_source-in-Index.ensures
     (c.in_ok-write_use-in-Index.ensures
     ∙ ap (λ (es : List Expr). c.write_source-in-Index.new.out.items
     ++ use_text names facts (Num n.var) n.coll.0 n.index (expr_trees es) (last_tree n.last))
     c.as_slice.ensures)
-    (c.in_ok-put-in-Index-2.ensures ∙ ap (λ (t : List ℕ). c.write_use.new.out.items ++ t)
+    (c.in_ok-put-in-Index.ensures ∙ ap (λ (t : List ℕ). c.write_use.new.out.items ++ t)
     c.ordered_text.ensures) h
     ∙ ap (λ (d : Node). out ++ node_text names facts (node_tree d)) (sym n.is))
     c.write_reading-in-Index.ensures
 
-pub returns-in_ok-write_variable-in-EnumerateList : goal.returns-in_ok-write_variable-in-EnumerateList
-returns-in_ok-write_variable-in-EnumerateList c =
+pub returns-in-EnumerateList : goal.returns-in-EnumerateList
+returns-in-EnumerateList c =
     let n = c.in-EnumerateList in
     let names = c.args.known.now.names.now in
     let facts = c.args.known.now.facts.now in
     let out = c.args.out.now.items in
-    on_ok_weaker c.write_after.result
-    (λ h. over_list out c.put-in-EnumerateList.new.out.items c.write_variable.new.out.items
-    c.write_after.new.out.items
-    (codes "EnumerateList ") (variable_text names (Num n.var)) (codes " IN ") (expr_text names (tree n.list))
-    c.in_ok-put-in-EnumerateList.ensures c.in_ok-write_variable-in-EnumerateList.ensures h
+    on_ok_weaker c.write_let.result
+    (λ h. over_list out c.write_let.new.out.items
+    (codes "EnumerateList ") (variable_text names (Num n.var)) (codes " IN ") (expr_text names (tree n.list)) h
     ∙ ap (λ (d : Node). out ++ node_text names facts (node_tree d)) (sym n.is))
-    c.write_after.ensures
+    c.write_let.ensures
 
 pub returns-in_ok-write_collections-in-Traversal : goal.returns-in_ok-write_collections-in-Traversal
 returns-in_ok-write_collections-in-Traversal c =
@@ -74,7 +71,7 @@ returns-in_ok-write_collections-in-Traversal c =
     let out = c.args.out.now.items in
     on_ok_weaker c.write_paths.result
     (λ h. with_start out c.put-in-Traversal.new.out.items c.write_walk.new.out.items
-    c.write_after-in-Traversal.new.out.items
+    c.write_after.new.out.items
     c.write_collections.new.out.items c.write_paths.new.out.items
     (codes "Traversal ") (walk_text names (Num n.vertex) (option_map (λ x. Num x) n.edge)
     (option_map (λ x. Num x) n.path) n.min n.max n.direction)
@@ -84,40 +81,19 @@ returns-in_ok-write_collections-in-Traversal c =
     c.in_ok-put-in-Traversal.ensures c.in_ok-write_walk-in-Traversal.ensures
     c.in_ok-write_after-in-Traversal.ensures
     (c.in_ok-write_collections-in-Traversal.ensures
-    ∙ ap (λ (cs : List CollNo). c.write_after-in-Traversal.new.out.items ++ listed (codes " ") (codes ",")
+    ∙ ap (λ (cs : List CollNo). c.write_after.new.out.items ++ listed (codes " ") (codes ",")
     (map (collection_text facts) (map (λ (c : CollNo). c.0) cs))) c.as_slice-in-Traversal.ensures) h
     ∙ ap (λ (d : Node). out ++ node_text names facts (node_tree d)) (sym n.is))
     c.write_paths.ensures
 
-pub returns-in_ok-write_variable-in-Calculation : goal.returns-in_ok-write_variable-in-Calculation
-returns-in_ok-write_variable-in-Calculation c =
+pub returns-in-Calculation : goal.returns-in-Calculation
+returns-in-Calculation c =
     let n = c.in-Calculation in
     let names = c.args.known.now.names.now in
     let facts = c.args.known.now.facts.now in
     let out = c.args.out.now.items in
-    on_ok_weaker c.write_after-in-Calculation.result
-    (λ h. with_let out c.put-in-Calculation.new.out.items c.write_variable-in-Calculation.new.out.items
-    c.write_after-in-Calculation.new.out.items
-    (codes "Calculation ") (variable_text names (Num n.var)) (codes " = ") (expr_text names (tree n.expr))
-    c.in_ok-put-in-Calculation.ensures c.in_ok-write_variable-in-Calculation.ensures h
+    on_ok_weaker c.write_let-in-Calculation.result
+    (λ h. with_let out c.write_let-in-Calculation.new.out.items
+    (codes "Calculation ") (variable_text names (Num n.var)) (codes " = ") (expr_text names (tree n.expr)) h
     ∙ ap (λ (d : Node). out ++ node_text names facts (node_tree d)) (sym n.is))
-    c.write_after-in-Calculation.ensures
-
-pub returns-in_ok-write_exprs-in-Distribute : goal.returns-in_ok-write_exprs-in-Distribute
-returns-in_ok-write_exprs-in-Distribute c =
-    let n = c.in-Distribute in
-    let names = c.args.known.now.names.now in
-    let facts = c.args.known.now.facts.now in
-    let out = c.args.out.now.items in
-    on_ok_weaker c.put-in-Distribute-3.result
-    (λ h. bracketed out c.put-in-Distribute.new.out.items c.write_collection-in-Distribute.new.out.items
-    c.put-in-Distribute-2.new.out.items c.write_exprs.new.out.items c.put-in-Distribute-3.new.out.items
-    (codes "Distribute ") (collection_text facts n.coll.0)
-    (listed [] (codes ", ") (expr_texts names (expr_trees n.exprs)))
-    c.in_ok-put-in-Distribute.ensures c.in_ok-write_collection-in-Distribute.ensures
-    c.in_ok-put-in-Distribute-2.ensures
-    (c.in_ok-write_exprs-in-Distribute.ensures
-    ∙ ap (λ (es : List Expr). c.put-in-Distribute-2.new.out.items ++ listed [] (codes ", ")
-    (expr_texts names (expr_trees es))) c.as_slice-in-Distribute.ensures) h
-    ∙ ap (λ (d : Node). out ++ node_text names facts (node_tree d)) (sym n.is))
-    c.put-in-Distribute-3.ensures
+    c.write_let-in-Calculation.ensures
