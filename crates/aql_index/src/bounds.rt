@@ -94,6 +94,10 @@ fn tail_zone(tail: &Tail<'_>, keys: &[Value]) -> Ordering
 pub(crate) fn zone(keys: &[Value], equal: &[Value], tail: &Tail<'_>) -> Ordering
     ensures { result ≡ zone (tail_zone tail.now) (datums_in equal.now) (datums_in keys.now) }
 {
+    // A lookup is for one value of one attribute.
+    if let ([key], [value], Tail::Any) = (keys, equal, tail) {
+        return compare_values(key, value);
+    }
     for (i, value) in equal.iter().enumerate() {
         match keys.get(i) {
             None => return Ordering::Less,

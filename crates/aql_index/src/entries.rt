@@ -13,6 +13,7 @@ ghost use Rattle.aql_index.specs.inner.Zones.{tail_zone, zone, in_zone};
 
 use crate::bounds::{Span, Tail, zone};
 use crate::keys::{Keys, compare_values, keys_of};
+use crate::numbers::number_entries;
 use aql_value::{OutOfMemory, Text, Value};
 use std::alloc::Global;
 use std::cmp::Ordering;
@@ -86,6 +87,9 @@ pub(crate) fn sorted_entries(
         (λ entries. entries.items ≡ index_entries names.now (datums_in documents.now)) }
     ensures index { IfOk result (λ entries. IsIndex (length names.now) entries.items) }
 {
+    if let Some(sorted) = number_entries(alloc, documents, names)? {
+        return Ok(sorted);
+    }
     let mut entries = unsorted(alloc, documents, names)?;
     sort_entries(&mut entries)?;
     Ok(entries)

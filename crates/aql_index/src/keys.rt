@@ -4,6 +4,7 @@ ghost use Rattle.std.specs.Prelude.{◌≡◌, IfOk};
 ghost use Rattle.aql_value.specs.Compare.{compare};
 ghost use Rattle.aql_value.specs.View.{datum_of, datums_in};
 ghost use Rattle.aql_meaning.specs.Documents.{index_keys};
+ghost use Rattle.aql_index.specs.inner.Numbers.{number_keys};
 
 use aql_value::{Items, OutOfMemory, Text, Value, cmp, copy, copy_attribute};
 use std::alloc::Global;
@@ -86,6 +87,26 @@ fn copy_values(alloc: Global, values: &[Value]) -> Result<Items, OutOfMemory>
 }
 
 impl Keys {
+    /// One number, or two.
+    pub(crate) fn from_numbers(
+        alloc: Global,
+        first: i64,
+        second: Option<i64>,
+    ) -> Result<Keys, OutOfMemory>
+        ensures { IfOk result (λ keys. keys ≡ number_keys first second) }
+    {
+        let values = match second {
+            None => Values::One(Value::Num(first)),
+            Some(second) => {
+                let mut values = Items::with_room(alloc, 2)?;
+                values.push(Value::Num(first))?;
+                values.push(Value::Num(second))?;
+                Values::Several(values)
+            }
+        };
+        Ok(Keys { values })
+    }
+
     /// A copy.
     pub(crate) fn copy(&self, alloc: Global) -> Result<Keys, OutOfMemory>
         ensures { IfOk result (λ keys. keys ≡ self.now) }

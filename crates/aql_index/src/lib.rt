@@ -9,6 +9,7 @@ mod guesses;
 mod keys;
 pub mod laws;
 mod lookup;
+mod numbers;
 mod sorted_index;
 mod spans;
 

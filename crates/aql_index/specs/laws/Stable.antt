@@ -1,5 +1,5 @@
 -- A list has one order in which ties keep their places.
-use Rattle.std.proofs.Common.{◌≡◌, ◌∙◌, ◌+◌, suc, List, [], ◌∷◌, get_or, Bool, true, false, true≢false, cond, not, ◌&&◌, refl, sym, ap, ap₂, subst, arith}
+use Rattle.std.proofs.Common.{◌≡◌, ◌∙◌, ◌+◌, suc, List, [], ◌∷◌, map, get_or, Bool, true, false, true≢false, cond, not, ◌&&◌, refl, sym, ap, ap₂, subst, arith}
 use Rattle.std.specs.Prelude.{filter}
 use Rattle.std.specs.Cmp.{IsStrictWeakOrder}
 use Rattle.std.specs.List.{AllByRecursion}
@@ -134,3 +134,23 @@ module _ {X : Type 0} (lt : X → X → Bool) (o : IsStrictWeakOrder lt) where
   pub is_sort : (xs ys : List X) → IsSortedBy lt ys → IsStableBy lt xs ys → ys ≡ sort lt xs
   is_sort xs ys up stable = one_order ys (sort lt xs) up
       (sort_sorted xs) (λ x. stable x ∙ sym (sort_stable xs x))
+
+-- ---- it commutes with a function that keeps the order
+
+module _ {X Y : Type 0} (f : X → Y) (lt : Y → Y → Bool) where
+  abbrev before : X → X → Bool
+  before a b = lt (f a) (f b)
+
+  insert-map : (x : X) (xs : List X) → map f (insert before x xs) ≡ insert lt (f x) (map f xs)
+  insert-map x [] = refl
+  insert-map x (y ∷ ys) = by (before y x) (insert-map x ys)
+    where
+      by : (b : Bool) → map f (insert before x ys) ≡ insert lt (f x) (map f ys)
+          → map f (cond b (y ∷ insert before x ys) (x ∷ y ∷ ys))
+          ≡ cond b (f y ∷ insert lt (f x) (map f ys)) (f x ∷ f y ∷ map f ys)
+      by true h = ap (λ zs. f y ∷ zs) h
+      by false h = refl
+
+  pub sort-map : (xs : List X) → map f (sort before xs) ≡ sort lt (map f xs)
+  sort-map [] = refl
+  sort-map (x ∷ xs) = insert-map x (sort before xs) ∙ ap (insert lt (f x)) (sort-map xs)
