@@ -1,9 +1,10 @@
 //! The script that is made where none is read.
 
-ghost use Rattle.std.specs.Prelude.{◌≡◌, ◌≤◌, ◌<◌, ◌++◌, IfOk, OnOk, flat_map, string_bytes};
+ghost use Rattle.std.specs.Prelude.{◌≡◌, ◌≤◌, ◌++◌, IfOk, OnOk, flat_map, decimal};
 ghost use Rattle.aql_options.specs.Generated.{generated, user, edge, up_to};
 
 use aql_value::OutOfMemory;
+use itoa::Buffer;
 use std::alloc::Global;
 
 const LOOPS: &[u8] = b"FOR u IN users FILTER u.g < 3 FOR v IN 1..2 OUTBOUND u knows ";
@@ -17,50 +18,67 @@ pub fn generate(alloc: Global, n: u32) -> Result<Vec<u8>, OutOfMemory>
 {
     let mut script = Vec::new(alloc);
     script.extend_from_slice(b"%document users shards=4\n")?;
-    add_users(alloc, n, &mut script)?;
+    add_users(n, &mut script)?;
     script.extend_from_slice(b"%edge knows shards=4\n")?;
-    add_edges(alloc, n, &mut script)?;
+    add_edges(n, &mut script)?;
     script.extend_from_slice(b"%index users g\n%query\n")?;
     script.extend_from_slice(LOOPS)?;
     script.extend_from_slice(GROUPS)?;
     Ok(script)
 }
 
-fn add_users(alloc: Global, n: u32, script: &mut Vec<u8>) -> Result<(), OutOfMemory>
+fn add_users(n: u32, script: &mut Vec<u8>) -> Result<(), OutOfMemory>
     requires { n ≤ 100000 }
     ensures { OnOk result (script.new.items ≡ script.old.items ++ flat_map user (up_to n)) }
 {
     for before in 0..n {
-        let line = user(alloc, before + 1)?;
-        script.extend_from_slice(line.as_bytes())?;
+        add_user(before + 1, script)?;
     }
     Ok(())
 }
 
-fn user(alloc: Global, i: u32) -> Result<String, OutOfMemory>
-    ensures { IfOk result (λ line. string_bytes line ≡ user i) }
+fn add_user(i: u32, script: &mut Vec<u8>) -> Result<(), OutOfMemory>
+    ensures { OnOk result (script.new.items ≡ script.old.items ++ user i) }
 {
-    let group = i % 7;
-    Ok(format!(in alloc; "{{\"_key\":\"u{i}\",\"g\":{group},\"n\":{i}}}\n")?)
+    script.extend_from_slice(b"{\"_key\":\"u")?;
+    add_number(i, script)?;
+    script.extend_from_slice(b"\",\"g\":")?;
+    add_number(i % 7, script)?;
+    script.extend_from_slice(b",\"n\":")?;
+    add_number(i, script)?;
+    script.extend_from_slice(b"}\n")?;
+    Ok(())
 }
 
-fn add_edges(alloc: Global, n: u32, script: &mut Vec<u8>) -> Result<(), OutOfMemory>
+fn add_edges(n: u32, script: &mut Vec<u8>) -> Result<(), OutOfMemory>
     requires { (1 ≤ n) × (n ≤ 100000) }
     ensures { OnOk result (script.new.items ≡ script.old.items ++ flat_map (edge n) (up_to n)) }
 {
     for before in 0..n {
-        let line = edge(alloc, n, before + 1)?;
-        script.extend_from_slice(line.as_bytes())?;
+        add_edge(n, before + 1, script)?;
     }
     Ok(())
 }
 
-fn edge(alloc: Global, n: u32, i: u32) -> Result<String, OutOfMemory>
+fn add_edge(n: u32, i: u32, script: &mut Vec<u8>) -> Result<(), OutOfMemory>
     requires { (1 ≤ n) × (i ≤ 100000) }
-    ensures { IfOk result (λ line. string_bytes line ≡ edge n i) }
+    ensures { OnOk result (script.new.items ≡ script.old.items ++ edge n i) }
 {
-    let other = 3 * i % n + 1;
-    Ok(format!(in alloc;
-        "{{\"_key\":\"e{i}\",\"_from\":\"users/u{i}\",\"_to\":\"users/u{other}\"}}\n"
-    )?)
+    script.extend_from_slice(b"{\"_key\":\"e")?;
+    add_number(i, script)?;
+    script.extend_from_slice(b"\",\"_from\":\"users/u")?;
+    add_number(i, script)?;
+    script.extend_from_slice(b"\",\"_to\":\"users/u")?;
+    add_number(3 * i % n + 1, script)?;
+    script.extend_from_slice(b"\"}\n")?;
+    Ok(())
+}
+
+// Appends a number in decimal.
+fn add_number(n: u32, script: &mut Vec<u8>) -> Result<(), OutOfMemory>
+    ensures { OnOk result (script.new.items ≡ script.old.items ++ decimal n) }
+{
+    let mut digits = Buffer::new();
+    script.extend_from_slice(digits.format(n).as_bytes())?;
+    Ok(())
 }
