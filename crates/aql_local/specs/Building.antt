@@ -1,12 +1,11 @@
 -- The operator of a node that has an executor, and those of its body; and what is asked of the variables of a
 -- COLLECT.
-use Rattle.std.specs.Prelude.{Bool, true, false}
+use Rattle.std.specs.Prelude.{◌≡◌, Bool, true, false}
 use Rattle.std.specs.List.{AllByRecursion}
 use Rattle.aql_meaning.specs.Numbered.{IsNumber}
-use Rattle.aql_meaning.specs.declared.grouping.Stage.TheVariants as stage
 use Rattle.aql_plan.specs.declared.facts.Facts.{Facts}
 use Rattle.aql_plan.specs.Plan.{Plan, Singleton, Over, Node, EnumerateCollection, EnumerateList, Index, Traversal}
-use Rattle.aql_plan.specs.Plan.{Subquery, Collect, NoResults}
+use Rattle.aql_plan.specs.Plan.{Filter, Sort, Return, Subquery, Collect, NoResults}
 use Rattle.aql_plan.specs.Needs.{sets}
 use Rattle.aql_exec.specs.Operators.{Operator, NoRows, OnRows, WithBody, OperatorTree, leaf}
 use Rattle.aql_engine.specs.OperatorsOf.{operators_of}
@@ -31,13 +30,17 @@ abbrev pub gives_none : Plan → Bool
 gives_none Singleton = false
 gives_none (Over b n) = node_gives_none n
 
--- a node gives several rows for one of its input
-abbrev pub IsEnumeration : Node → Type 0
-IsEnumeration (EnumerateCollection x) = Unit {0}
-IsEnumeration (EnumerateList x e) = Unit {0}
-IsEnumeration (Index x index equal last ordered) = Unit {0}
-IsEnumeration (Traversal shape e colls prune keep) = Unit {0}
-IsEnumeration n = ⊥
+-- the executor of a node works by a transform
+abbrev pub HasTransform : Node → Type 0
+HasTransform (EnumerateCollection x) = Unit {0}
+HasTransform (EnumerateList x e) = Unit {0}
+HasTransform (Index x index equal last ordered) = Unit {0}
+HasTransform (Traversal shape e colls prune keep) = Unit {0}
+HasTransform (Filter e) = Unit {0}
+HasTransform (Sort directions es limit) = Unit {0}
+HasTransform (Collect xs es gs i stage) = Unit {0}
+HasTransform (Return distinct e) = distinct ≡ true
+HasTransform n = ⊥
 
 abbrev pub IsIndexNode : Node → Type 0
 IsIndexNode (Index x index equal last ordered) = Unit {0}
@@ -47,10 +50,9 @@ abbrev pub IsTraversal : Node → Type 0
 IsTraversal (Traversal shape e colls prune keep) = Unit {0}
 IsTraversal n = ⊥
 
--- the first of the two steps of a COLLECT
-abbrev pub IsPartial : Node → Type 0
-IsPartial (Collect xs es gs i stage.Partial) = Unit {0}
-IsPartial n = ⊥
+abbrev pub IsCollect : Node → Type 0
+IsCollect (Collect xs es gs i stage) = Unit {0}
+IsCollect n = ⊥
 
 abbrev mutual
   -- what each COLLECT of a plan sets are numbers, also in bodies

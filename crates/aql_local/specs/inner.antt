@@ -2,3 +2,4 @@ pub mod EdgeSteps
 pub mod Lookups
 pub mod Running
 pub mod Whole
+pub mod Transforms

@@ -18,16 +18,16 @@ use crate::World;
 use crate::fragments::{ShardExecutor, below_foot, foot_of, with_body};
 use crate::gathers::{OfNode, gather_executor, unlinked};
 use crate::nodes::{
-    EnumerationExecutor, UnlinkedNode, calculation, collect, distinct_results, enumeration, filter,
-    limit, no_results, results, sort, start_row, subquery,
+    UnlinkedNode, by_transform, calculation, limit, no_results, results, start_row, subquery,
 };
 use crate::reach::shards_reached;
+use crate::settings::transform_of;
 use crate::whole::{either, whole_below};
 use aql_engine::Tree;
 use aql_exec::{Executor, Feed, Unlinked, Wired};
 use aql_plan::{Node, Plan};
 use aql_shard::Servers;
-use aql_tree::{copy_aggregates, copy_expr, copy_into, copy_keys, copy_lets};
+use aql_tree::copy_expr;
 use aql_value::OutOfMemory;
 use std::alloc::Global;
 
@@ -77,16 +77,16 @@ pub trait UnlinkedExecutor: Unlinked<World> + Drop {
         ensures { IfOk result (λ x. Self.node x ≡ operator_of (spec.top (plan_tree plan.now))) };
 }
 
-impl<E: EnumerationExecutor> UnlinkedExecutor for UnlinkedNode<E> {
-    fn start_row() -> UnlinkedNode<E> {
+impl UnlinkedExecutor for UnlinkedNode {
+    fn start_row() -> UnlinkedNode {
         start_row()
     }
 
-    fn no_results() -> UnlinkedNode<E> {
+    fn no_results() -> UnlinkedNode {
         no_results()
     }
 
-    fn of_node(alloc: Global, plan: &Plan) -> Result<UnlinkedNode<E>, OutOfMemory> {
+    fn of_node(alloc: Global, plan: &Plan) -> Result<UnlinkedNode, OutOfMemory> {
         top_executor(alloc, plan)
     }
 }
@@ -218,14 +218,11 @@ fn is_no_results(plan: &Plan) -> bool
 }
 
 // The executor of the node at the top of a plan.
-fn top_executor<E: EnumerationExecutor>(
-    alloc: Global,
-    plan: &Plan,
-) -> Result<UnlinkedNode<E>, OutOfMemory>
+fn top_executor(alloc: Global, plan: &Plan) -> Result<UnlinkedNode, OutOfMemory>
     requires outside { StandsOutside (spec.top (plan_tree plan.now)) }
     requires fits { (facts : Facts) × Fits facts (spec.top (plan_tree plan.now)) }
     requires numbers { NodeSetsNumbers (spec.top (plan_tree plan.now)) }
-    ensures { IfOk result (λ x. ⟦<UnlinkedNode<E> as Executor<World>>⟧.node x
+    ensures { IfOk result (λ x. ⟦<UnlinkedNode as Executor<World>>⟧.node x
         ≡ operator_of (spec.top (plan_tree plan.now))) }
 {
     match plan {
@@ -236,48 +233,32 @@ fn top_executor<E: EnumerationExecutor>(
 }
 
 // The executor of a node without a body.
-fn executor_of<E: EnumerationExecutor>(
-    alloc: Global,
-    node: &Node,
-) -> Result<UnlinkedNode<E>, OutOfMemory>
+fn executor_of(alloc: Global, node: &Node) -> Result<UnlinkedNode, OutOfMemory>
     requires outside { StandsOutside (node_tree node.now) }
     requires fits { (facts : Facts) × Fits facts (node_tree node.now) }
     requires numbers { NodeSetsNumbers (node_tree node.now) }
-    ensures { IfOk result (λ x. ⟦<UnlinkedNode<E> as Executor<World>>⟧.node x
+    ensures { IfOk result (λ x. ⟦<UnlinkedNode as Executor<World>>⟧.node x
         ≡ operator_of (node_tree node.now)) }
 {
     match node {
         Node::NoResults => Ok(no_results()),
-        Node::EnumerateCollection { .. }
-        | Node::Index { .. }
-        | Node::EnumerateList { .. }
-        | Node::Traversal { .. } => Ok(enumeration(E::of_node(alloc, node)?)),
         Node::Calculation { var, expr, .. } => {
             Ok(calculation(alloc, *var, copy_expr(alloc, expr)?))
         }
-        Node::Filter { cond, .. } => Ok(filter(alloc, copy_expr(alloc, cond)?)),
-        Node::Sort { keys, limit, .. } => {
-            Ok(sort(alloc, copy_keys(alloc, keys.as_slice())?, *limit))
-        }
         Node::Limit { offset, count, .. } => Ok(limit(alloc, *offset, *count)),
-        Node::Collect {
-            groups,
-            aggregates,
-            into,
-            stage,
-        } => {
-            let criteria = copy_lets(alloc, groups.as_slice())?;
-            let aggregates = copy_aggregates(alloc, aggregates.as_slice())?;
-            let into = copy_into(alloc, into)?;
-            Ok(collect(alloc, *stage, criteria, aggregates, into))
-        }
-        Node::Return { distinct, expr, .. } => {
-            let expr = copy_expr(alloc, expr)?;
-            if *distinct {
-                return Ok(distinct_results(alloc, expr));
-            }
-            Ok(results(alloc, expr))
-        }
+        Node::Return {
+            distinct: false,
+            expr,
+            ..
+        } => Ok(results(alloc, copy_expr(alloc, expr)?)),
+        Node::EnumerateCollection { .. }
+        | Node::Index { .. }
+        | Node::EnumerateList { .. }
+        | Node::Traversal { .. }
+        | Node::Filter { .. }
+        | Node::Sort { .. }
+        | Node::Collect { .. }
+        | Node::Return { .. } => Ok(by_transform(transform_of(alloc, node, None)?)),
         _ => unreachable!(),
     }
 }

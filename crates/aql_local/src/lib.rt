@@ -18,7 +18,9 @@ mod plans;
 mod reach;
 mod readings;
 mod results;
+mod settings;
 mod shard_nodes;
+mod transforms;
 mod whole;
 mod world;
 

@@ -15,7 +15,7 @@ use crate::World;
 use crate::building::{PlanExecutor, UnlinkedExecutor, tree_of};
 use crate::fragments::ShardExecutor;
 use crate::gathers::OfNode;
-use crate::nodes::{Enumeration, EnumerationExecutor, UnlinkedNode};
+use crate::nodes::UnlinkedNode;
 use crate::reach::recall_few_shards;
 use crate::results::results_of;
 use crate::shard_nodes::{OnShard, UnlinkedOnShard, UnlinkedShardExecutor};
@@ -79,22 +79,7 @@ fn run_on_shards<X: ShardExecutor, P: Picker>(
     requires batch { (1 ≤ batch) × (batch ≤ 10000) }
     ensures { HasRun P.picks plan batch servers.old servers.new picker.old picker.new result }
 {
-    run_beside::<Enumeration, X, P>(alloc, plan, servers, picker, batch)
-}
-
-// The same by executors of any such types of nodes that give several rows for one, and on shards.
-fn run_beside<E: EnumerationExecutor, X: ShardExecutor, P: Picker>(
-    alloc: Global,
-    plan: Plan,
-    servers: &mut Servers,
-    picker: &mut P,
-    batch: u32,
-) -> Result<Ran, OutOfMemory>
-    requires plan { CanRun (stock servers.old) plan }
-    requires batch { (1 ≤ batch) × (batch ≤ 10000) }
-    ensures { HasRun P.picks plan batch servers.old servers.new picker.old picker.new result }
-{
-    run_by::<UnlinkedNode<E>, X, P>(alloc, plan, servers, picker, batch)
+    run_by::<UnlinkedNode, X, P>(alloc, plan, servers, picker, batch)
 }
 
 // The same by executors of any such types of nodes that own no link, and of nodes on shards.

@@ -1,50 +1,28 @@
 //! The executors of the nodes of a fragment, on a shard.
 
 ghost use Rattle.std.specs.Prelude.{◌≡◌, false, IfOk};
-ghost use Rattle.std.specs.List.{AllByRecursion};
 ghost use Rattle.aql_tree.specs.declared.syntax.Ident.TheVariants.{Num};
 ghost use Rattle.aql_tree.specs.View.{tree};
-ghost use Rattle.aql_meaning.specs.Numbered.{IsNumber};
-ghost use Rattle.aql_meaning.specs.View.{last_tree};
-ghost use Rattle.aql_meaning.specs.declared.grouping.Stage.TheVariants.{Partial};
-ghost use Rattle.aql_plan.specs.Needs.{sets};
 ghost use Rattle.aql_plan.specs.Plan as plan;
-ghost use Rattle.aql_plan.specs.View.{directions, expr_trees, key_trees, node_tree};
+ghost use Rattle.aql_plan.specs.View.{node_tree};
 ghost use Rattle.aql_exec.specs.Operators.{NoRows, OnRows};
-ghost use Rattle.aql_exec_rows.specs.Settings.{node_at};
-ghost use Rattle.aql_exec_scan.specs.Scans as scans;
 ghost use Rattle.aql_local.specs.Fragments.{StandsOnShard, is_remote, operator_on};
-ghost use Rattle.aql_local.specs.Building.{IsIndexNode, IsPartial, NodeSetsNumbers};
+ghost use Rattle.aql_local.specs.Building.{NodeSetsNumbers};
 
 use crate::World;
-use crate::bounds::copy_last;
 use crate::fragments::ShardExecutor;
-use crate::readings::reading_of;
+use crate::settings::transform_of;
+use crate::transforms::NodeTransform;
 use aql_engine::Choice;
-use aql_exec::{Calculation, Executor, Filter, Keep, Let, Mapped, NoResults, Stream};
+use aql_exec::{Calculation, Executor, Let, Mapped, NoResults, Stream, Transform};
 use aql_exec_cluster::{AboveFoot, Inner, Part, Remote};
-use aql_exec_rows::{Collect, GroupRows, Order, Sort};
-use aql_exec_scan::{Documents, EnumerateCollection, Found, Index, Reading};
-use aql_meaning::Stage;
-use aql_plan::{Last, Node};
-use aql_tree::{
-    Aggregates, Expr, Exprs, Into, Keys, Lets, copy_aggregates, copy_expr, copy_exprs, copy_into,
-    copy_keys, copy_lets,
-};
+use aql_plan::Node;
+use aql_tree::{Expr, copy_expr};
 use aql_value::OutOfMemory;
 use std::alloc::Global;
 
-/// Those that read a collection.
-type Reader = Choice<EnumerateCollection, Index>;
-
-/// Those that look at one row at a time.
-type RowWise = Choice<Calculation, Filter>;
-
-/// Those that hold rows, or what they need of them.
-type Holder = Choice<Sort, Collect>;
-
 /// Those that own no link.
-pub type UnlinkedOnShard = Choice<Choice<Reader, RowWise>, Choice<Holder, NoResults>>;
+pub type UnlinkedOnShard = Choice<Choice<Stream<NodeTransform>, Calculation>, NoResults>;
 
 /// The executor of any node of a fragment, on a shard: one of these that own no link, or one of the
 /// two that take what comes from elsewhere.
@@ -70,67 +48,19 @@ fn unlinked<U: AboveFoot<World>>(executor: U) -> OnShard<U>
     Choice::Second(Inner::new(executor))
 }
 
+fn by_transform(transform: NodeTransform) -> UnlinkedOnShard
+    ensures { ⟦<UnlinkedOnShard as Executor<World>>⟧.node result
+        ≡ OnRows (⟦<NodeTransform as Transform<World>>⟧.node transform) }
+{
+    Choice::First(Choice::First(Stream::new(transform)))
+}
+
 fn calculation(alloc: Global, var: u32, expr: Expr) -> UnlinkedOnShard
     ensures { ⟦<UnlinkedOnShard as Executor<World>>⟧.node result
         ≡ OnRows (plan.Calculation (Num var) (tree expr)) }
 {
     let executor = Mapped::new(alloc, Let { var, expr });
-    Choice::First(Choice::Second(Choice::First(executor)))
-}
-
-fn filter(alloc: Global, cond: Expr) -> UnlinkedOnShard
-    ensures { ⟦<UnlinkedOnShard as Executor<World>>⟧.node result
-        ≡ OnRows (plan.Filter (tree cond)) }
-{
-    let executor = Stream::new(Keep::new(alloc, cond));
-    Choice::First(Choice::Second(Choice::Second(executor)))
-}
-
-fn sort(alloc: Global, keys: Keys, limit: Option<u64>) -> UnlinkedOnShard
-    ensures { ⟦<UnlinkedOnShard as Executor<World>>⟧.node result
-        ≡ OnRows (plan.Sort (directions keys) (key_trees keys) limit) }
-{
-    let executor = Stream::new(Order::new(alloc, keys, limit));
-    Choice::Second(Choice::First(Choice::First(executor)))
-}
-
-fn partial_collect(
-    alloc: Global,
-    criteria: Lets,
-    aggregates: Aggregates,
-    into: Option<Into>,
-) -> UnlinkedOnShard
-    requires { AllByRecursion IsNumber (sets (node_at Partial criteria aggregates into)) }
-    ensures { ⟦<UnlinkedOnShard as Executor<World>>⟧.node result
-        ≡ OnRows (node_at Partial criteria aggregates into) }
-{
-    let stage = Stage::Partial;
-    let executor = Stream::new(GroupRows::at_stage(alloc, stage, criteria, aggregates, into));
-    Choice::Second(Choice::First(Choice::Second(executor)))
-}
-
-fn enumerate_collection(alloc: Global, reading: Reading) -> UnlinkedOnShard
-    ensures { ⟦<UnlinkedOnShard as Executor<World>>⟧.node result
-        ≡ OnRows (plan.EnumerateCollection (scans.reading reading)) }
-{
-    let executor = Stream::new(Documents::new(alloc, reading));
-    Choice::First(Choice::First(Choice::First(executor)))
-}
-
-fn index(
-    alloc: Global,
-    reading: Reading,
-    number: u32,
-    equal: Exprs,
-    last: Last,
-    ordered: Option<bool>,
-) -> UnlinkedOnShard
-    ensures { ⟦<UnlinkedOnShard as Executor<World>>⟧.node result
-        ≡ OnRows (plan.Index (scans.reading reading) number (expr_trees equal) (last_tree last)
-        ordered) }
-{
-    let executor = Stream::new(Found::new(alloc, reading, number, equal, last, ordered));
-    Choice::First(Choice::First(Choice::Second(executor)))
+    Choice::First(Choice::Second(executor))
 }
 
 // The executor of a node that is no Remote, on a shard.
@@ -142,77 +72,14 @@ fn unlinked_on(alloc: Global, node: &Node, shard: u32) -> Result<UnlinkedOnShard
         ≡ operator_on shard (node_tree node.now)) }
 {
     match node {
-        Node::EnumerateCollection {
-            var,
-            coll,
-            filter,
-            attrs,
-            shard: own,
-        } => {
-            let shard = Some(own.unwrap_or(shard));
-            let reading = reading_of(alloc, *var, *coll, filter, attrs, shard)?;
-            Ok(enumerate_collection(alloc, reading))
-        }
-        Node::Index { .. } => Ok(index_on(alloc, node, shard)?),
         Node::Calculation { var, expr, .. } => {
             Ok(calculation(alloc, *var, copy_expr(alloc, expr)?))
         }
-        Node::Filter { cond, .. } => Ok(filter(alloc, copy_expr(alloc, cond)?)),
-        Node::Sort { keys, limit, .. } => {
-            Ok(sort(alloc, copy_keys(alloc, keys.as_slice())?, *limit))
-        }
-        Node::Collect { .. } => Ok(collect_on(alloc, node)?),
-        _ => unreachable!(),
-    }
-}
-
-// FOR over a collection by an index, on a shard.
-fn index_on(alloc: Global, node: &Node, shard: u32) -> Result<UnlinkedOnShard, OutOfMemory>
-    requires { IsIndexNode (node_tree node.now) }
-    ensures { IfOk result (λ x. ⟦<UnlinkedOnShard as Executor<World>>⟧.node x
-        ≡ operator_on shard (node_tree node.now)) }
-{
-    match node {
-        Node::Index {
-            var,
-            coll,
-            filter,
-            attrs,
-            shard: own,
-            index: number,
-            equal,
-            last,
-            ordered,
-        } => {
-            let shard = Some(own.unwrap_or(shard));
-            let reading = reading_of(alloc, *var, *coll, filter, attrs, shard)?;
-            let equal = copy_exprs(alloc, equal.as_slice())?;
-            let last = copy_last(alloc, last)?;
-            Ok(index(alloc, reading, *number, equal, last, *ordered))
-        }
-        _ => unreachable!(),
-    }
-}
-
-// The first of the two steps of COLLECT, on a shard.
-fn collect_on(alloc: Global, node: &Node) -> Result<UnlinkedOnShard, OutOfMemory>
-    requires partial { IsPartial (node_tree node.now) }
-    requires numbers { NodeSetsNumbers (node_tree node.now) }
-    ensures { IfOk result (λ x. ⟦<UnlinkedOnShard as Executor<World>>⟧.node x
-        ≡ OnRows (node_tree node.now)) }
-{
-    match node {
-        Node::Collect {
-            groups,
-            aggregates,
-            into,
-            stage: Stage::Partial,
-        } => {
-            let criteria = copy_lets(alloc, groups.as_slice())?;
-            let aggregates = copy_aggregates(alloc, aggregates.as_slice())?;
-            let into = copy_into(alloc, into)?;
-            Ok(partial_collect(alloc, criteria, aggregates, into))
-        }
+        Node::EnumerateCollection { .. }
+        | Node::Index { .. }
+        | Node::Filter { .. }
+        | Node::Sort { .. }
+        | Node::Collect { .. } => Ok(by_transform(transform_of(alloc, node, Some(shard))?)),
         _ => unreachable!(),
     }
 }
@@ -225,7 +92,7 @@ fn is_remote(node: &Node) -> bool
 
 impl UnlinkedShardExecutor for UnlinkedOnShard {
     fn no_results() -> UnlinkedOnShard {
-        Choice::Second(Choice::Second(NoResults))
+        Choice::Second(NoResults)
     }
 
     fn on_shard(alloc: Global, node: &Node, shard: u32) -> Result<UnlinkedOnShard, OutOfMemory> {
